@@ -1,0 +1,1 @@
+-- The plain form of a value: an optional `-`, 1 to 12 digits, and optionally a point and 1 to 3 digits.
