@@ -1,5 +1,5 @@
 -- The decimal that a text writes, exactly, as a whole number of thousandths, billionths or millionths.
-use Rattle.std.specs.Prelude.{ℕ, ◌+◌, ◌-◌, ◌*◌, ◌/◌, ◌^◌, ◌==◌, Bool, ◌&&◌, ◌||◌, not, nat_le, nat_lt, List, [], ◌∷◌, ◌++◌, length, take, drop, Option, Some, None, if◌then◌else◌, position_or_len, codes, ℤ, pos, neg_ℤ}
+use Rattle.std.specs.Prelude.{ℕ, ◌+◌, ◌-◌, ◌*◌, ◌/◌, ◌^◌, ◌==◌, Bool, ◌&&◌, ◌||◌, not, nat_le, nat_lt, List, [], ◌∷◌, ◌++◌, length, Option, Some, None, if◌then◌else◌, codes, ℤ, pos, negsuc, neg_ℤ}
 use Rattle.std.specs.List.{before_first, after_first, list_all, list_any}
 use Rattle.std.specs.Char.{is_ascii_digit}
 use Rattle.std.specs.Str.{bytes_eq, str_to_ascii_lowercase}
@@ -36,9 +36,13 @@ fraction_of mantissa = after_first is_point mantissa
 abbrev pub is_mantissa : List ℕ → Bool
 is_mantissa mantissa = list_all is_ascii_digit (whole_of mantissa) && (list_all is_ascii_digit (fraction_of mantissa) && nat_lt 0 (length (whole_of mantissa ++ fraction_of mantissa)))
 
+-- at least one digit and at most `most`, and nothing else
+abbrev pub is_numeral_up_to : ℕ → List ℕ → Bool
+is_numeral_up_to most text = nat_lt 0 (length text) && (nat_le (length text) most && list_all is_ascii_digit text)
+
 -- an optional sign and one to three digits
 abbrev pub is_exponent : List ℕ → Bool
-is_exponent text = list_all is_ascii_digit (without_leading_sign text) && (nat_le 1 (length (without_leading_sign text)) && nat_le (length (without_leading_sign text)) 3)
+is_exponent text = is_numeral_up_to 3 (without_leading_sign text)
 
 -- a text of the grammar
 abbrev pub is_number : List ℕ → Bool
@@ -51,17 +55,38 @@ places_up text = if has_exponent text && not (starts_with_minus (exponent_of tex
 abbrev pub places_down : List ℕ → ℕ
 places_down text = if has_exponent text && starts_with_minus (exponent_of text) then digits_value 10 (without_leading_sign (exponent_of text)) else 0
 
+-- the decimal of a number's text without its sign, as a fraction of whole numbers
+abbrev pub numerator_of : List ℕ → ℕ
+numerator_of text = digits_value 10 (whole_of (mantissa_of text) ++ fraction_of (mantissa_of text)) * 10 ^ places_up text
+
+abbrev pub denominator_of : List ℕ → ℕ
+denominator_of text = 10 ^ (length (fraction_of (mantissa_of text)) + places_down text)
+
 -- the fraction n / d, with a minus where it is negative, rounded down: towards the lesser number
 abbrev pub floor_of : Bool → ℕ → ℕ → ℤ
 floor_of negative n d = if negative then neg_ℤ (pos ((n + (d - 1)) / d)) else pos (n / d)
 
 -- the decimal of a number's text, times a factor, rounded down
 abbrev pub scaled : ℕ → List ℕ → ℤ
-scaled factor text =
-    floor_of (starts_with_minus text)
-    (digits_value 10 (whole_of (mantissa_of text) ++ fraction_of (mantissa_of text)) * factor * 10 ^ places_up text)
-    (10 ^ (length (fraction_of (mantissa_of text)) + places_down text))
+scaled factor text = floor_of (starts_with_minus text) (numerator_of text * factor) (denominator_of text)
+
+-- a decimal from 0 to 1, both included
+abbrev pub is_within_one : List ℕ → Bool
+is_within_one text = (not (starts_with_minus text) || numerator_of text == 0) && nat_le (numerator_of text) (denominator_of text)
 
 -- the words of infinity and of not-a-number, in any case and with an optional sign
 abbrev pub is_not_finite : List ℕ → Bool
 is_not_finite text = list_any (bytes_eq (str_to_ascii_lowercase (without_leading_sign text))) (codes "nan" ∷ codes "inf" ∷ codes "infinity" ∷ [])
+
+-- a number of 64 bits with a sign
+abbrev pub fits_i64 : ℤ → Bool
+fits_i64 (pos n) = nat_lt n (2 ^ 63)
+fits_i64 (negsuc n) = nat_lt n (2 ^ 63)
+
+-- the thousandths of a text, where it is a number and they fit
+unfoldable pub milli : List ℕ → Option ℤ
+milli text = if is_number text && fits_i64 (scaled 1000 text) then Some (scaled 1000 text) else None
+
+-- the number n, with a minus where it is negative
+abbrev pub with_sign : Bool → ℕ → ℤ
+with_sign negative n = if negative then neg_ℤ (pos n) else pos n

@@ -1,1 +1,174 @@
+//! Numbers as carbon keeps them: whole thousandths in 64 signed bits, read exactly from decimal
+//! text and printed exactly. Nothing here takes memory.
 #![tactic(auto)]
+
+ghost use Rattle.std.specs.Prelude.{◌≡◌, FitsSigned, SomeIff};
+ghost use Rattle.std.specs.Int.{w64};
+
+mod digits;
+mod grammar;
+mod laws;
+mod plain_form;
+mod printed_form;
+mod reached;
+mod reading;
+mod scaling;
+
+pub use digits::read_whole;
+pub use laws::{plain_text_has_a_value, printed_text_is_read_back, read_text_has_its_value};
+pub use plain_form::read_plain;
+pub use printed_form::print_milli;
+pub use reading::{read_milli, read_millionths, read_nano};
+
+/// A value: a whole number of thousandths.
+pub type Milli = i64;
+
+/// The bytes that the text of any [`Milli`] fits in.
+pub const MILLI_TEXT: usize = 24;
+
+/// The bytes of a cell in a ring file: a time of four bytes and a value of eight.
+pub const CELL_BYTES: usize = 12;
+
+/// The bytes of one run of writes: the most whole cells that 4,096 bytes hold.
+pub const RUN_BYTES: usize = 4092;
+
+/// Why a text is not read as a number.
+#[derive(Clone, Copy, Debug, PartialEq, Eq)]
+pub enum NumFault {
+    /// The text is neither a decimal nor a word of infinity or not-a-number.
+    NotNumber,
+    /// The text is a word of infinity or not-a-number.
+    NotFinite,
+    /// The text is a decimal outside the range of the answer.
+    OutOfRange,
+}
+
+/// The number of thousandths, in a type that has room to compute in.
+pub fn wide(value: Milli) -> i128
+    ensures { result ≡ value }
+{
+    i128::from(value)
+}
+
+/// The value of a number of thousandths, `None` exactly where it does not fit.
+pub fn narrow(number: i128) -> Option<Milli>
+    ensures { SomeIff result (FitsSigned w64 number) number }
+{
+    i64::try_from(number).ok()
+}
+
+#[cfg(test)]
+mod tests {
+    use super::*;
+
+    #[test]
+    fn plain_texts_are_read(rt: HostRuntime) {
+        let table: [(&[u8], Option<Milli>); 12] = [
+            (b"1.5", Some(1500)),
+            (b"0", Some(0)),
+            (b"-0", Some(0)),
+            (b"-12.034", Some(-12034)),
+            (b"999999999999.999", Some(999_999_999_999_999)),
+            (b"1000000000000", None),
+            (b"1.2345", None),
+            (b"1.", None),
+            (b".5", None),
+            (b"+1", None),
+            (b"12e-3", None),
+            (b"", None),
+        ];
+        for (text, value) in table {
+            assert_eq!(rt; read_plain(text), value);
+        }
+    }
+
+    #[test]
+    fn whole_numbers_are_read(rt: HostRuntime) {
+        let table: [(&[u8], Option<u64>); 5] = [
+            (b"0", Some(0)),
+            (b"0042", Some(42)),
+            (b"9999999999999999999", Some(9_999_999_999_999_999_999)),
+            (b"10000000000000000000", None),
+            (b"-1", None),
+        ];
+        for (text, number) in table {
+            assert_eq!(rt; read_whole(text), number);
+        }
+    }
+
+    #[test]
+    fn decimals_are_read_in_thousandths(rt: HostRuntime) {
+        let table: [(&[u8], Result<Milli, NumFault>); 17] = [
+            (b"1.5", Ok(1500)),
+            (b"-0.0005", Ok(-1)),
+            (b".5", Ok(500)),
+            (b"5.", Ok(5000)),
+            (b"+12E-3", Ok(12)),
+            (b"12e-3", Ok(12)),
+            (b"9223372036854775.807", Ok(i64::MAX)),
+            (b"9223372036854775.808", Err(NumFault::OutOfRange)),
+            (b"-9223372036854775.808", Ok(i64::MIN)),
+            (b"1e16", Err(NumFault::OutOfRange)),
+            (b"-Inf", Err(NumFault::NotFinite)),
+            (b"infinity", Err(NumFault::NotFinite)),
+            (b"+NaN", Err(NumFault::NotFinite)),
+            (b"1_0", Err(NumFault::NotNumber)),
+            (b"e5", Err(NumFault::NotNumber)),
+            (b"1e", Err(NumFault::NotNumber)),
+            (b"", Err(NumFault::NotNumber)),
+        ];
+        for (text, value) in table {
+            assert_eq!(rt; read_milli(text), value);
+        }
+    }
+
+    #[test]
+    fn decimals_are_read_in_smaller_parts(rt: HostRuntime) {
+        assert_eq!(rt; read_nano(b"0.001"), Ok(1_000_000));
+        let table: [(&[u8], Result<u32, NumFault>); 7] = [
+            (b"0.5", Ok(500_000)),
+            (b"0.3333339", Ok(333_333)),
+            (b"1.0000001", Err(NumFault::OutOfRange)),
+            (b"1", Ok(1_000_000)),
+            (b"-0", Ok(0)),
+            (b"-1e-9", Err(NumFault::OutOfRange)),
+            (b"nan", Err(NumFault::NotFinite)),
+        ];
+        for (text, value) in table {
+            assert_eq!(rt; read_millionths(text), value);
+        }
+    }
+
+    #[test]
+    fn long_texts_are_read_to_their_end(rt: HostRuntime) {
+        let mut text = [b'0'; 16_000];
+        text[0] = b'-';
+        text[2] = b'.';
+        assert_eq!(rt; read_milli(&text), Ok(0));
+        text[15_999] = b'1';
+        assert_eq!(rt; read_milli(&text), Ok(-1));
+    }
+
+    #[test]
+    fn values_are_printed(rt: HostRuntime) {
+        let table: [(Milli, &[u8]); 6] = [
+            (1000, b"1.0"),
+            (-500, b"-0.5"),
+            (1666, b"1.666"),
+            (10, b"0.01"),
+            (i64::MAX, b"9223372036854775.807"),
+            (i64::MIN, b"-9223372036854775.808"),
+        ];
+        for (value, text) in table {
+            let mut out = [0; MILLI_TEXT];
+            let length = print_milli(value, &mut out);
+            assert_eq!(rt; out.get(..length), Some(text));
+        }
+    }
+
+    #[test]
+    fn values_are_widened_and_narrowed(rt: HostRuntime) {
+        assert_eq!(rt; narrow(wide(i64::MAX)), Some(i64::MAX));
+        assert_eq!(rt; narrow(wide(i64::MAX) + 1), None);
+    }
+}

@@ -1,2 +1,4 @@
 pub mod Lines
 pub mod Machine
+pub mod Held
+pub mod Calls

@@ -1,6 +1,7 @@
 -- Metric paths: nodes joined by dots.
-use Rattle.std.specs.Prelude.{ℕ, ◌==◌, Bool, ◌&&◌, not, nat_le, nat_lt, List, [], ◌∷◌, length, Option, Some, None, if◌then◌else◌, position, codes}
+use Rattle.std.specs.Prelude.{ℕ, ◌==◌, Bool, ◌&&◌, not, nat_le, List, length, Option, Some, option_map, Result, Ok, Err, if◌then◌else◌, position, codes}
 use Rattle.std.specs.List.{slice_split, list_all, list_any}
+use Rattle.std.specs.Option.{option_map_or}
 use Rattle.metric_path.specs.declared.path.PathFault.{PathFault}
 use Rattle.metric_path.specs.declared.path.PathFault.TheVariants.{Empty, TooLong, EmptyNode, BadByte}
 
@@ -30,14 +31,13 @@ is_bad_byte b = not (is_node_byte b) && not (is_dot b)
 
 -- The first fault of a text as a path, in this order: no bytes; a path or a node with too many bytes; a node
 -- without bytes; the first byte that a path may not hold. A legal path has none.
-abbrev pub path_fault : List ℕ → Option PathFault
+unfoldable pub path_fault : List ℕ → Option PathFault
 path_fault text =
     if length text == 0 then Some Empty else
     (if not (nat_le (length text) most_path_bytes && list_all (λ node. nat_le (length node) most_node_bytes) (nodes_of text)) then Some TooLong else
     (if list_any (λ node. length node == 0) (nodes_of text) then Some EmptyNode else
-    place_fault (position is_bad_byte text)))
-  where
-    place_fault : Option ℕ → Option PathFault
-    place_fault None = None
-    place_fault (Some at) = Some (BadByte at)
+    option_map (λ at. BadByte at) (position is_bad_byte text)))
 
+-- the text itself where it is a legal path, and its first fault where it is none
+abbrev pub legal_path : List ℕ → Result (List ℕ) PathFault
+legal_path text = option_map_or (λ fault. Err fault) (path_fault text) (Ok text)

@@ -1,0 +1,8 @@
+//! The top call of carbon.
+#![tactic(auto)]
+
+mod report;
+mod top;
+
+pub use report::Report;
+pub use top::run;

@@ -1,0 +1,70 @@
+ghost use Rattle.std.specs.Prelude.{◌≡◌, ◌<◌, ◌≤◌, ◌^◌, ◌⊎◌, ◌++◌, ◌↔◌, ℕ, List, true, false, IfSome, IsTrue, length, map, string_bytes, vec_len};
+ghost use Rattle.std.specs.Io.KnownBytes.{Appends, IsAtEnd};
+ghost use Rattle.outside_io.specs.Faults.{Rose};
+ghost use Rattle.carbon_model.specs.Script.{ScriptRun, opening};
+ghost use Rattle.carbon_script.specs.Standing.{AppendsSome};
+ghost use Rattle.carbon_run.specs.Words.{is_script};
+ghost use Rattle.carbon_run.specs.Texts.{EndsWith, usage_line, read_fault_line, no_memory_line, limit_line};
+
+use crate::Report;
+use carbon_history::History;
+use carbon_script::{Plain, ScriptEnd, script};
+use outside_io::{Clock, Disk, Net, Sink, Source, write_all};
+use std::alloc::Global;
+
+/// Runs carbon: does what the words of the command line say, and answers the program's exit status.
+///
+/// `words` are those after the program's name. The one command is `script`: it runs the script that stands on the input.
+///
+/// | Status | Comes |
+/// |---|---|
+/// | 0 | the input was read to its end, and all that the script says was written |
+/// | 2 | the words are no command |
+/// | 6 | a read of the input failed |
+/// | 7 | a write failed |
+/// | 8 | memory ran out |
+/// | 10 | 2^40 bytes of input were taken |
+///
+/// At each status but 0 and 7 the last line that is written says the fault. `conf`, the disks, the clock and the net are not
+/// looked at.
+pub fn run<S: Source, K: Sink, D: Disk + Send + Drop, C: Clock + Sync, N: Net + Sync>(
+    alloc: Global,
+    words: &[String],
+    input: &mut S,
+    out: &mut K,
+    conf: &mut D,
+    disks: Vec<D>,
+    clock: &C,
+    net: &mut N,
+) -> Report<D>
+    requires { vec_len disks ≡ 16 }
+    ensures script { result.status ≡ 0 → IfSome (S.left input.old) (λ bytes. (text : List ℕ) × (ScriptRun opening bytes result.history text × Appends (K.written out.old) (K.written out.new) text)) }
+    ensures whole_input { result.status ≡ 0 → IsAtEnd (S.left input.new) }
+
+    // Which words are a command, and what else is told by their text alone.
+    ensures command { is_script (map string_bytes words.now) ≡ true → (result.status ≡ 0) ⊎ ((result.status ≡ 6) ⊎ ((result.status ≡ 7) ⊎ ((result.status ≡ 8) ⊎ (result.status ≡ 10)))) }
+    ensures usage { is_script (map string_bytes words.now) ≡ false → (result.status ≡ 2) ⊎ (result.status ≡ 7) }
+    ensures usage_text { result.status ≡ 2 → Appends (K.written out.old) (K.written out.new) usage_line }
+
+    // The causes, and the last line.
+    ensures read_cause { result.status ≡ 6 → Rose (S.read_faults input.old) (S.read_faults input.new) }
+    ensures read_text { result.status ≡ 6 → EndsWith (K.written out.old) (K.written out.new) read_fault_line }
+    ensures write_cause { result.status ≡ 7 → Rose (K.write_faults out.old) (K.write_faults out.new) }
+    ensures memory_text { result.status ≡ 8 → EndsWith (K.written out.old) (K.written out.new) no_memory_line }
+    ensures short { result.status ≡ 0 → IfSome (S.left input.old) (λ bytes. length bytes < 2 ^ 40) }
+    ensures limit { result.status ≡ 10 → IfSome (S.left input.old) (λ bytes. 2 ^ 40 ≤ length bytes) }
+    ensures limit_text { result.status ≡ 10 → EndsWith (K.written out.old) (K.written out.new) limit_line }
+
+    // What is not looked at stays as it was.
+    ensures disks { result.disks.items ≡ disks.items }
+    ensures conf { conf.new ≡ conf.old }
+    ensures net { net.new ≡ net.old }
+{
+    let _ = (conf, clock, net);
+    let (status, history) = run_words(alloc, words, input, out);
+    Report {
+        status,
+        history,
+        disks,
+    }
+}

@@ -1,0 +1,72 @@
+-- What digits write, joined and one by one, and where the first point or exponent stands among them.
+use Rattle.std.proofs.Common.{◌≡◌, ℕ, ◌+◌, ◌-◌, ◌*◌, ◌^◌, ◌<◌, ◌≤◌, min, Bool, true, List, [], ◌∷◌, ◌++◌, length, take, get_or, Option, refl, ap, ◌∙◌, arith, rules, not, ◌⊎◌, inl, inr}
+use Rattle.std.proofs.Math.Nat.{pow-suc}
+use Rattle.std.proofs.lemmas.Bool.{cases_lt, lt-ltb, le-ltb}
+use Rattle.std.proofs.lemmas.Bool.Decides.{nat_tests}
+use Rattle.std.specs.Int.{IsInRange}
+use Rattle.std.proofs.lemmas.Str.Parse.{digit_at, IsNumeralModel, numerals_by_value, digits_value_short, digits_value-take-le}
+use Rattle.std.proofs.lemmas.Int.Digits.{digits_value_more}
+use Rattle.std.proofs.lemmas.List.{take_more}
+use Rattle.std.proofs.lemmas.List.Sums.{prefix_len-le-length}
+use Rattle.std.specs.List.{list_all, position_or_len, position}
+use Rattle.std.specs.Char.{is_ascii_digit, digit_value}
+use Rattle.std.specs.Option.{unwrap_or}
+use Rattle.std.specs.Str.Parse.{digits_value, digits_value_after}
+
+pub numerals : IsNumeralModel (λ ds. list_all is_ascii_digit ds ≡ true) (digits_value 10)
+numerals = numerals_by_value _ (search rules)
+
+-- one more digit in front of the others
+shifted : (n d p v : ℕ) → (n * 10 + d) * p + v ≡ n * (p * 10) + ((0 * 10 + d) * p + v)
+shifted n d p v = omega arith
+
+-- digits behind those of n
+pub digits_value_after_is : (n : ℕ) (ds : List ℕ) → digits_value_after 10 n ds ≡ n * 10 ^ length ds + digits_value 10 ds
+digits_value_after_is n [] = omega arith
+digits_value_after_is n (c ∷ cs) =
+    let behind : digits_value_after 10 n (c ∷ cs) ≡ (n * 10 + digit_value c) * 10 ^ length cs + digits_value 10 cs = digits_value_after_is (n * 10 + digit_value c) cs in
+    let alone : digits_value 10 (c ∷ cs) ≡ (0 * 10 + digit_value c) * 10 ^ length cs + digits_value 10 cs = digits_value_after_is (0 * 10 + digit_value c) cs in
+    behind ∙ (shifted n (digit_value c) (10 ^ length cs) (digits_value 10 cs) ∙ rw (pow-suc 10 (length cs), alone) refl)
+
+pub digits_value_after-append : (n : ℕ) (xs ys : List ℕ) → digits_value_after 10 n (xs ++ ys) ≡ digits_value_after 10 (digits_value_after 10 n xs) ys
+digits_value_after-append n [] ys = refl
+digits_value_after-append n (c ∷ cs) ys = digits_value_after-append (n * 10 + digit_value c) cs ys
+
+pub digits_value-append : (xs ys : List ℕ) → digits_value 10 (xs ++ ys) ≡ digits_value 10 xs * 10 ^ length ys + digits_value 10 ys
+digits_value-append xs ys = digits_value_after-append 0 xs ys ∙ digits_value_after_is (digits_value 10 xs) ys
+
+pub digit_value_is : (c : ℕ) → IsInRange 48 57 c → digit_value c ≡ c - 48
+digit_value_is c h = grind (arith, nat_tests)
+
+pub digit_range : (c : ℕ) → is_ascii_digit c ≡ true → IsInRange 48 57 c
+digit_range c h = grind (arith, nat_tests)
+
+-- each byte of a text of digits is a digit
+pub digit_byte_at : (ds : List ℕ) (i : ℕ) → list_all is_ascii_digit ds ≡ true → i < length ds → IsInRange 48 57 (get_or ds i 0)
+digit_byte_at ds i digits h = digit_at ds i (numerals.to ds digits) h
+
+-- a text of digits is read from the left
+pub number_more : (ds : List ℕ) (i : ℕ) → list_all is_ascii_digit ds ≡ true → i < length ds → digits_value 10 (take (i + 1) ds) ≡ digits_value 10 (take i ds) * 10 + (get_or ds i 0 - 48)
+number_more ds i digits h = digits_value_more 10 ds i h ∙ ap (λ d. digits_value 10 (take i ds) * 10 + d) (digit_value_is _ (digit_byte_at ds i digits h))
+
+pub digits_value_after_more : (n : ℕ) (ds : List ℕ) (i : ℕ) → list_all is_ascii_digit ds ≡ true → i < length ds → digits_value_after 10 n (take (i + 1) ds) ≡ digits_value_after 10 n (take i ds) * 10 + (get_or ds i 0 - 48)
+digits_value_after_more n ds i digits h =
+    ap (digits_value_after 10 n) (take_more ds i 0 h)
+    ∙ (digits_value_after-append n (take i ds) (get_or ds i 0 ∷ [])
+    ∙ ap (λ d. digits_value_after 10 n (take i ds) * 10 + d) (digit_value_is _ (digit_byte_at ds i digits h)))
+
+-- a number that is capped may be capped on the way
+pub capped_more : (x d : ℕ) → min (min (min x (2 ^ 64 - 1) * 10) (2 ^ 64 - 1) + d) (2 ^ 64 - 1) ≡ min (x * 10 + d) (2 ^ 64 - 1)
+capped_more x d = omega arith
+
+-- a front of few digits is a small number
+pub front_below : (ds : List ℕ) (i k : ℕ) → list_all is_ascii_digit ds ≡ true → length ds ≤ k → digits_value 10 (take i ds) < 10 ^ k
+front_below ds i k digits few = omega (arith, digits_value-take-le 10 ds i (omega arith), digits_value_short numerals ds k digits few)
+
+-- the first place that passes, by the place that a search gives
+place_of : {X : Type 0} (p : X → Bool) (xs : List X) → (position_or_len p xs < length xs) ⊎ (length xs ≤ position_or_len p xs) → unwrap_or (position p xs) (length xs) ≡ position_or_len p xs
+place_of p xs (inl h) = rw (lt-ltb _ _ h) refl
+place_of p xs (inr h) = rw (le-ltb _ _ h) (omega (arith, prefix_len-le-length (λ x. not (p x)) xs))
+
+pub position_or_len-from_position : {X : Type 0} (p : X → Bool) (xs : List X) (found : Option ℕ) → found ≡ position p xs → unwrap_or found (length xs) ≡ position_or_len p xs
+position_or_len-from_position p xs found e = ap (λ o. unwrap_or o (length xs)) e ∙ place_of p xs (cases_lt (position_or_len p xs) (length xs))

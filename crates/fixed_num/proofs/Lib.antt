@@ -1,0 +1,5 @@
+pub mod DigitLemmas
+pub mod GrammarLemmas
+pub mod PrintLemmas
+pub mod ReachLemmas
+pub mod ReadLemmas

@@ -1,0 +1,269 @@
+-- What a text with an exponent or without one reaches, and how that is rounded down.
+use Rattle.std.proofs.Common.{◌≡◌, ◌≢◌, ℕ, zero, suc, ◌+◌, ◌-◌, ◌*◌, ◌/◌, ◌%◌, ◌^◌, ◌<◌, ◌≤◌, min, Bool, true, false, List, ◌++◌, length, take, drop, unwrap_or, Some, None, Ok, Err, nat_abs, leb, position, ℤ, pos, neg_ℤ, refl, ap, sym, ◌∙◌, arith, ltb, ◌==◌, cond, not, ◌&&◌, ◌||◌, ◌⊎◌, inl, inr, mul-one}
+use Rattle.std.proofs.Math.Nat.{one-le-pow, mul_assoc, le-mul_of_pos_right, mul-le-mul_right, div-le_of_le-mul, zero-mul}
+use Rattle.std.proofs.Math.Bool.{and-true, and-false}
+use Rattle.std.proofs.lemmas.Nat.{pow-add, div-mul-add, mod_below, div-add-mod'}
+use Rattle.std.proofs.lemmas.Bool.{cases_lt, cases_eq, cases_order, cases_Bool, eq-eqb, ne_eqb, eqb-true, leb-true, lt-ltb, le-ltb, le-leb, lt-leb, and_parts}
+use Rattle.std.specs.Result.{result_ok}
+use Rattle.std.specs.List.{list_any, position_or_len, before_first, after_first}
+use Rattle.std.specs.Str.Parse.{digits_value, starts_with_minus, without_leading_sign}
+use Rattle.fixed_num.specs.declared.NumFault.{NumFault}
+use Rattle.fixed_num.specs.declared.NumFault.TheVariants.{OutOfRange}
+use Rattle.fixed_num.specs.declared.reached.Reached.{Reached}
+use Rattle.fixed_num.specs.Decimal.{is_exponent_mark, mantissa_of, has_exponent, exponent_of, whole_of, fraction_of, is_exponent, is_number, places_up, places_down, numerator_of, denominator_of, floor_of, scaled, is_within_one, milli, fits_i64, with_sign}
+use Rattle.fixed_num.specs.Read.{fault_of, fitting, read_as, milli_result, millionths_result, reached_in, reached_by, moved, moves_of, rounded_down, is_reached_within}
+use Rattle.fixed_num.proofs.GrammarLemmas.{list_any_is, before_first_none}
+
+-- ---- the letter of an exponent
+
+position_cases : (p : ℕ → Bool) (xs : List ℕ) → position p xs ≡ cond (list_any p xs) (Some (position_or_len p xs)) None
+position_cases p xs = ap (λ b. cond b (Some (position_or_len p xs)) None) (sym (list_any_is p xs))
+
+position_none : (p : ℕ → Bool) (xs : List ℕ) → position p xs ≡ None → list_any p xs ≡ false
+position_none p xs e = by_answer (cases_Bool (list_any p xs))
+  where
+    by_answer : (list_any p xs ≡ true) ⊎ (list_any p xs ≡ false) → list_any p xs ≡ false
+    by_answer (inl found) =
+        let some : cond (list_any p xs) (Some (position_or_len p xs)) None ≡ Some (position_or_len p xs) = rw found refl in
+        let both : Some (position_or_len p xs) ≡ None = sym some ∙ (sym (position_cases p xs) ∙ e) in
+        cc
+    by_answer (inr none) = none
+
+position_some : (p : ℕ → Bool) (xs : List ℕ) (k : ℕ) → position p xs ≡ Some k → (list_any p xs ≡ true) × (position_or_len p xs ≡ k)
+position_some p xs k e = by_answer (cases_Bool (list_any p xs))
+  where
+    by_answer : (list_any p xs ≡ true) ⊎ (list_any p xs ≡ false) → (list_any p xs ≡ true) × (position_or_len p xs ≡ k)
+    by_answer (inl found) =
+        let some : cond (list_any p xs) (Some (position_or_len p xs)) None ≡ Some (position_or_len p xs) = rw found refl in
+        let both : Some (position_or_len p xs) ≡ Some k = sym some ∙ (sym (position_cases p xs) ∙ e) in
+        (found, (cc))
+    by_answer (inr none) =
+        let nothing : cond (list_any p xs) (Some (position_or_len p xs)) None ≡ None = rw none refl in
+        let both : None ≡ Some k = sym nothing ∙ (sym (position_cases p xs) ∙ e) in
+        (cc)
+
+-- ---- what a text reaches
+
+pub reached_plain : (text digits : List ℕ) (places : ℕ) → digits ≡ without_leading_sign text → position is_exponent_mark digits ≡ None → moved places 0 digits ≡ reached_in (10 ^ places) text
+unfolding moved reached_in
+reached_plain text digits places e none =
+    let plain : has_exponent text ≡ false = ap (list_any is_exponent_mark) (sym e) ∙ position_none is_exponent_mark digits none in
+    let mantissa : mantissa_of text ≡ digits = before_first_none is_exponent_mark (without_leading_sign text) plain ∙ sym e in
+    rw (mantissa, plain, and-true, mul-one) refl
+
+moves_are : (exponent : List ℕ) (up down : ℕ) → moves_of exponent ≡ Some (up, down) → (is_exponent exponent ≡ true) × (cond (starts_with_minus exponent) 0 (digits_value 10 (without_leading_sign exponent)) ≡ up) × (cond (starts_with_minus exponent) (digits_value 10 (without_leading_sign exponent)) 0 ≡ down)
+unfolding moves_of
+moves_are exponent up down e = by_form (is_exponent exponent) (starts_with_minus exponent) (digits_value 10 (without_leading_sign exponent)) e
+  where
+    by_form : (form minus : Bool) (n : ℕ) → cond form (Some (cond {A = ℕ × ℕ} minus (0, n) (n, 0))) None ≡ Some (up, down) → (form ≡ true) × (cond minus 0 n ≡ up) × (cond minus n 0 ≡ down)
+    by_form true true n h = (refl, ap (λ o. (unwrap_or {T = ℕ × ℕ} o (0, 0)).0) h, ap (λ o. (unwrap_or {T = ℕ × ℕ} o (0, 0)).1) h)
+    by_form true false n h = (refl, ap (λ o. (unwrap_or {T = ℕ × ℕ} o (0, 0)).0) h, ap (λ o. (unwrap_or {T = ℕ × ℕ} o (0, 0)).1) h)
+    by_form false minus n h = absurd (cc)
+
+moves_none : (exponent : List ℕ) → moves_of exponent ≡ None → is_exponent exponent ≡ false
+unfolding moves_of
+moves_none exponent e = by_form (is_exponent exponent) (cond (starts_with_minus exponent) (0, digits_value 10 (without_leading_sign exponent)) (digits_value 10 (without_leading_sign exponent), 0)) e
+  where
+    by_form : (form : Bool) (moves : ℕ × ℕ) → cond form (Some moves) None ≡ None → form ≡ false
+    by_form true moves h = absurd (cc)
+    by_form false moves h = refl
+
+-- the parts of a text whose exponent begins behind a letter
+record IsLettered (text digits : List ℕ) (letter : ℕ) : Type 0 where
+  has : has_exponent text ≡ true
+  mantissa : mantissa_of text ≡ take letter digits
+  exponent : exponent_of text ≡ drop (letter + 1) digits
+
+lettered : (text digits : List ℕ) (letter : ℕ) → digits ≡ without_leading_sign text → position is_exponent_mark digits ≡ Some letter → IsLettered text digits letter
+lettered text digits letter e some =
+    let found = position_some is_exponent_mark digits letter some in
+    record {
+      has = ap (list_any is_exponent_mark) (sym e) ∙ found.0;
+      mantissa = ap (before_first is_exponent_mark) (sym e) ∙ ap (λ n. take n digits) found.1;
+      exponent = ap (after_first is_exponent_mark) (sym e) ∙ ap (λ n. drop (n + 1) digits) found.1;
+    }
+
+pub reached_not : (text digits : List ℕ) (factor letter : ℕ) → digits ≡ without_leading_sign text → position is_exponent_mark digits ≡ Some letter → moves_of (drop (letter + 1) digits) ≡ None → reached_in factor text ≡ None
+unfolding reached_in
+reached_not text digits factor letter e some none =
+    let parts = lettered text digits letter e some in
+    let other : is_exponent (exponent_of text) ≡ false = ap is_exponent parts.exponent ∙ moves_none _ none in
+    rw (parts.has, other, and-false) refl
+
+turned : (b : Bool) (n : ℕ) → cond (true && not b) n 0 ≡ cond b 0 n
+turned true n = refl
+turned false n = refl
+
+pub reached_moved : (text digits : List ℕ) (places letter up down : ℕ) → digits ≡ without_leading_sign text → position is_exponent_mark digits ≡ Some letter → moves_of (drop (letter + 1) digits) ≡ Some (up, down) → moved (up + places) down (take letter digits) ≡ reached_in (10 ^ places) text
+unfolding moved reached_in
+reached_moved text digits places letter up down e some moves =
+    let parts = lettered text digits letter e some in
+    let move = moves_are (drop (letter + 1) digits) up down moves in
+    let up_is : places_up text ≡ up = rw (parts.has, parts.exponent) (turned (starts_with_minus (drop (letter + 1) digits)) (digits_value 10 (without_leading_sign (drop (letter + 1) digits))) ∙ move.1) in
+    let down_is : places_down text ≡ down = rw (parts.has, parts.exponent) move.2 in
+    let form : is_exponent (exponent_of text) ≡ true = ap is_exponent parts.exponent ∙ move.0 in
+    let mantissa : List ℕ = take letter digits in
+    let power : digits_value 10 (whole_of (take letter digits) ++ fraction_of (take letter digits)) * 10 ^ (up + places) ≡ digits_value 10 (whole_of (take letter digits) ++ fraction_of (take letter digits)) * 10 ^ up * 10 ^ places =
+    rw (pow-add 10 up places) (sym (mul_assoc _ (10 ^ up) (10 ^ places))) in
+    rw (up_is, down_is, form, parts.mantissa, power, parts.has, and-true) refl
+
+-- ---- rounding down
+
+-- what a text reaches is by its fraction
+reached_some : (factor : ℕ) (text : List ℕ) (r : Reached) → reached_in factor text ≡ Some r → (is_number text ≡ true) × (r ≡ reached_by (numerator_of text * factor) (denominator_of text))
+unfolding reached_in
+reached_some factor text r e = by_form (is_number text) (reached_by (numerator_of text * factor) (denominator_of text)) e
+  where
+    by_form : (form : Bool) (s : Reached) → cond form (Some s) None ≡ Some r → (form ≡ true) × (r ≡ s)
+    by_form true s h = (refl, (cc))
+    by_form false s h = absurd (cc)
+
+reached_none : (factor : ℕ) (text : List ℕ) → reached_in factor text ≡ None → is_number text ≡ false
+unfolding reached_in
+reached_none factor text e = by_form (is_number text) (reached_by (numerator_of text * factor) (denominator_of text)) e
+  where
+    by_form : (form : Bool) (s : Reached) → cond form (Some s) None ≡ None → form ≡ false
+    by_form true s h = absurd (cc)
+    by_form false s h = refl
+
+-- a quotient rounded up is one more where something is left
+ceiling_is : (n d : ℕ) → 0 < d → (n + (d - 1)) / d ≡ n / d + cond (n % d == 0) 0 1
+ceiling_is n d h = by_rest (cases_eq (n % d) 0)
+  where
+    parts : n / d * d + n % d ≡ n
+    parts = div-add-mod' n d
+
+    by_rest : (n % d ≡ 0) ⊎ (n % d ≢ 0) → (n + (d - 1)) / d ≡ n / d + cond (n % d == 0) 0 1
+    by_rest (inl none) =
+        let whole : n + (d - 1) ≡ n / d * d + (d - 1) = omega (arith, parts) in
+        ap (λ k. k / d) whole ∙ (div-mul-add (n / d) d (d - 1) (omega arith) ∙ sym (rw (eq-eqb (n % d) 0 none) (omega arith)))
+    by_rest (inr some) =
+        let below : n % d < d = mod_below n d h in
+        let more : n + (d - 1) ≡ (n / d + 1) * d + (n % d - 1) = omega (arith, parts) in
+        ap (λ k. k / d) more ∙ (div-mul-add (n / d + 1) d (n % d - 1) (omega arith) ∙ sym (rw (ne_eqb (n % d) 0 some) refl))
+
+-- no number past 63 bits fits
+too_great : (negative : Bool) (n : ℕ) → 2 ^ 63 < n → fitting (with_sign negative n) ≡ Err OutOfRange
+too_great true zero h = absurd (omega arith)
+too_great true (suc n) h = rw (le-ltb n (2 ^ 63) (omega arith)) refl
+too_great false n h = rw (le-ltb n (2 ^ 63) (omega arith)) refl
+
+too_great_rounded : (negative : Bool) (n : ℕ) (exact : Bool) → 2 ^ 63 < n → fitting (rounded_down negative (record { whole = n; exact = exact })) ≡ Err OutOfRange
+too_great_rounded true n exact h = too_great true (n + cond exact 0 1) (omega arith)
+too_great_rounded false n exact h = too_great false n h
+
+fitting_capped : (negative : Bool) (q : ℕ) (exact : Bool) → fitting (rounded_down negative (record { whole = min q (2 ^ 64 - 1); exact = exact })) ≡ fitting (rounded_down negative (record { whole = q; exact = exact }))
+fitting_capped negative q exact = by_size (cases_lt q (2 ^ 64))
+  where
+    by_size : (q < 2 ^ 64) ⊎ (2 ^ 64 ≤ q) → fitting (rounded_down negative (record { whole = min q (2 ^ 64 - 1); exact = exact })) ≡ fitting (rounded_down negative (record { whole = q; exact = exact }))
+    by_size (inl few) = let same : min q (2 ^ 64 - 1) ≡ q = omega arith in rw same refl
+    by_size (inr many) = too_great_rounded negative (min q (2 ^ 64 - 1)) exact (omega arith) ∙ sym (too_great_rounded negative q exact (omega arith))
+
+floor_is : (negative : Bool) (n d : ℕ) → 0 < d → floor_of negative n d ≡ rounded_down negative (record { whole = n / d; exact = n % d == 0 })
+floor_is true n d h = ap (λ k. neg_ℤ (pos k)) (ceiling_is n d h)
+floor_is false n d h = refl
+
+denominator_positive : (text : List ℕ) → 0 < denominator_of text
+denominator_positive text = one-le-pow (length (fraction_of (mantissa_of text)) + places_down text) 10 (omega arith)
+
+pub read_none : (factor : ℕ) (text : List ℕ) → reached_in factor text ≡ None → Err (fault_of text) ≡ read_as factor text
+unfolding read_as
+read_none factor text e = rw (reached_none factor text e) refl
+
+pub read_some : (factor : ℕ) (text : List ℕ) (r : Reached) → reached_in factor text ≡ Some r → fitting (rounded_down (starts_with_minus text) r) ≡ read_as factor text
+unfolding read_as
+read_some factor text r e =
+    let some = reached_some factor text r e in
+    rw (some.0, some.1)
+    (fitting_capped (starts_with_minus text) (numerator_of text * factor / denominator_of text) (numerator_of text * factor % denominator_of text == 0)
+    ∙ ap fitting (sym (floor_is (starts_with_minus text) (numerator_of text * factor) (denominator_of text) (denominator_positive text))))
+
+-- what is read is the value of the text
+pub milli_result_value : (text : List ℕ) → result_ok (milli_result text) ≡ milli text
+unfolding read_as milli
+milli_result_value text = by_parts (is_number text) (fits_i64 (scaled 1000 text)) (scaled 1000 text) (fault_of text)
+  where
+    by_parts : (form fits : Bool) (z : ℤ) (fault : NumFault) → result_ok (cond form (cond fits (Ok z) (Err OutOfRange)) (Err fault)) ≡ cond (form && fits) (Some z) None
+    by_parts true true z fault = refl
+    by_parts true false z fault = refl
+    by_parts false fits z fault = refl
+
+-- ---- from 0 to 1
+
+pub millionths_none : (text : List ℕ) → reached_in 1000000 text ≡ None → Err (fault_of text) ≡ millionths_result text
+unfolding millionths_result
+millionths_none text e = rw (reached_none 1000000 text e) refl
+
+negative_within : (n d q r : ℕ) → 0 < d → q * d + r ≡ n * 1000000 → (min q (2 ^ 64 - 1) == 0 && r == 0) ≡ (n == 0 && leb n d)
+negative_within n d q r h e = by_number (cases_eq n 0)
+  where
+    by_parts : n ≢ 0 → (q ≡ 0) ⊎ (q ≢ 0) → (min q (2 ^ 64 - 1) == 0 && r == 0) ≡ (n == 0 && leb n d)
+    by_parts some (inl none) =
+        let left : q * d ≡ 0 = ap (λ k. k * d) none ∙ zero-mul d in
+        let more : r ≢ 0 = λ z. some (omega (arith, e, left)) in
+        rw (ne_eqb n 0 some, ne_eqb r 0 more, and-false) refl
+    by_parts some (inr more) =
+        let capped : min q (2 ^ 64 - 1) ≢ 0 = λ z. more (omega arith) in
+        rw (ne_eqb n 0 some, ne_eqb (min q (2 ^ 64 - 1)) 0 capped) refl
+
+    by_number : (n ≡ 0) ⊎ (n ≢ 0) → (min q (2 ^ 64 - 1) == 0 && r == 0) ≡ (n == 0 && leb n d)
+    by_number (inl none) =
+        let up : q ≤ q * d = le-mul_of_pos_right q h in
+        let quotient : min q (2 ^ 64 - 1) ≡ 0 = omega arith in
+        let rest : r ≡ 0 = omega arith in
+        rw (eq-eqb (min q (2 ^ 64 - 1)) 0 quotient, eq-eqb r 0 rest, eq-eqb n 0 none, le-leb n d (omega arith)) refl
+    by_number (inr some) = by_parts some (cases_eq q 0)
+
+positive_within : (n d q r : ℕ) → 0 < d → r < d → q * d + r ≡ n * 1000000 → (ltb (min q (2 ^ 64 - 1)) 1000000 || (min q (2 ^ 64 - 1) == 1000000 && r == 0)) ≡ leb n d
+positive_within n d q r h below e = by_quotient (cases_order q 1000000)
+  where
+    by_rest : q ≡ 1000000 → (r ≡ 0) ⊎ (r ≢ 0) → (ltb (min q (2 ^ 64 - 1)) 1000000 || (min q (2 ^ 64 - 1) == 1000000 && r == 0)) ≡ leb n d
+    by_rest same (inl none) =
+        let capped : min q (2 ^ 64 - 1) ≡ 1000000 = omega arith in
+        let whole : q * d ≡ 1000000 * d = ap (λ k. k * d) same in
+        rw (capped, eq-eqb r 0 none, le-leb n d (omega arith)) refl
+    by_rest same (inr some) =
+        let capped : min q (2 ^ 64 - 1) ≡ 1000000 = omega arith in
+        let whole : q * d ≡ 1000000 * d = ap (λ k. k * d) same in
+        rw (capped, ne_eqb r 0 some, lt-leb n d (omega arith)) refl
+
+    by_quotient : (q ≡ 1000000) ⊎ ((q < 1000000) ⊎ (1000000 < q)) → (ltb (min q (2 ^ 64 - 1)) 1000000 || (min q (2 ^ 64 - 1) == 1000000 && r == 0)) ≡ leb n d
+    by_quotient (inl same) = by_rest same (cases_eq r 0)
+    by_quotient (inr (inl less)) =
+        let room : (q + 1) * d ≤ 1000000 * d = mul-le-mul_right d (omega arith) in
+        rw (lt-ltb (min q (2 ^ 64 - 1)) 1000000 (omega arith), le-leb n d (omega arith)) refl
+    by_quotient (inr (inr greater)) =
+        let room : 1000001 * d ≤ q * d = mul-le-mul_right d (omega arith) in
+        let other : min q (2 ^ 64 - 1) ≢ 1000000 = λ z. absurd (omega arith) in
+        rw (le-ltb (min q (2 ^ 64 - 1)) 1000000 (omega arith), ne_eqb (min q (2 ^ 64 - 1)) 1000000 other, lt-leb n d (omega arith)) refl
+
+within_is : (negative : Bool) (n d : ℕ) → 0 < d → is_reached_within 1000000 negative (reached_by (n * 1000000) d) ≡ ((not negative || n == 0) && leb n d)
+within_is true n d h = negative_within n d (n * 1000000 / d) (n * 1000000 % d) h (div-add-mod' (n * 1000000) d)
+within_is false n d h = positive_within n d (n * 1000000 / d) (n * 1000000 % d) h (mod_below (n * 1000000) d h) (div-add-mod' (n * 1000000) d)
+
+-- what is within reaches fewer parts than are capped
+value_within : (negative : Bool) (n d : ℕ) → 0 < d → ((not negative || n == 0) && leb n d) ≡ true → nat_abs (floor_of negative (n * 1000000) d) ≡ min (n * 1000000 / d) (2 ^ 64 - 1)
+value_within true n d h within =
+    let none : n ≡ 0 = eqb-true n 0 (and_parts (n == 0) (leb n d) within).0 in
+    let above : (n * 1000000 + (d - 1)) / d ≡ 0 = ap (λ k. k / d) (omega arith) ∙ div-mul-add 0 d (d - 1) (omega arith) in
+    let below : n * 1000000 / d ≡ 0 = ap (λ k. k / d) (omega arith) ∙ div-mul-add 0 d 0 h in
+    rw (above, below) refl
+value_within false n d h within =
+    let less : n ≤ d = leb-true n d within in
+    let few : n * 1000000 / d ≤ 1000000 = div-le_of_le-mul d (omega arith) in
+    omega arith
+
+pub millionths_some : (text : List ℕ) (r : Reached) → reached_in 1000000 text ≡ Some r → cond (is_reached_within 1000000 (starts_with_minus text) r) (Ok r.whole) (Err OutOfRange) ≡ millionths_result text
+unfolding millionths_result
+millionths_some text r e = by_place (cases_Bool (is_within_one text))
+  where
+    some : (is_number text ≡ true) × (r ≡ reached_by (numerator_of text * 1000000) (denominator_of text))
+    some = reached_some 1000000 text r e
+
+    same : is_reached_within 1000000 (starts_with_minus text) (reached_by (numerator_of text * 1000000) (denominator_of text)) ≡ is_within_one text
+    same = within_is (starts_with_minus text) (numerator_of text) (denominator_of text) (denominator_positive text)
+
+    by_place : (is_within_one text ≡ true) ⊎ (is_within_one text ≡ false) → cond (is_reached_within 1000000 (starts_with_minus text) r) (Ok r.whole) (Err OutOfRange) ≡ millionths_result text
+    by_place (inl within) =
+        rw (some.0, some.1, same, within) (ap (λ n. Ok n) (sym (value_within (starts_with_minus text) (numerator_of text) (denominator_of text) (denominator_positive text) within)))
+    by_place (inr outside) = rw (some.0, some.1, same, outside) refl

@@ -1,0 +1,76 @@
+//! Texts of decimal digits, and the numbers that they write.
+
+ghost use Rattle.std.specs.Prelude.{◌≡◌, ◌<◌, ◌≤◌, ◌-◌, ◌*◌, ◌^◌, ◌==◌, min, true, length};
+ghost use Rattle.std.specs.List.{list_all};
+ghost use Rattle.std.specs.Char.{is_ascii_digit};
+ghost use Rattle.std.specs.Str.Parse.{digits_value, digits_value_after};
+ghost use Rattle.fixed_num.specs.Decimal.{is_numeral_up_to};
+ghost use Rattle.fixed_num.specs.Whole.{whole_number};
+
+/// Whether each byte is a digit.
+pub(crate) fn all_digits(text: &[u8]) -> bool
+    ensures { result ≡ list_all is_ascii_digit text.now }
+{
+    text.iter().all(|b| b.is_ascii_digit())
+}
+
+/// Whether each byte is the digit zero.
+pub(crate) fn all_zeros(text: &[u8]) -> bool
+    ensures { result ≡ list_all (λ b. b == 48) text.now }
+{
+    text.iter().all(|b| *b == b'0')
+}
+
+/// Whether a text is at least one digit and at most `most`, and nothing else.
+pub(crate) fn is_numeral(text: &[u8], most: usize) -> bool
+    ensures { result ≡ is_numeral_up_to most text.now }
+{
+    !text.is_empty() && text.len() <= most && all_digits(text)
+}
+
+/// Reads a number of 1 to 19 digits: `None` exactly where the text is anything else.
+#[tactic(auto, unfolding(crate::specs::Whole::whole_number))]
+pub fn read_whole(text: &[u8]) -> Option<u64>
+    ensures { result ≡ whole_number text.now }
+{
+    if is_numeral(text, 19) {
+        return Some(number(text));
+    }
+    None
+}
+
+/// The number that a few digits write.
+pub(crate) fn number(digits: &[u8]) -> u64
+    requires digits { list_all is_ascii_digit digits.now ≡ true }
+    requires few { length digits.now ≤ 19 }
+    ensures value { result ≡ digits_value 10 digits.now }
+    ensures range { result < 10 ^ length digits.now }
+{
+    let mut number = 0;
+    for digit in digits {
+        number = number * 10 + u64::from(digit - b'0');
+    }
+    number
+}
+
+/// The number that digits write behind those of `start`, or the greatest number where it is above.
+pub(crate) fn capped_number(start: u64, digits: &[u8]) -> u64
+    requires digits { list_all is_ascii_digit digits.now ≡ true }
+    ensures { result ≡ min (digits_value_after 10 start digits.now) (2 ^ 64 - 1) }
+{
+    let mut number = start;
+    for digit in digits {
+        number = number
+            .saturating_mul(10)
+            .saturating_add(u64::from(digit - b'0'));
+    }
+    number
+}
+
+/// A number with zeros behind its digits, or the greatest number where that is above.
+pub(crate) fn capped_tens(number: u64, zeros: usize) -> u64
+    requires { zeros < 2 ^ 32 }
+    ensures { result ≡ min (number * 10 ^ zeros) (2 ^ 64 - 1) }
+{
+    number.saturating_mul(10u64.saturating_pow(zeros as u32))
+}

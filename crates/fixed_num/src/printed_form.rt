@@ -1,0 +1,72 @@
+//! The text of a value.
+
+ghost use Rattle.std.specs.Prelude.{◌≡◌, ◌≤◌, ◌<◌, ◌+◌, ◌^◌, ◌++◌, length, take, drop};
+ghost use Rattle.fixed_num.specs.Print.{milli_text, unsigned_milli_text, decimals_text};
+
+use crate::{MILLI_TEXT, Milli};
+use itoa::Buffer;
+
+/// Writes a value's text to the front of `out`: `-` where it is negative, the whole part, a point,
+/// and one to three decimals without trailing zeros past the first. Answers the text's length;
+/// what stands behind it is left as it was.
+#[tactic(auto, using(crate::proofs::PrintLemmas::milli_text_negative, crate::proofs::PrintLemmas::milli_text_positive))]
+pub fn print_milli(value: Milli, out: &mut [u8; MILLI_TEXT]) -> usize
+    ensures length { result ≡ length (milli_text value) }
+    ensures written { take result out.new ≡ milli_text value }
+    ensures behind { drop result out.new ≡ drop result out.old }
+{
+    let magnitude = value.unsigned_abs();
+    if value < 0 {
+        let sign = put(out, 0, b"-");
+        return put_unsigned(out, sign, magnitude);
+    }
+    put_unsigned(out, 0, magnitude)
+}
+
+// Writes the text of a number of thousandths without a sign, and answers where it ends.
+#[tactic(auto, unfolding(crate::specs::Print::unsigned_milli_text), using(crate::proofs::PrintLemmas::whole_short, crate::proofs::PrintLemmas::decimals_short, crate::proofs::PrintLemmas::drop_later))]
+fn put_unsigned(out: &mut [u8; MILLI_TEXT], at: usize, thousandths: u64) -> usize
+    requires room { at ≤ 1 }
+    requires range { thousandths ≤ 2 ^ 63 }
+    ensures end { result ≡ at + length (unsigned_milli_text thousandths) }
+    ensures written { take result out.new ≡ take at out.old ++ unsigned_milli_text thousandths }
+    ensures behind { drop result out.new ≡ drop result out.old }
+{
+    let mut buffer = Buffer::new();
+    let whole = put(out, at, buffer.format(thousandths / 1000).as_bytes());
+    let point = put(out, whole, b".");
+    put_decimals(out, point, thousandths % 1000)
+}
+
+// Writes a piece at a place, and answers where it ends.
+fn put(out: &mut [u8; MILLI_TEXT], at: usize, piece: &[u8]) -> usize
+    requires { at + length piece.now ≤ MILLI_TEXT }
+    ensures end { result ≡ at + length piece.now }
+    ensures written { take result out.new ≡ take at out.old ++ piece.now }
+    ensures behind { drop result out.new ≡ drop result out.old }
+{
+    let end = at + piece.len();
+    out[at..end].copy_from_slice(piece);
+    end
+}
+
+// Writes the decimals of a number of thousandths, and answers where they end.
+#[tactic(auto, using(crate::proofs::PrintLemmas::three_decimals, crate::proofs::PrintLemmas::two_decimals, crate::proofs::PrintLemmas::one_decimal))]
+fn put_decimals(out: &mut [u8; MILLI_TEXT], at: usize, thousandths: u64) -> usize
+    requires room { at + 3 ≤ MILLI_TEXT }
+    requires part { thousandths < 1000 }
+    ensures end { result ≡ at + length (decimals_text thousandths) }
+    ensures written { take result out.new ≡ take at out.old ++ decimals_text thousandths }
+    ensures behind { drop result out.new ≡ drop result out.old }
+{
+    let tenths = b'0' + (thousandths / 100) as u8;
+    let hundredths = b'0' + (thousandths / 10 % 10) as u8;
+    let last = b'0' + (thousandths % 10) as u8;
+    if last != b'0' {
+        return put(out, at, &[tenths, hundredths, last]);
+    }
+    if hundredths != b'0' {
+        return put(out, at, &[tenths, hundredths]);
+    }
+    put(out, at, &[tenths])
+}

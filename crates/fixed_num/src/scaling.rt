@@ -1,0 +1,80 @@
+//! How many parts of a unit the decimal of a text reaches, by numbers of 64 bits however long it is.
+
+ghost use Rattle.std.specs.Prelude.{◌≡◌, ◌<◌, ◌≤◌, ◌+◌, ◌*◌, ◌^◌, ◌==◌, ◌&&◌, ◌++◌, true, length, take, drop};
+ghost use Rattle.std.specs.List.{list_all};
+ghost use Rattle.std.specs.Char.{is_ascii_digit};
+ghost use Rattle.std.specs.Str.Parse.{digits_value};
+ghost use Rattle.fixed_num.specs.Decimal.{whole_of, fraction_of, is_mantissa};
+ghost use Rattle.fixed_num.specs.Read.{reached_in, reached_by, moved};
+
+use crate::digits::{all_digits, all_zeros, capped_number, capped_tens};
+use crate::grammar::{cut_at_point, exponent_in, moves_of, without_leading_sign};
+use crate::reached::Reached;
+
+/// How many parts of one `10 ^ places`th the decimal of a text reaches, its sign left out; `None`
+/// where the text is no decimal.
+pub(crate) fn reached_in(text: &[u8], places: usize) -> Option<Reached>
+    requires { places ≤ 9 }
+    ensures { result ≡ reached_in (10 ^ places) text.now }
+{
+    let digits = without_leading_sign(text);
+    let Some(letter) = exponent_in(digits) else {
+        return moved(digits, places, 0);
+    };
+    let (up, down) = moves_of(&digits[letter + 1..])?;
+    moved(&digits[..letter], up + places, down)
+}
+
+// What a mantissa reaches where its point moves up and down.
+#[tactic(auto, unfolding(crate::specs::Read::moved))]
+fn moved(mantissa: &[u8], up: usize, down: usize) -> Option<Reached>
+    requires few { up < 2 ^ 31 }
+    ensures { result ≡ moved up down mantissa.now }
+{
+    let (whole, fraction) = cut_at_point(mantissa);
+    if !is_mantissa(mantissa, whole, fraction) {
+        return None;
+    }
+    Some(reached_by(whole, fraction, up, down))
+}
+
+// Whether a text is digits on both sides of a point, at least one in all, by its parts.
+fn is_mantissa(mantissa: &[u8], whole: &[u8], fraction: &[u8]) -> bool
+    requires whole { whole.now ≡ whole_of mantissa.now }
+    requires fraction { fraction.now ≡ fraction_of mantissa.now }
+    ensures { result ≡ is_mantissa mantissa.now }
+{
+    all_digits(whole) && all_digits(fraction) && !(whole.is_empty() && fraction.is_empty())
+}
+
+// The front of the digits is the quotient, with zeros behind it where they are too few, and the
+// fraction is whole where only zeros are left. Numbers past 64 bits stay at the greatest.
+fn reached_by(whole: &[u8], fraction: &[u8], up: usize, down: usize) -> Reached
+    requires whole { list_all is_ascii_digit whole.now ≡ true }
+    requires fraction { list_all is_ascii_digit fraction.now ≡ true }
+    requires few { up < 2 ^ 31 }
+    ensures { result ≡ reached_by (digits_value 10 (whole.now ++ fraction.now) * 10 ^ up) (10 ^ (length fraction.now + down)) }
+{
+    let keep = (whole.len() + up).saturating_sub(down);
+    let (front, rest) = cut_at(whole, keep);
+    let (more, last) = cut_at(fraction, keep.saturating_sub(whole.len()));
+    let zeros = keep.saturating_sub(whole.len() + fraction.len());
+    Reached {
+        whole: capped_tens(capped_number(capped_number(0, front), more), zeros),
+        exact: are_zeros(rest, last),
+    }
+}
+
+fn are_zeros(rest: &[u8], last: &[u8]) -> bool
+    ensures { result ≡ (list_all (λ b. b == 48) rest.now && list_all (λ b. b == 48) last.now) }
+{
+    all_zeros(rest) && all_zeros(last)
+}
+
+// The first bytes of a text, and those behind them.
+fn cut_at(text: &[u8], count: usize) -> (&[u8], &[u8])
+    ensures front { result.0.now ≡ take count text.now }
+    ensures rest { result.1.now ≡ drop count text.now }
+{
+    text.split_at(count.min(text.len()))
+}

@@ -1,0 +1,4 @@
+pub mod LineLemmas
+pub mod FramingLemmas
+pub mod MachineLemmas
+mod BufferLemmas
