@@ -2,6 +2,8 @@
 #![tactic(auto)]
 
 mod report;
+mod scripts;
+mod telling;
 mod top;
 
 pub use report::Report;

@@ -1,20 +1,21 @@
-ghost use Rattle.std.specs.Prelude.{◌≡◌, ◌<◌, ◌≤◌, ◌^◌, ◌⊎◌, ◌++◌, ◌↔◌, ℕ, List, true, false, IfSome, IsTrue, length, map, string_bytes, vec_len};
+ghost use Rattle.std.specs.Prelude.{◌≡◌, ◌<◌, ◌≤◌, ◌^◌, ◌⊎◌, ℕ, List, true, false, IfSome, length, map, string_bytes, vec_len};
 ghost use Rattle.std.specs.Io.KnownBytes.{Appends, IsAtEnd};
 ghost use Rattle.outside_io.specs.Faults.{Rose};
 ghost use Rattle.carbon_model.specs.Script.{ScriptRun, opening};
-ghost use Rattle.carbon_script.specs.Standing.{AppendsSome};
 ghost use Rattle.carbon_run.specs.Words.{is_script};
 ghost use Rattle.carbon_run.specs.Texts.{EndsWith, usage_line, read_fault_line, no_memory_line, limit_line};
 
 use crate::Report;
+use crate::scripts::run_script;
+use crate::telling::tell_usage;
 use carbon_history::History;
-use carbon_script::{Plain, ScriptEnd, script};
-use outside_io::{Clock, Disk, Net, Sink, Source, write_all};
+use outside_io::{Clock, Disk, Net, Sink, Source};
 use std::alloc::Global;
 
 /// Runs carbon: does what the words of the command line say, and answers the program's exit status.
 ///
-/// `words` are those after the program's name. The one command is `script`: it runs the script that stands on the input.
+/// `words` are those after the program's name, and there is one disk for each of the sixteen classes. The one command is
+/// `script`: it runs the script that stands on the input.
 ///
 /// | Status | Comes |
 /// |---|---|
@@ -41,7 +42,7 @@ pub fn run<S: Source, K: Sink, D: Disk + Send + Drop, C: Clock + Sync, N: Net + 
     ensures script { result.status ≡ 0 → IfSome (S.left input.old) (λ bytes. (text : List ℕ) × (ScriptRun opening bytes result.history text × Appends (K.written out.old) (K.written out.new) text)) }
     ensures whole_input { result.status ≡ 0 → IsAtEnd (S.left input.new) }
 
-    // Which words are a command, and what else is told by their text alone.
+    // Which words are a command.
     ensures command { is_script (map string_bytes words.now) ≡ true → (result.status ≡ 0) ⊎ ((result.status ≡ 6) ⊎ ((result.status ≡ 7) ⊎ ((result.status ≡ 8) ⊎ (result.status ≡ 10)))) }
     ensures usage { is_script (map string_bytes words.now) ≡ false → (result.status ≡ 2) ⊎ (result.status ≡ 7) }
     ensures usage_text { result.status ≡ 2 → Appends (K.written out.old) (K.written out.new) usage_line }
@@ -60,11 +61,28 @@ pub fn run<S: Source, K: Sink, D: Disk + Send + Drop, C: Clock + Sync, N: Net + 
     ensures conf { conf.new ≡ conf.old }
     ensures net { net.new ≡ net.old }
 {
-    let _ = (conf, clock, net);
-    let (status, history) = run_words(alloc, words, input, out);
+    if !is_script(words) {
+        let status = tell_usage(out);
+        return Report {
+            status,
+            history: History::empty(alloc),
+            disks,
+        };
+    }
+    let (status, history) = run_script(alloc, input, out);
     Report {
         status,
         history,
         disks,
+    }
+}
+
+/// Whether the words are the one word `script`.
+fn is_script(words: &[String]) -> bool
+    ensures { result ≡ is_script (map string_bytes words.now) }
+{
+    match words {
+        [word] => word.as_str() == "script",
+        _ => false,
     }
 }

@@ -32,10 +32,11 @@ holds_put : (old new : List Metrics) (s : State) (path : List ℕ) (t : ℕ) (v 
     → ((k : ℕ) → k ≢ class_of path → class_at new k ≡ class_at old k)
     → HoldsPending new (with_pending s (class_of path) (with_put (s.pending (class_of path)) path t v))
 holds_put old new s path t v holds here others k small = elim (eqb_tells k (class_of path)) [
-    inl same ↦
+  | inl same ↦
       rw same.0 (subst (λ (j : ℕ). class_at new j ≡ with_put (s.pending (class_of path)) path t v) (sym same.1)
-        (here ∙ ap (λ (ms : Metrics). with_put ms path t v) (holds (class_of path) (class_is_one path))))
-  | inr other ↦ rw other.0 (others k other.1 ∙ holds k small) ]
+      (here ∙ ap (λ (ms : Metrics). with_put ms path t v) (holds (class_of path) (class_is_one path))))
+  | inr other ↦ rw other.0 (others k other.1 ∙ holds k small)
+]
 
 -- the greatest number of a question after one more entry
 greatest_more : (entries : List Entry) (e : Entry) (most : ℕ) → fold (λ most e. max most (ask_number 0 e)) most (entries ++ e ∷ []) ≡ max (fold (λ most e. max most (ask_number 0 e)) most entries) (ask_number 0 e)
@@ -50,12 +51,12 @@ entered : (old new : Plain) (point : Point) (end : PutEnd) (m : Machine) → Ent
     → HoldsPending new.classes (after m.state (put_entry point end))
     → Means new (record { state = after m.state (put_entry point end); clock = m.clock; counts = counted m.counts end; entries = m.entries ++ put_entry point end ∷ [] })
 entered old new point end m enters means holds = record {
-    pending = holds;
-    clock = enters.clock ∙ means.clock;
-    counts = enters.counts ∙ ap (λ c. counted c end) means.counts;
-    entries = enters.history ∙ ap (λ (es : List Entry). es ++ put_entry point end ∷ []) means.entries;
-    asks = enters.asks ∙ means.asks ∙ sym (greatest_put m.entries point end);
-  }
+  pending = holds;
+  clock = enters.clock ∙ means.clock;
+  counts = enters.counts ∙ ap (λ c. counted c end) means.counts;
+  entries = enters.history ∙ ap (λ (es : List Entry). es ++ put_entry point end ∷ []) means.entries;
+  asks = enters.asks ∙ means.asks ∙ sym (greatest_put m.entries point end);
+}
 
 pub acts_put : (old new : Plain) (point : Point) (end : PutEnd) → Enters old new point end → Acts old (Metric point) [] new
 acts_put old new point Stored enters m means =
@@ -71,17 +72,23 @@ acts_put old new point Full enters m means = absurd enters.classes.here
 pub acts_ask : (old new : Plain) (q : Question) (text : List ℕ) → text ≡ reply_of old q → Asks old new → Acts old (Ask q) text new
 acts_ask old new q text said asks m means =
     let pending = means.pending (class_of q.path) (class_is_one q.path) in
-    let number = greatest_more m.entries (ask_entry m) 0 in
-    (record { state = m.state; clock = m.clock; counts = m.counts; entries = m.entries ++ ask_entry m ∷ [] },
-      ((refl, said ∙ ap (λ (ms : Metrics). answer_text q.path (points_of ms q.path) (window old.clock q.from q.until) ++ codes "\n") pending
-          ∙ ap (λ (now : ℕ). answer_text q.path (points_of (m.state.pending (class_of q.path)) q.path) (window now q.from q.until) ++ codes "\n") means.clock),
-       record {
-         pending = λ k small. ap (λ cs. class_at cs k) asks.classes ∙ means.pending k small;
-         clock = asks.clock ∙ means.clock;
-         counts = asks.counts ∙ means.counts;
-         entries = asks.history
-           ∙ ap (λ (es : List Entry). es ++ entry.Ask 0 (old.asks + 1) 1 old.clock ∷ []) means.entries
-           ∙ ap (λ (n : ℕ). m.entries ++ entry.Ask 0 (n + 1) 1 old.clock ∷ []) means.asks
-           ∙ ap (λ (now : ℕ). m.entries ++ entry.Ask 0 (greatest_ask 0 m.entries + 1) 1 now ∷ []) means.clock;
-         asks = omega (arith, asks.asks, means.asks, number);
-       }))
+    let number = greatest_more m.entries (ask_entry m) 0 in (
+      record { state = m.state; clock = m.clock; counts = m.counts; entries = m.entries ++ ask_entry m ∷ [] },
+      (
+        (
+          refl,
+          said ∙ ap (λ (ms : Metrics). answer_text q.path (points_of ms q.path) (window old.clock q.from q.until) ++ codes "\n") pending
+              ∙ ap (λ (now : ℕ). answer_text q.path (points_of (m.state.pending (class_of q.path)) q.path) (window now q.from q.until) ++ codes "\n") means.clock,
+        ),
+        record {
+          pending = λ k small. ap (λ cs. class_at cs k) asks.classes ∙ means.pending k small;
+          clock = asks.clock ∙ means.clock;
+          counts = asks.counts ∙ means.counts;
+          entries = asks.history
+              ∙ ap (λ (es : List Entry). es ++ entry.Ask 0 (old.asks + 1) 1 old.clock ∷ []) means.entries
+              ∙ ap (λ (n : ℕ). m.entries ++ entry.Ask 0 (n + 1) 1 old.clock ∷ []) means.asks
+              ∙ ap (λ (now : ℕ). m.entries ++ entry.Ask 0 (greatest_ask 0 m.entries + 1) 1 now ∷ []) means.clock;
+          asks = omega (arith, asks.asks, means.asks, number);
+        },
+      ),
+    )

@@ -98,32 +98,32 @@ goes_piece f f1 f2 p p2 w w2 piece feeds goes start before taken s =
 -- before the first read
 pub reached_none : (left : Option (List ℕ)) (p : Plain) (w : Option (List ℕ)) (f : Framing) → f ≡ record { waiting = []; open_line = Whole []; current = [] } → Reached left p w 0 left f p w
 reached_none left p w f new = record {
-    taken = [];
-    consumed = Consumes-none left;
-    counted = refl;
-    served = ap (λ (f : Framing). f.waiting) new;
-    standing = λ start means. record {
-      handed = [];
-      machine = start;
-      said = [];
-      hands = subst (HandsOut [] []) (sym new) HandsOut-none;
-      runs = Runs-none Steps start;
-      means = means;
-      wrote = Appends-none w;
-    };
-  }
+  taken = [];
+  consumed = Consumes-none left;
+  counted = refl;
+  served = ap (λ (f : Framing). f.waiting) new;
+  standing = λ start means. record {
+    handed = [];
+    machine = start;
+    said = [];
+    hands = subst (HandsOut [] []) (sym new) HandsOut-none;
+    runs = Runs-none Steps start;
+    means = means;
+    wrote = Appends-none w;
+  };
+}
 
 -- one more piece was read and served
 pub reached_more : (left left1 left2 : Option (List ℕ)) (p p1 p2 : Plain) (w w1 w2 : Option (List ℕ)) (f1 f2 : Framing) (count n : ℕ) (piece : List ℕ)
     → Reached left p w count left1 f1 p1 w1 → Consumes left1 left2 piece → length piece ≡ n → GoesOn f1 p1 w1 piece f2 p2 w2 → f2.waiting ≡ []
     → Reached left p w (count + n) left2 f2 p2 w2
 reached_more left left1 left2 p p1 p2 w w1 w2 f1 f2 count n piece r consumes long goes served = record {
-    taken = r.taken ++ piece;
-    consumed = Consumes-more left left1 left2 r.taken piece r.consumed consumes;
-    counted = omega (arith, length-append r.taken piece, r.counted, long);
-    served = served;
-    standing = λ start means. goes start w r.taken (r.standing start means);
-  }
+  taken = r.taken ++ piece;
+  consumed = Consumes-more left left1 left2 r.taken piece r.consumed consumes;
+  counted = omega (arith, length-append r.taken piece, r.counted, long);
+  served = served;
+  standing = λ start means. goes start w r.taken (r.standing start means);
+}
 
 -- at the end of the input all its lines were served
 pub reached_end : (left left1 left2 : Option (List ℕ)) (p p1 : Plain) (w w1 w2 : Option (List ℕ)) (f1 : Framing) (count : ℕ)
@@ -138,10 +138,13 @@ reached_end left left1 left2 p p1 w w1 w2 f1 count r end summarizes start means 
     by None all handed = tt
     by (Some bytes) all handed =
         let s = r.standing start means in
-        let same : lines bytes ≡ s.handed = sym (ap lines all) ∙ handed in
-        (s.said ++ summary_text s.machine,
-          ((s.machine, s.said, (subst (λ (ls : List Line). Runs Steps start ls s.machine s.said) (sym same) s.runs, s.means.entries, refl)),
-           Appends-more w w1 w2 s.said (summary_text s.machine) s.wrote (summarizes s.machine s.means)))
+        let same : lines bytes ≡ s.handed = sym (ap lines all) ∙ handed in (
+          s.said ++ summary_text s.machine,
+          (
+            (s.machine, s.said, (subst (λ (ls : List Line). Runs Steps start ls s.machine s.said) (sym same) s.runs, s.means.entries, refl)),
+            Appends-more w w1 w2 s.said (summary_text s.machine) s.wrote (summarizes s.machine s.means),
+          ),
+        )
 
 -- and they were as many as were counted
 pub reached_long : (left left1 : Option (List ℕ)) (p p1 : Plain) (w w1 : Option (List ℕ)) (f1 : Framing) (count : ℕ)
@@ -172,13 +175,16 @@ pub reaches_end : (left left1 left2 : Option (List ℕ)) (p p1 p2 : Plain) (w w1
     → Reached left p w count left1 f1 p1 w1 → count < 2 ^ 40 → ReadsOn None room left1 f1 p1 w1 left2 f2 p2 w2 → Reaches reach.End left p w left2 p2 w2
 reaches_end left left1 left2 p p1 p2 w w1 w2 f1 f2 count room r short reads =
     let code : p2 ≡ p1 = reads.1.1.1.0 in
-    let written : w2 ≡ w1 = reads.1.1.1.1 in
-    (λ after summarizes.
-       subst (λ (q : Plain). Scripts left p w q after) (sym code)
-       (reached_end left left1 left2 p p1 w w1 after f1 count r reads.0
-         (subst (λ (q : Plain). Summarizes q w1 after) code (subst (λ (v : Option (List ℕ)). Summarizes p2 v after) written summarizes))),
-     (reads.1.0,
-      if_some_more left (λ bytes. length bytes ≡ count) (λ bytes. length bytes < 2 ^ 40) (reached_long left left1 p p1 w w1 f1 count r reads.0) (λ bytes long. omega (arith, long, short))))
+    let written : w2 ≡ w1 = reads.1.1.1.1 in (
+      λ after summarizes.
+          subst (λ (q : Plain). Scripts left p w q after) (sym code)
+          (reached_end left left1 left2 p p1 w w1 after f1 count r reads.0
+          (subst (λ (q : Plain). Summarizes q w1 after) code (subst (λ (v : Option (List ℕ)). Summarizes p2 v after) written summarizes))),
+      (
+        reads.1.0,
+        if_some_more left (λ bytes. length bytes ≡ count) (λ bytes. length bytes < 2 ^ 40) (reached_long left left1 p p1 w w1 f1 count r reads.0) (λ bytes long. omega (arith, long, short)),
+      ),
+    )
 
 -- the most bytes were taken
 pub reaches_limit : (left left1 : Option (List ℕ)) (p p1 : Plain) (w w1 : Option (List ℕ)) (f1 : Framing) (count : ℕ)

@@ -13,4 +13,3 @@ mod window;
 
 pub use plain::Plain;
 pub use serve::{MOST_INPUT_BYTES, ScriptEnd, script};
-

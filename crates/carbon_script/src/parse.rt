@@ -67,7 +67,11 @@ fn read_clock_moment(text: &[u8]) -> Option<u32>
 fn read_short_number(text: &[u8]) -> Option<u64>
     ensures { result ≡ (if nat_le (length text.now) 10 then whole_number text.now else None) }
 {
-    if text.len() <= 10 { read_whole(text) } else { None }
+    if text.len() <= 10 {
+        read_whole(text)
+    } else {
+        None
+    }
 }
 
 #[tactic(auto, unfolding(carbon_model::specs::Command::asked))]

@@ -76,7 +76,8 @@ impl Plain {
         ensures { OnOk result (CountsPut self.old self.new (seen datum) end) }
     {
         let Datum { path, time, value } = datum;
-        self.history.enter(Entry::Put(PASS, path, time, value, end))?;
+        self.history
+            .enter(Entry::Put(PASS, path, time, value, end))?;
         self.counts.count_put(end);
         Ok(())
     }

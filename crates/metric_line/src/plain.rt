@@ -48,7 +48,6 @@ fn read_point(
 fn read_moment(text: &[u8]) -> Option<u32>
     ensures moment { result ≡ plain_moment text.now }
     ensures legal { IfSome result (λ t. is_moment t ≡ true) }
-    
 {
     legal_moment(read_ten_digits(text)?)
 }
@@ -57,7 +56,11 @@ fn read_moment(text: &[u8]) -> Option<u32>
 pub fn read_ten_digits(text: &[u8]) -> Option<u64>
     ensures { result ≡ ten_digits text.now }
 {
-    if text.len() == 10 { read_whole(text) } else { None }
+    if text.len() == 10 {
+        read_whole(text)
+    } else {
+        None
+    }
 }
 
 fn cut_at_space(text: &[u8]) -> Option<(&[u8], &[u8])>

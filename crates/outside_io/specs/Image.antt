@@ -6,9 +6,11 @@ use Rattle.std.specs.List.{IsDistinct}
 abbrev pub Image : Type 0
 Image = List ℕ → Option (List ℕ)
 
--- a fact on the images before and after, where the disk tells them; an image that is told stays told
+-- a fact on the images before and after, where the disk tells them; a disk that tells its image goes on telling it,
+-- and one that does not, does not
 abbrev pub WhereKnown : Option Image → Option Image → (Image → Image → Type 0) → Type 0
-WhereKnown None after P = ⊤
+WhereKnown None None P = ⊤
+WhereKnown None (Some after) P = ⊥
 WhereKnown (Some before) None P = ⊥
 WhereKnown (Some before) (Some after) P = P before after
 

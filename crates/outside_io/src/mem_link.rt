@@ -7,10 +7,12 @@ use crate::mem_source::MemSource;
 use crate::sink::{Sink, WriteEnd};
 use crate::source::{ReadEnd, Source};
 
-/// A link over memory: what the other end sends, and what it is sent.
+/// A link over memory.
 #[derive(Debug, Drop)]
 pub struct MemLink {
+    /// What the other end sends.
     pub source: MemSource,
+    /// What the other end is sent.
     pub sink: MemSink,
 }
 

@@ -1,6 +1,6 @@
 // A sink in memory.
 ghost use Rattle.std.specs.Prelude.{◌≡◌, ℕ, ◌<◌, ◌≤◌, [], length, Some, IsTrue};
-ghost use Rattle.outside_io.specs.Calls.{fails_next};
+ghost use Rattle.outside_io.specs.Calls.{fails_next, after_call};
 ghost use Rattle.outside_io.specs.Faults.{Rose};
 ghost use Rattle.outside_io.specs.Memory.{TakesPiece};
 ghost use Rattle.outside_io.specs.Sink.{WritesSome, WriteGives};
@@ -101,6 +101,8 @@ impl Sink for MemSink {
         ensures later { self.old.faults ≤ self.new.faults }
         ensures cause { result ≡ WriteEnd.Failed → Rose self.old.faults self.new.faults }
         ensures piece { TakesPiece self.old result }
+        ensures same_pieces { self.new.most ≡ self.old.most }
+        ensures counted { self.new.calls ≡ after_call self.old.calls }
         ensures listed { IsTrue (fails_next self.old.calls) → result ≡ WriteEnd.Failed }
     {
         if self.calls.fails_now() {

@@ -1,6 +1,6 @@
 // A source in memory.
 ghost use Rattle.std.specs.Prelude.{◌≡◌, ◌↔◌, ℕ, ◌+◌, ◌<◌, ◌≤◌, [], length, slice_index, EachIndex, Some, IsTrue};
-ghost use Rattle.outside_io.specs.Calls.{fails_next};
+ghost use Rattle.outside_io.specs.Calls.{fails_next, after_call};
 ghost use Rattle.outside_io.specs.Faults.{Rose};
 ghost use Rattle.outside_io.specs.Memory.{GivesPiece};
 ghost use Rattle.outside_io.specs.Source.{ReadsSome, ReadTakes};
@@ -102,6 +102,8 @@ impl Source for MemSource {
         ensures later { self.old.faults ≤ self.new.faults }
         ensures cause { result ≡ ReadEnd.Failed → Rose self.old.faults self.new.faults }
         ensures piece { GivesPiece self.old result }
+        ensures same_pieces { (self.new.most ≡ self.old.most) × (self.new.cuts ≡ self.old.cuts) }
+        ensures counted { self.new.calls ≡ after_call self.old.calls }
         ensures listed { result ≡ ReadEnd.Failed ↔ IsTrue (fails_next self.old.calls) }
     {
         if self.calls.fails_now() {

@@ -54,6 +54,7 @@ pub fn write_all<K: Sink>(out: &mut K, text: &[u8]) -> Result<(), WriteFault>
     ensures prefix { OnErr result (AppendsFront (K.written out.old) (K.written out.new) text.now) }
     ensures later { K.write_faults out.old ≤ K.write_faults out.new }
     ensures cause { OnErr result (Rose (K.write_faults out.old) (K.write_faults out.new)) }
+    ensures beside { K.beside_write out.new ≡ K.beside_write out.old }
 {
     let mut at = 0;
     while at < text.len() {

@@ -1,13 +1,14 @@
 // The streams, the disk, the clock and the net in memory, and the standard streams over stand-ins.
 use crate::{
-    Clock, ClosedNet, Disk, DiskFailed, FailingCalls, FixedClock, MemDisk, MemLink, MemSink,
-    MemSource, Net, ReadEnd, Sink, Source, StdSink, StdSource, WriteEnd, WriteFault, write_all,
+    Clock, ClosedNet, Disk, DiskFailed, FailingCalls, FixedClock, FolderDisk, MemDisk, MemLink,
+    MemSink, MemSource, Net, ReadEnd, Sink, Source, StdSink, StdSource, WriteEnd, WriteFault,
+    write_all,
 };
 use std::alloc::Allocator;
 use std::fmt::Display;
-use std::io;
 use std::io::{BufRead, ErrorKind, Input, Lines, Print, Read};
 use std::test::Fail;
+use std::{env, fs, io, process};
 
 #[test]
 fn sources_give_bytes_in_pieces(rt: HostRuntime) -> Result<(), Fail> {
@@ -136,6 +137,54 @@ fn listed_writes_fail_and_change_nothing(rt: HostRuntime) -> Result<(), Fail> {
     };
     assert_eq!(rt; buf, *b"\0xy\0");
     assert_eq!(rt; disk.faults(), 1);
+    Ok(())
+}
+
+// The path of a folder of this process's own among the temporary files, which does not stand there.
+fn fresh_folder(rt: &HostRuntime) -> Result<String, Fail> {
+    let temp = env::temp_dir(rt)?;
+    let id = process::id(rt.process());
+    let folder = format!(in rt.alloc(); "{}/outside-io-{id}", temp.display())?;
+    let _ = fs::remove_dir_all(rt, folder.as_str());
+    Ok(folder)
+}
+
+#[test]
+fn folders_keep_files(rt: HostRuntime) -> Result<(), Fail> {
+    let folder = fresh_folder(&rt)?;
+    let mut disk = FolderDisk::new(rt, folder.clone()?);
+    assert!(rt; disk.names().is_ok_and(|names| names.is_empty()));
+    assert!(rt; disk.create("a/b.ring", 6).is_ok());
+    assert!(rt; disk.create("c", 3).is_ok());
+    assert!(rt; disk.write_at("c", 0, b"old").is_ok());
+    assert!(rt; disk.create("c", 2).is_ok(), "made anew");
+    assert!(rt; disk.write_at("a/b.ring", 2, b"xy").is_ok());
+    let mut bytes = [9u8; 6];
+    assert!(rt; disk.read_at("a/b.ring", 0, &mut bytes).is_ok());
+    assert_eq!(rt; bytes, *b"\0\0xy\0\0");
+    assert!(rt; disk.read_at("c", 0, &mut bytes[..2]).is_ok());
+    assert_eq!(rt; bytes, *b"\0\0xy\0\0");
+    for (name, length) in [
+        ("a/b.ring", Some(6)),
+        ("a", None),
+        ("c", Some(2)),
+        ("d", None),
+    ] {
+        assert_eq!(rt; disk.length(name), Ok(length), "{name}");
+    }
+    let Ok(mut names) = disk.names() else {
+        return Err(Fail::from("no names"))
+    };
+    names.sort()?;
+    assert_eq!(rt; names.len(), 2);
+    for (name, wanted) in names.iter().zip(["a/b.ring", "c"]) {
+        assert_eq!(rt; name.as_str(), wanted);
+    }
+    assert_eq!(rt; disk.faults(), 0);
+    assert!(rt; disk.read_at("c", 1, &mut bytes).is_err(), "past the end");
+    assert!(rt; disk.write_at("d", 0, b"x").is_err(), "no such file");
+    assert_eq!(rt; disk.faults(), 2);
+    fs::remove_dir_all(&rt, folder.as_str())?;
     Ok(())
 }
 

@@ -55,18 +55,22 @@ past_head x xs t v up lt =
 rises_with : (xs : List (ℕ × ℤ)) (s t : ℕ) (v : ℤ) → RisesAfter s xs → s < t → RisesAfter s (with_point xs t v)
 rises_with [] s t v up lt = (lt, tt)
 rises_with (x ∷ xs) s t v up lt = elim (cases_order x.0 t) [
-    inl e ↦ rw (at_head x xs t v up.1 e) (lt, subst (λ (n : ℕ). RisesAfter n xs) e up.1)
+  | inl e ↦ rw (at_head x xs t v up.1 e) (lt, subst (λ (n : ℕ). RisesAfter n xs) e up.1)
   | inr o ↦ elim o [
-      inl below ↦ rw (before_head x xs t v below) (up.0, rises_with xs x.0 t v up.1 below)
-    | inr above ↦ rw (past_head x xs t v up.1 above) (lt, (above, up.1)) ] ]
+    | inl below ↦ rw (before_head x xs t v below) (up.0, rises_with xs x.0 t v up.1 below)
+    | inr above ↦ rw (past_head x xs t v up.1 above) (lt, (above, up.1))
+  ]
+]
 
 pub rising_with : (xs : List (ℕ × ℤ)) (t : ℕ) (v : ℤ) → IsRising xs → IsRising (with_point xs t v)
 rising_with [] t v up = tt
 rising_with (x ∷ xs) t v up = elim (cases_order x.0 t) [
-    inl e ↦ rw (at_head x xs t v up e) (subst (λ (n : ℕ). RisesAfter n xs) e up)
+  | inl e ↦ rw (at_head x xs t v up e) (subst (λ (n : ℕ). RisesAfter n xs) e up)
   | inr o ↦ elim o [
-      inl below ↦ rw (before_head x xs t v below) (rises_with xs x.0 t v up below)
-    | inr above ↦ rw (past_head x xs t v up above) (above, up) ] ]
+    | inl below ↦ rw (before_head x xs t v below) (rises_with xs x.0 t v up below)
+    | inr above ↦ rw (past_head x xs t v up above) (above, up)
+  ]
+]
 
 -- such places, from all but that the points stay rising
 place_of_lem : (xs : List (ℕ × ℤ)) (i t : ℕ) → IsRising xs → i < length xs → has_time xs t ≡ true
@@ -83,9 +87,9 @@ place_for_lem xs i t up within absent inserted =
 pub puts_at : (xs : List (ℕ × ℤ)) (i t : ℕ) → IsRising xs → i ≤ length xs
     → IsPartitionPoint (λ p. nat_lt p.0 t ≡ true) (λ p. nat_lt p.0 t ≡ false) xs i → PutsAt xs i t
 puts_at [] zero t up within parts = record {
-    here = λ d lt e. absurd (omega arith);
-    other = λ ne. place_for_lem [] 0 t up (omega arith) refl (λ v. refl);
-  }
+  here = λ d lt e. absurd (omega arith);
+  other = λ ne. place_for_lem [] 0 t up (omega arith) refl (λ v. refl);
+}
 puts_at [] (suc i) t up within parts = absurd (omega arith)
 puts_at (x ∷ xs) zero t up within parts =
     let not_before : nat_lt x.0 t ≡ false = parts.1 0 x (omega arith) (omega arith) in
@@ -93,14 +97,14 @@ puts_at (x ∷ xs) zero t up within parts =
     let rest = above xs x.0 t up ge in
     record {
       here = λ d lt e.
-        let not_after : nat_lt t x.0 ≡ false = le-ltb t x.0 (omega (arith, e)) in
-        let same : (x.0 == t) ≡ true = eqb-same x.0 t e in
-        place_of_lem _ 0 t up (omega arith) (rw same refl) (λ v. rw (not_before, not_after, rest.0, rest.1) refl);
+          let not_after : nat_lt t x.0 ≡ false = le-ltb t x.0 (omega (arith, e)) in
+          let same : (x.0 == t) ≡ true = eqb-same x.0 t e in
+          place_of_lem _ 0 t up (omega arith) (rw same refl) (λ v. rw (not_before, not_after, rest.0, rest.1) refl);
       other = λ ne.
-        let far = ne (omega arith) x in
-        let after : nat_lt t x.0 ≡ true = lt-ltb t x.0 (omega (arith, far)) in
-        let different : (x.0 == t) ≡ false = eqb-other x.0 t far in
-        place_for_lem _ 0 t up (omega arith) (rw different rest.2) (λ v. rw (not_before, after, rest.0, rest.1) refl);
+          let far = ne (omega arith) x in
+          let after : nat_lt t x.0 ≡ true = lt-ltb t x.0 (omega (arith, far)) in
+          let different : (x.0 == t) ≡ false = eqb-other x.0 t far in
+          place_for_lem _ 0 t up (omega arith) (rw different rest.2) (λ v. rw (not_before, after, rest.0, rest.1) refl);
     }
 puts_at (x ∷ xs) (suc i) t up within parts =
     let before : nat_lt x.0 t ≡ true = parts.0 0 x (omega arith) (omega arith) in
@@ -110,11 +114,11 @@ puts_at (x ∷ xs) (suc i) t up within parts =
     let rest = puts_at xs i t (tail-rises x xs up) (omega arith) (λ k d lo hi. parts.0 (suc k) d (omega arith) (omega arith), λ k d lo hi. parts.1 (suc k) d (omega arith) (omega arith)) in
     record {
       here = λ d lt e.
-        let h = rest.here d (omega arith) e in
-        place_of_lem _ (suc i) t up (omega (arith, h.within)) (rw different h.there) (λ v. rw (before, not_after) (ap (λ ys. x ∷ ys) (h.written v)));
+          let h = rest.here d (omega arith) e in
+          place_of_lem _ (suc i) t up (omega (arith, h.within)) (rw different h.there) (λ v. rw (before, not_after) (ap (λ ys. x ∷ ys) (h.written v)));
       other = λ ne.
-        let h = rest.other (λ lt. ne (omega arith)) in
-        place_for_lem _ (suc i) t up (omega (arith, h.within)) (rw different h.absent) (λ v. rw (before, not_after) (ap (λ ys. x ∷ ys) (h.inserted v)));
+          let h = rest.other (λ lt. ne (omega arith)) in
+          place_for_lem _ (suc i) t up (omega (arith, h.within)) (rw different h.absent) (λ v. rw (before, not_after) (ap (λ ys. x ∷ ys) (h.inserted v)));
     }
 
 -- points in rising time are parted by each time
@@ -126,4 +130,3 @@ adjacent (x ∷ y ∷ ys) up (suc k) d lt = let e : suc k + 1 ≡ suc (k + 1) = 
 
 pub parted : (xs : List (ℕ × ℤ)) (t : ℕ) → IsRising xs → IsPartitionedBy (λ p. nat_lt p.0 t) xs
 parted xs t up = IsPartitionedBy-ltb (λ p. p.0) xs t (IsNonDecreasingBy-from_all_adjacent (λ p. p.0) xs (adjacent xs up))
-

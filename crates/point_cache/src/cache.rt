@@ -42,7 +42,13 @@ impl PointCache {
     {
         match self.metrics.get_index_of(path) {
             Some(place) => put_next(&mut self.metrics, path, place, time, value),
-            None => put_first(&mut self.metrics, path, Points::new(self.alloc), time, value),
+            None => put_first(
+                &mut self.metrics,
+                path,
+                Points::new(self.alloc),
+                time,
+                value,
+            ),
         }
     }
 

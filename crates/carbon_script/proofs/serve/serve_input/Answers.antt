@@ -7,14 +7,14 @@ loop-taken-preserved g c =
     let reads = rw c.in-Ok-Some.field-0-is at c.in-Ok-Some.ensures.reads in
     record {
       reached = reached_more (g.S.Source.left c.args.input.now) (g.S.Source.left c.loop-taken.input) (g.S.Source.left c.serve_read.new.input)
-        c.args.plain.now c.loop-taken.plain c.serve_read.new.plain
-        (g.K.Sink.written c.args.out.now) (g.K.Sink.written c.loop-taken.out) (g.K.Sink.written c.serve_read.new.out)
-        c.loop-taken.framer c.serve_read.new.framer c.loop-taken.taken c.in-Ok-Some.count reads.0
-        c.loop-taken.invariant.reached reads.1.0 reads.1.1.0 reads.1.1.1.1.1.0 reads.1.1.1.1.1.1;
+          c.args.plain.now c.loop-taken.plain c.serve_read.new.plain
+          (g.K.Sink.written c.args.out.now) (g.K.Sink.written c.loop-taken.out) (g.K.Sink.written c.serve_read.new.out)
+          c.loop-taken.framer c.serve_read.new.framer c.loop-taken.taken c.in-Ok-Some.count reads.0
+          c.loop-taken.invariant.reached reads.1.0 reads.1.1.0 reads.1.1.1.1.1.0 reads.1.1.1.1.1.1;
       limit = omega (arith, reads.1.1.1.1.0, c.min-most.ensures, length-take {A = ℕ});
       later_read = omega (arith, c.loop-taken.invariant.later_read, c.serve_read.ensures.later_read);
       appended = appends_some_more (g.K.Sink.written c.args.out.now) (g.K.Sink.written c.loop-taken.out) (g.K.Sink.written c.serve_read.new.out)
-        c.loop-taken.invariant.appended c.serve_read.ensures.appended;
+          c.loop-taken.invariant.appended c.serve_read.ensures.appended;
       later_write = omega (arith, c.loop-taken.invariant.later_write, c.serve_read.ensures.later_write);
     }
 

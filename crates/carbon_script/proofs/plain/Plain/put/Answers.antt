@@ -15,8 +15,8 @@ returns c =
     let entered = c.in_ok-enter_put.ensures in
     acts_put c.args.self.now c.enter_put.new.self (seen c.args.datum) c.in-Some.end (record {
       classes = subst (λ (classes : List Metrics). PutsInClass c.args.self.now.classes classes c.args.datum.path c.args.datum.time c.args.datum.value (put_of c.in-Some.end))
-        (sym entered.classes)
-        (subst (λ (put : Put). PutsInClass c.args.self.now.classes c.put-put.new.self c.args.datum.path c.args.datum.time c.args.datum.value put)
+          (sym entered.classes)
+          (subst (λ (put : Put). PutsInClass c.args.self.now.classes c.put-put.new.self c.args.datum.path c.args.datum.time c.args.datum.value put)
           c.in-Some.ensures put);
       clock = entered.clock;
       counts = entered.counts;
