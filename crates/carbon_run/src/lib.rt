@@ -4,6 +4,8 @@
 mod report;
 mod scripts;
 mod telling;
+#[cfg(test)]
+mod tests;
 mod top;
 
 pub use report::Report;
