@@ -1,17 +1,23 @@
 -- What a line of a script says.
-use Rattle.std.specs.Prelude.{ℕ, ◌+◌, ◌==◌, Bool, ◌&&◌, ◌||◌, not, nat_le, List, Option, Some, None, if◌then◌else◌, length, take, drop, position, codes, option_map, option_and_then}
+use Rattle.std.specs.Prelude.{ℕ, ◌+◌, ◌==◌, Bool, ◌&&◌, ◌||◌, not, nat_le, List, Option, Some, None, Result, Ok, Err, if◌then◌else◌, length, take, drop, position, codes, option_map, option_and_then}
 use Rattle.std.specs.List.{starts_with, list_any}
 use Rattle.std.specs.Prelude.{nat_eq}
 use Rattle.fixed_num.specs.Whole.{whole_number}
+use Rattle.metric_path.specs.declared.path.PathFault.{PathFault}
 use Rattle.metric_path.specs.Path.{legal_path}
 use Rattle.metric_line.specs.Moment.{legal_moment, greatest_moment}
-use Rattle.metric_line.specs.MetricLine.{Point, path_read, plain_point, ten_digits}
+use Rattle.metric_line.specs.declared.fault.LineFault.{LineFault}
+use Rattle.metric_line.specs.LineDatum.{datum_of}
+use Rattle.metric_line.specs.Point.{Point}
 use Rattle.line_frame.specs.Lines.{Line, Whole, TooLong}
 use Rattle.carbon_model.specs.declared.question.Question.{Question}
 
--- a line is a point, sets the clock, asks, or is none of these
+-- A line is a metric line, with its point or the reason why it is refused, or too long to be read; or it sets the clock, asks, or
+-- is an unknown command.
 pub data Command : Type 0 where
   Metric : Point → Command
+  Refused : LineFault → Command
+  Long : Command
   Clock : ℕ → Command
   Ask : Question → Command
   Bad : Command
@@ -47,9 +53,18 @@ cut_at_ampersand text = option_map (λ k. (take k text, drop (k + 1) text)) (pos
 abbrev pub is_form_byte : ℕ → Bool
 is_form_byte b = b == 37 || (b == 38 || (b == 43 || b == 61))
 
+-- the path that was read, if one was
+abbrev pub path_read : Result (List ℕ) PathFault → Option (List ℕ)
+path_read (Ok path) = Some path
+path_read (Err fault) = None
+
 -- a legal path without such bytes
 unfoldable pub form_path : List ℕ → Option (List ℕ)
 form_path text = if list_any is_form_byte text then None else path_read (legal_path text)
+
+-- a number of ten digits, whatever it is
+abbrev pub ten_digits : List ℕ → Option ℕ
+ten_digits text = if length text == 10 then whole_number text else None
 
 -- ten digits that are no later than the last legal moment
 unfoldable pub form_moment : List ℕ → Option ℕ
@@ -95,11 +110,11 @@ command_in line = clock_or (set_clock line) (ask_or_bad (asked line))
 abbrev pub is_command : List ℕ → Bool
 is_command line = starts_with nat_eq line (codes "!")
 
-abbrev pub metric_or_bad : Option Point → Command
-metric_or_bad (Some p) = Metric p
-metric_or_bad None = Bad
+abbrev pub metric_or_refused : Result Point LineFault → Command
+metric_or_refused (Ok p) = Metric p
+metric_or_refused (Err fault) = Refused fault
 
--- what a line says; a line that is too long says nothing that is known
-abbrev pub command_of : Line → Command
-command_of (Whole line) = if is_command line then command_in line else metric_or_bad (plain_point line)
-command_of TooLong = Bad
+-- what a line says while the clock stands at a moment
+abbrev pub command_of : Line → ℕ → Command
+command_of (Whole line) now = if is_command line then command_in line else metric_or_refused (datum_of line now)
+command_of TooLong now = Long

@@ -2,7 +2,7 @@
 use Rattle.std.specs.Prelude.{◌≡◌, ℕ, ◌+◌, ◌==◌, Bool, true, false, max, List, [], ◌∷◌, ◌++◌, fold, codes, decimal, count_by, if◌then◌else◌}
 use Rattle.line_frame.specs.Lines.{Line, lines}
 use Rattle.line_frame.specs.Machine.{Runs}
-use Rattle.metric_line.specs.MetricLine.{Point}
+use Rattle.metric_line.specs.Point.{Point}
 use Rattle.carbon_history.specs.declared.entry.Entry.{Entry}
 use Rattle.carbon_history.specs.declared.entry.Entry.TheVariants as entry
 use Rattle.carbon_history.specs.declared.entry.PutEnd.{PutEnd}
@@ -10,10 +10,10 @@ use Rattle.carbon_model.specs.State.{State, nothing_pending, points_in}
 use Rattle.carbon_model.specs.Replay.{IsLegal, after}
 use Rattle.carbon_model.specs.Window.{window}
 use Rattle.carbon_model.specs.Answer.{answer_text}
-use Rattle.carbon_model.specs.Command.{Command, Metric, Clock, Ask, Bad, command_of}
+use Rattle.carbon_model.specs.Command.{Command, Metric, Refused, Long, Clock, Ask, Bad, command_of}
 use Rattle.carbon_model.specs.declared.counts.Counts.{Counts}
 use Rattle.carbon_model.specs.declared.question.Question.{Question}
-use Rattle.carbon_model.specs.Counts.{no_counts, counted}
+use Rattle.carbon_model.specs.Counts.{no_counts, counted, refused, overlong}
 
 -- where a script stands: the state, its clock, its counts, and the entries that it made
 pub record Machine : Type 0 where
@@ -55,19 +55,22 @@ bad_command = codes "bad command\n"
 abbrev pub reply_text : Machine → Question → List ℕ
 reply_text m q = answer_text q.path (points_in m.state q.path) (window m.clock q.from q.until) ++ codes "\n"
 
--- What a script may do at a command, and what it writes. A point is put as the history allows; a question is one entry and is answered.
+-- What a script may do at a command, and what it writes. A point is put as the history allows, a line that is refused or too long is
+-- counted, and a question is one entry and is answered.
 abbrev pub Does : Machine → Command → Machine → List ℕ → Type 0
 Does m (Metric point) next said =
     (end : PutEnd) × (IsLegal m.state (put_entry point end)
     × (next ≡ record { state = after m.state (put_entry point end); clock = m.clock; counts = counted m.counts end; entries = m.entries ++ put_entry point end ∷ [] })
     × (said ≡ []))
+Does m (Refused fault) next said = (next ≡ record { state = m.state; clock = m.clock; counts = refused m.counts fault; entries = m.entries }) × (said ≡ [])
+Does m Long next said = (next ≡ record { state = m.state; clock = m.clock; counts = overlong m.counts; entries = m.entries }) × (said ≡ [])
 Does m (Clock t) next said = (next ≡ record { state = m.state; clock = t; counts = m.counts; entries = m.entries }) × (said ≡ [])
 Does m (Ask q) next said =
     (next ≡ record { state = m.state; clock = m.clock; counts = m.counts; entries = m.entries ++ ask_entry m ∷ [] }) × (said ≡ reply_text m q)
 Does m Bad next said = (next ≡ m) × (said ≡ bad_command)
 
 abbrev pub Steps : Machine → Line → Machine → List ℕ → Type 0
-Steps m line next said = Does m (command_of line) next said
+Steps m line next said = Does m (command_of line m.clock) next said
 
 abbrev pub is_drain : Entry → Bool
 is_drain (entry.Drain pass path now) = true

@@ -1,6 +1,7 @@
 ghost use Rattle.std.specs.Prelude.{◌≡◌};
 
 use carbon_history::PutEnd;
+use metric_line::LineFault;
 
 /// How many metric lines there were of each kind: those that were put by how that ended, and those that were refused by the
 /// reason. A count that has come to 2^64 - 1 stays there.
@@ -25,7 +26,7 @@ pub struct Counts {
 }
 
 impl Counts {
-    ghost use Rattle.carbon_model.specs.Counts.{no_counts, counted};
+    ghost use Rattle.carbon_model.specs.Counts.{no_counts, counted, refused, overlong};
 
     /// No lines.
     pub const fn none() -> Counts
@@ -41,6 +42,26 @@ impl Counts {
             time: 0,
             long: 0,
         }
+    }
+
+    /// Counts a metric line that was refused, by the reason. Want of memory is no reason.
+    pub fn count_refused(&mut self, fault: &LineFault)
+        ensures { self.new ≡ refused self.old fault.now }
+    {
+        match fault {
+            LineFault::Fields(_) => self.fields = self.fields.saturating_add(1),
+            LineFault::Path(_) => self.path = self.path.saturating_add(1),
+            LineFault::Value(_) => self.value = self.value.saturating_add(1),
+            LineFault::Time(_) => self.time = self.time.saturating_add(1),
+            LineFault::NoMemory => {}
+        }
+    }
+
+    /// Counts a line that was too long.
+    pub fn count_long(&mut self)
+        ensures { self.new ≡ overlong self.old }
+    {
+        self.long = self.long.saturating_add(1);
     }
 
     /// Counts a put by how it ended.

@@ -71,7 +71,7 @@ fn worked_examples(rt: HostRuntime) -> Result<(), Fail> {
     let null_point = format!(in alloc;
         "[{{\"target\": \"a.b\", \"datapoints\": [[null, 1700000040]]}}]\n{ONE_POINT_SUMMARY}"
     )?;
-    let table: [(&str, &str); 4] = [
+    let table: [(&str, &str); 5] = [
         ("", NOTHING),
         (ONE_POINT, one_point.as_str()),
         (
@@ -79,6 +79,7 @@ fn worked_examples(rt: HostRuntime) -> Result<(), Fail> {
             null_point.as_str(),
         ),
         ("a.b 7 17000000", NOTHING),
+        ("p 1e-999 1700000000\n", ONE_POINT_SUMMARY),
     ];
     for (input, text) in table {
         assert_run(&rt, alloc, source_of(alloc, input.as_bytes())?, 0, text)?;
@@ -101,24 +102,52 @@ fn points_are_shown_by_bucket_and_time(rt: HostRuntime) -> Result<(), Fail> {
 }
 
 #[test]
-fn other_lines_are_bad_commands(rt: HostRuntime) -> Result<(), Fail> {
+fn refused_lines_are_counted_by_their_reason(rt: HostRuntime) -> Result<(), Fail> {
     let alloc = rt.alloc();
-    let bad: [&[u8]; 16] = [
-        b"",
-        b"a.b 1",
-        b"a..b 1 1700000000",
-        b"a.b nan 1700000000",
-        b"a.b  1 1700000000",
-        b"a.b 1 1700000000\r",
-        b"a.b 1 170000000",
-        b"a.b 1 9999999999",
-        b"a.b 1\0 1700000000",
-        b"a.\xc3\xa9 1 1700000000",
+    let mut input = Vec::from_slice(
+        alloc,
+        b"a.b 1\na..b 1 1700000000\na.b nan 1700000000\na.b 1e16 1700000000\n",
+    )?;
+    input.extend_from_slice(vec![in alloc; b'x'; 16_385]?.as_slice())?;
+    input.extend_from_slice(b"\na.b 1 1700000000\n")?;
+    let text = "stored 1 replaced 0 full 0 fields 1 path 1 value 2 time 0 long 1 drains 0\n";
+    for cut in [1, 7, 61, 62, 63, 4_096, 16_446, 16_447, 16_448] {
+        let mut cuts = Vec::new(alloc);
+        cuts.push(cut)?;
+        let source = MemSource::new(alloc, input.clone()?).cut_at(cuts);
+        assert_run(&rt, alloc, source, 0, text)?;
+    }
+    assert_run(&rt, alloc, MemSource::new(alloc, input).at_most(1), 0, text)?;
+    Ok(())
+}
+
+#[test]
+fn real_senders_are_understood(rt: HostRuntime) -> Result<(), Fail> {
+    let alloc = rt.alloc();
+    let input = "servers.web01.loadavg.01 0.425999 1700000000\r\n!clock 1700000030\n\
+        \t a.b \t 25e-1  -1 \r\na.b -1e-4 1700000000.9\n\
+        !ask target=servers.web01.loadavg.01&from=1699999930&until=1700000030\n\
+        !ask target=a.b&from=1699999930&until=1700000030\n";
+    let text =
+        "[{\"target\": \"servers.web01.loadavg.01\", \"datapoints\": [[0.425, 1699999980]]}]\n\
+        [{\"target\": \"a.b\", \"datapoints\": [[2.5, 1699999980]]}]\n\
+        stored 3 replaced 0 full 0 fields 0 path 0 value 0 time 0 long 0 drains 0\n";
+    assert_run(&rt, alloc, source_of(alloc, input.as_bytes())?, 0, text)?;
+    Ok(())
+}
+
+#[test]
+fn unknown_commands_are_answered_and_passed(rt: HostRuntime) -> Result<(), Fail> {
+    let alloc = rt.alloc();
+    let bad: [&[u8]; 9] = [
+        b"!",
         b"!clock 1",
         b"!clock 1700000000 ",
+        b"!clock 1700000000\r",
         b"!stop",
         b"!ask target=a.b&from=1700000001&until=1700000000",
         b"!ask target=a%2eb&from=1700000000&until=1700000001",
+        b"!ask target=a..b&from=1700000000&until=1700000001",
         b"!ask target=a.b",
     ];
     for line in bad {
@@ -132,22 +161,58 @@ fn other_lines_are_bad_commands(rt: HostRuntime) -> Result<(), Fail> {
 }
 
 #[test]
-fn long_lines_are_bad_commands(rt: HostRuntime) -> Result<(), Fail> {
+fn hostile_lines_change_nothing_but_their_count(rt: HostRuntime) -> Result<(), Fail> {
     let alloc = rt.alloc();
-    let text = format!(in alloc; "bad command\n{ONE_POINT_GRAPH}{ONE_POINT_SUMMARY}")?;
-    for length in [16_384usize, 16_385] {
-        for byte in [0u8, b'x', b'!'] {
-            let mut input = vec![in alloc; byte; length]?;
-            input.push(b'\n')?;
-            input.extend_from_slice(ONE_POINT.as_bytes())?;
-            assert_run(
-                &rt,
-                alloc,
-                MemSource::new(alloc, input).at_most(1000),
-                0,
-                text.as_str(),
-            )?;
-        }
+    let table: [(u8, usize, &[u8], &str); 8] = [
+        (0, 16_384, b"", "fields 1 path 0 value 0 time 0 long 0"),
+        (0, 16_385, b"", "fields 0 path 0 value 0 time 0 long 1"),
+        (b'!', 16_385, b"", "fields 0 path 0 value 0 time 0 long 1"),
+        (
+            b'p',
+            1025,
+            b" 1 1700000000",
+            "fields 0 path 1 value 0 time 0 long 0",
+        ),
+        (
+            b'p',
+            1,
+            b" 1e999 1700000000",
+            "fields 0 path 0 value 1 time 0 long 0",
+        ),
+        (
+            b'p',
+            1,
+            b" 1e1000 1700000000",
+            "fields 0 path 0 value 1 time 0 long 0",
+        ),
+        (
+            b'p',
+            1,
+            b" 1 99999999999999999999",
+            "fields 0 path 0 value 0 time 1 long 0",
+        ),
+        (
+            0xff,
+            1,
+            b" 1 1700000000",
+            "fields 0 path 1 value 0 time 0 long 0",
+        ),
+    ];
+    for (byte, count, behind, refusals) in table {
+        let mut input = vec![in alloc; byte; count]?;
+        input.extend_from_slice(behind)?;
+        input.push(b'\n')?;
+        input.extend_from_slice(ONE_POINT.as_bytes())?;
+        let text = format!(in alloc;
+            "{ONE_POINT_GRAPH}stored 1 replaced 0 full 0 {refusals} drains 0\n"
+        )?;
+        assert_run(
+            &rt,
+            alloc,
+            MemSource::new(alloc, input).at_most(1000),
+            0,
+            text.as_str(),
+        )?;
     }
     Ok(())
 }

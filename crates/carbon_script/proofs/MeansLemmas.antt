@@ -2,7 +2,7 @@
 use Rattle.std.proofs.Common.{◌≡◌, ◌≢◌, ◌⊎◌, inl, inr, ℕ, ℤ, ◌+◌, ◌<◌, ◌==◌, max, Bool, true, false, List, [], ◌∷◌, ◌++◌, fold, refl, sym, ap, ◌∙◌, subst, arith, if◌then◌else◌, codes}
 use Rattle.std.proofs.lemmas.Bool.Decides.{eqb_tells}
 use Rattle.metric_path.specs.Class.{class_of}
-use Rattle.metric_line.specs.MetricLine.{Point}
+use Rattle.metric_line.specs.Point.{Point}
 use Rattle.point_cache.specs.Points.{has_time}
 use Rattle.point_cache.specs.Pending.{points_of, with_put}
 use Rattle.carbon_history.specs.declared.entry.Entry.{Entry}

@@ -9,8 +9,8 @@ use Rattle.line_frame.proofs.FramingLemmas.{HandsOut-none, HandsOut-all, HandsOu
 use Rattle.line_frame.proofs.MachineLemmas.{Runs-none, Runs-more}
 use Rattle.line_frame.specs.Machine.{Runs}
 use Rattle.outside_io.proofs.Known.{Appends-none, Appends-more, Consumes-none, Consumes-more, Consumes-kept, Consumes-all}
-use Rattle.carbon_model.specs.Command.{Command}
-use Rattle.carbon_model.specs.Script.{Machine, Steps, ScriptRun, summary_text}
+use Rattle.carbon_model.specs.Command.{Command, command_of}
+use Rattle.carbon_model.specs.Script.{Machine, Does, Steps, ScriptRun, summary_text}
 use Rattle.carbon_script.specs.Means.{Means, Acts}
 use Rattle.carbon_script.specs.Standing.{AppendsSome, Serves, ServesCommand, ServesFramed, Standing, GoesOn, Reached, ReadsOn, Reaches, Summarizes, Scripts}
 use Rattle.carbon_script.specs.declared.serve.Reach.TheVariants as reach
@@ -28,6 +28,20 @@ pub serves_silent : (old new : Plain) (command : Command) (written : Option (Lis
 serves_silent old new command written acts machine means =
     let done = acts machine means in
     (done.0, [], (done.1.0, (done.1.1, Appends-none written)))
+
+-- what a line says while the code's clock stands as it does is done
+pub serves_line : (old new : Plain) (line : Line) (command : Command) (before after : Option (List ℕ)) → command ≡ command_of line old.clock
+    → ServesCommand old command before new after → Serves old line before new after
+serves_line old new line command before after says serves machine means =
+    let done = serves machine means in
+    (done.0, done.1, (subst (λ (c : Command). Does machine c done.0 done.1) (says ∙ ap (command_of line) means.clock) done.2.0, done.2.1))
+
+-- the line that was handed out is served
+pub serves_current : (handed : Framed) (framing : Framing) (text : List ℕ) (old new : Plain) (before after : Option (List ℕ)) → handed ≡ framed.Line
+    → framing.current ≡ text ∷ [] → Serves old (Whole text) before new after → ServesFramed handed framing old before new after
+serves_current framed.Line framing text old new before after is current serves =
+    λ bytes here. let same : text ≡ bytes = cc in subst (λ (line : List ℕ). Serves old (Whole line) before new after) same serves
+serves_current framed.TooLong framing text old new before after is current serves = absurd cc
 
 -- nothing was fed and nothing served
 pub goes_none : (f : Framing) (p : Plain) (w : Option (List ℕ)) → GoesOn f p w [] f p w

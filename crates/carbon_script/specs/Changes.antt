@@ -1,7 +1,7 @@
 -- How the code's machine changes at a command, in the code's own words.
 use Rattle.std.specs.Prelude.{◌≡◌, ℕ, ◌+◌, List, [], ◌∷◌, ◌++◌, codes}
 use Rattle.metric_path.specs.Class.{class_of}
-use Rattle.metric_line.specs.MetricLine.{Point}
+use Rattle.metric_line.specs.Point.{Point}
 use Rattle.point_cache.specs.Pending.{points_of}
 use Rattle.carbon_history.specs.declared.entry.Entry.TheVariants as entry
 use Rattle.carbon_history.specs.declared.entry.PutEnd.{PutEnd}

@@ -1,11 +1,15 @@
 use carbon_model::Question;
-use metric_line::Datum;
+use metric_line::{Datum, LineFault};
 
 /// What a line of a script says.
 #[derive(Drop)]
 pub enum Command {
     /// A metric line: a point is put.
     Metric(Datum),
+    /// A metric line that is refused: it is counted by the reason.
+    Refused(LineFault),
+    /// A line that is too long: it is counted.
+    Long,
     /// `!clock N`: the clock is set to this moment, in seconds since the Unix epoch.
     Clock(u32),
     /// `!ask QUERY`: a question.

@@ -2,7 +2,7 @@ ghost use Rattle.std.specs.Prelude.{◌≡◌, ◌≤◌, IfOk, IfSome, true, le
 ghost use Rattle.std.specs.List.{list_any, starts_with};
 ghost use Rattle.fixed_num.specs.Whole.{whole_number};
 ghost use Rattle.line_frame.specs.Lines.{Whole};
-ghost use Rattle.carbon_model.specs.Command.{behind, clock_word, ask_word, from_word, until_word, clock_moment, set_clock, asked, cut_at_ampersand, is_ampersand, is_form_byte, form_path, form_moment, question_of, question_in, command_in, command_of, is_command};
+ghost use Rattle.carbon_model.specs.Command.{behind, clock_word, ask_word, from_word, until_word, clock_moment, set_clock, asked, cut_at_ampersand, ten_digits, is_ampersand, is_form_byte, form_path, form_moment, question_of, question_in, command_in, command_of, is_command};
 ghost use Rattle.metric_line.specs.Moment.{is_moment};
 ghost use Rattle.carbon_script.specs.SeenCommand.{seen_command, IsSound};
 ghost use Rattle.carbon_script.specs.Windows.{IsQuestion};
@@ -10,21 +10,24 @@ ghost use Rattle.carbon_script.specs.Windows.{IsQuestion};
 use crate::command::Command;
 use carbon_model::Question;
 use fixed_num::read_whole;
-use metric_line::{GREATEST_MOMENT, legal_moment, read_plain_line, read_ten_digits};
+use metric_line::{GREATEST_MOMENT, LineFault, legal_moment, read_line};
 use metric_path::{MetricPath, PathFault};
 use std::alloc::{AllocError, Global};
 
-/// Reads a line of a script.
-pub fn read_command(alloc: Global, line: &[u8]) -> Result<Command, AllocError>
-    ensures command { IfOk result (λ command. seen_command command ≡ command_of (Whole line.now)) }
+/// Reads a line of a script, while its clock stands at `now`.
+pub fn read_command(alloc: Global, line: &[u8], now: u32) -> Result<Command, AllocError>
+    requires moment { is_moment now ≡ true }
+    requires bytes { length line.now ≤ 16384 }
+    ensures command { IfOk result (λ command. seen_command command ≡ command_of (Whole line.now) now) }
     ensures sound { IfOk result IsSound }
 {
     if is_command(line) {
         return read_command_in(alloc, line);
     }
-    match read_plain_line(alloc, line)? {
-        Some(datum) => Ok(Command::Metric(datum)),
-        None => Ok(Command::Bad),
+    match read_line(alloc, line, now) {
+        Ok(datum) => Ok(Command::Metric(datum)),
+        Err(LineFault::NoMemory) => Err(AllocError),
+        Err(fault) => Ok(Command::Refused(fault)),
     }
 }
 
@@ -155,6 +158,13 @@ fn read_form_path(alloc: Global, text: &[u8]) -> Result<Option<MetricPath>, Allo
         Err(PathFault::NoMemory) => Err(AllocError),
         Err(_) => Ok(None),
     }
+}
+
+/// Reads a number of ten digits.
+fn read_ten_digits(text: &[u8]) -> Option<u64>
+    ensures { result ≡ ten_digits text.now }
+{
+    if text.len() == 10 { read_whole(text) } else { None }
 }
 
 fn has_form_byte(text: &[u8]) -> bool

@@ -1,4 +1,5 @@
-ghost use Rattle.std.specs.Prelude.{◌≡◌, ◌≤◌, IfSome};
+ghost use Rattle.std.specs.Prelude.{◌≡◌, ◌≤◌, true, IfSome};
+ghost use Rattle.metric_line.specs.Moment.{is_moment};
 ghost use Rattle.carbon_script.specs.PutEnds.{put_of};
 
 use crate::classes::Classes;
@@ -6,7 +7,7 @@ use crate::reply::push_answer;
 use crate::window::window_of;
 use carbon_history::{Entry, History, PutEnd};
 use carbon_model::{Counts, Question};
-use metric_line::Datum;
+use metric_line::{Datum, LineFault};
 use point_cache::Put;
 use std::alloc::{AllocError, Global};
 
@@ -25,14 +26,14 @@ pub struct Plain {
     history: History,
     asks: u64,
     ghost told: { clock ≤ 4000000000 },
+    ghost legal: { is_moment clock ≡ true },
 }
 
 impl Plain {
     ghost use Rattle.std.specs.Prelude.{◌≡◌, ◌++◌, ◌∷◌, [], true, IfOk, OnOk};
     ghost use Rattle.metric_line.specs.Seen.{seen};
-    ghost use Rattle.metric_line.specs.Moment.{is_moment};
     ghost use Rattle.carbon_model.specs.Script.{opening};
-    ghost use Rattle.carbon_model.specs.Command.{Command, Metric, Clock, Ask};
+    ghost use Rattle.carbon_model.specs.Command.{Command, Metric, Refused, Long, Clock, Ask};
     ghost use Rattle.carbon_script.specs.Means.{Means, Acts};
     ghost use Rattle.carbon_script.specs.Changes.{Counts as CountsPut, Asks, reply_of};
     ghost use Rattle.carbon_script.specs.Windows.{IsQuestion};
@@ -56,6 +57,28 @@ impl Plain {
         ensures { Acts self.old (Clock moment) [] self.new }
     {
         self.clock = moment;
+    }
+
+    /// The moment of the clock, in seconds since the Unix epoch.
+    pub fn clock(&self) -> u32
+        ensures clock { result ≡ self.now.clock }
+        ensures legal { is_moment result ≡ true }
+    {
+        self.clock
+    }
+
+    /// Counts a metric line that was refused, by the reason.
+    pub fn refuse(&mut self, fault: &LineFault)
+        ensures { Acts self.old (Refused fault.now) [] self.new }
+    {
+        self.counts.count_refused(fault);
+    }
+
+    /// Counts a line that was too long.
+    pub fn pass_over_long_line(&mut self)
+        ensures { Acts self.old Long [] self.new }
+    {
+        self.counts.count_long();
     }
 
     /// Puts the point of a metric line.

@@ -213,7 +213,7 @@ fn serve_framed<K: Sink>(
 {
     match framed {
         Framed::Line => serve_line(plain, alloc, framer.line(), out),
-        Framed::TooLong => serve_command(plain, alloc, Command::Bad, out),
+        Framed::TooLong => serve_command(plain, alloc, Command::Long, out),
     }
 }
 
@@ -224,13 +224,14 @@ fn serve_line<K: Sink>(
     line: &[u8],
     out: &mut K,
 ) -> Result<(), Stop>
+    requires { length line.now ≤ 16384 }
     ensures serves { OnOk result (Serves plain.old (Whole line.now) (K.written out.old) plain.new (K.written out.new)) }
     ensures later { K.write_faults out.old ≤ K.write_faults out.new }
     ensures appended { AppendsSome (K.written out.old) (K.written out.new) }
     ensures cause { result ≡ Err Stop.WriteFault → Rose (K.write_faults out.old) (K.write_faults out.new) }
     ensures writes { result ≢ Err Stop.ReadFault }
 {
-    let Ok(command) = read_command(alloc, line) else {
+    let Ok(command) = read_command(alloc, line, plain.clock()) else {
         return Err(Stop::NoMemory);
     };
     serve_command(plain, alloc, command, out)
@@ -256,6 +257,14 @@ fn serve_command<K: Sink>(
             Ok(()) => Ok(()),
             Err(_) => Err(Stop::NoMemory),
         },
+        Command::Refused(fault) => {
+            plain.refuse(&fault);
+            Ok(())
+        }
+        Command::Long => {
+            plain.pass_over_long_line();
+            Ok(())
+        }
         Command::Clock(moment) => {
             plain.set_clock(moment);
             Ok(())

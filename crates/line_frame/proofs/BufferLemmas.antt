@@ -55,6 +55,7 @@ IsLaidOut-take_open buffer piece after at open_start kept current held clean roo
       unended = subst HasNoLf (sym (behind buffer piece after open_start kept held.within is)) (clean-append (drop open_start buffer) (take kept piece) held.unended (clean-take kept piece clean));
       short = omega (arith, held.short, held.within);
       readable = subst (λ (l : List ℕ). ForSome current (λ place. (place.0 ≤ place.1) × (place.1 ≤ length l))) (sym is) (readable-append buffer (take kept piece) current held.readable);
+      readable_line = held.readable_line;
     }
 
 pub Feeds-take_open : (buffer piece after : List ℕ) (at open_start kept : ℕ) (current : Option (ℕ × ℕ)) → IsLaidOut buffer at open_start current → HasNoLf piece
@@ -135,6 +136,7 @@ IsLaidOut-take_lines buffer piece after at open_start start last kept current he
       unended = subst HasNoLf (sym (open_behind buffer piece after start last kept (omega (arith, lf.place)) is begins')) (clean-take (kept - (last + 1)) (drop (last + 1) piece) lf.later);
       short = omega (arith, lf.place);
       readable = subst (λ (l : List ℕ). ForSome current (λ place. (place.0 ≤ place.1) × (place.1 ≤ length l))) (sym is) (readable-append buffer (take kept piece) current held.readable);
+      readable_line = held.readable_line;
     }
 
 pub Feeds-take_lines : (buffer piece after : List ℕ) (at open_start start last kept : ℕ) (current : Option (ℕ × ℕ)) → IsLaidOut buffer at open_start current → IsLastLf piece last
@@ -187,8 +189,9 @@ length-range buffer at open_start ordered within = omega (arith, length-take (op
 
 pub IsLaidOut-next : (buffer : List ℕ) (at open_start len : ℕ) (old current : Option (ℕ × ℕ)) → IsLaidOut buffer at open_start old
     → NoneBefore (Passes (is_byte 10) (slice_range buffer at open_start)) 0 (length (slice_range buffer at open_start)) len × Passes (is_byte 10) (slice_range buffer at open_start) len
-    → ForSome current (λ place. (place.0 ≤ place.1) × (place.1 ≤ at + len)) → IsLaidOut buffer (at + len + 1) open_start current
-IsLaidOut-next buffer at open_start len old current held first readable =
+    → ForSome current (λ place. (place.0 ≤ place.1) × (place.1 ≤ at + len)) → ForSome current (λ place. place.1 ≤ place.0 + most_line_bytes)
+    → IsLaidOut buffer (at + len + 1) open_start current
+IsLaidOut-next buffer at open_start len old current held first readable readable_line =
     let within : len < open_start - at = subst (λ (n : ℕ). len < n) (length-range buffer at open_start held.ordered held.within) first.0.high in
     let line = first_line (slice_range buffer at open_start) len first in
     record {
@@ -199,6 +202,7 @@ IsLaidOut-next buffer at open_start len old current held first readable =
       unended = held.unended;
       short = held.short;
       readable = λ place is. let r = readable place is in (r.0, omega (arith, r.1, held.within));
+      readable_line = readable_line;
     }
 
 pub lines-next : (buffer : List ℕ) (at open_start len : ℕ) → at ≤ open_start → open_start ≤ length buffer

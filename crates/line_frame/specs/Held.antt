@@ -37,3 +37,4 @@ pub record IsLaidOut (buffer : List ℕ) (at open_start : ℕ) (current : Option
   pub unended : HasNoLf (drop open_start buffer)
   pub short : length buffer ≤ open_start + (most_line_bytes + 1)
   pub readable : ForSome current (λ place. (place.0 ≤ place.1) × (place.1 ≤ length buffer))
+  pub readable_line : ForSome current (λ place. place.1 ≤ place.0 + most_line_bytes)

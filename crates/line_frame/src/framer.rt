@@ -42,8 +42,8 @@ impl Model for Framer {
 }
 
 impl Framer {
-    ghost use Rattle.std.specs.Prelude.{◌≡◌, ◌≢◌, [], ◌∷◌, OnOk, OnErr};
-    ghost use Rattle.line_frame.specs.Lines.{Whole};
+    ghost use Rattle.std.specs.Prelude.{◌≡◌, ◌≢◌, ◌≤◌, [], ◌∷◌, length, OnOk, OnErr};
+    ghost use Rattle.line_frame.specs.Lines.{Whole, most_line_bytes};
     ghost use Rattle.line_frame.specs.Held.{HasNoLf, IsLastLf};
     ghost use Rattle.line_frame.specs.Calls.{Feeds, HandsNext};
 
@@ -136,7 +136,8 @@ impl Framer {
     /// The line that [`Framer::next_line`] handed out last.
     pub fn line(&self) -> &[u8]
         requires { self.now.current ≢ [] }
-        ensures { self.now.current ≡ result.now ∷ [] }
+        ensures line { self.now.current ≡ result.now ∷ [] }
+        ensures short { length result.now ≤ most_line_bytes }
     {
         match self.current {
             Some((start, end)) => &self.buffer[start..end],

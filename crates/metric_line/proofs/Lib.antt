@@ -1,0 +1,4 @@
+pub mod FieldLemmas
+pub mod LawLemmas
+pub mod LineLemmas
+pub mod StampLemmas

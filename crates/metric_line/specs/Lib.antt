@@ -1,3 +1,7 @@
 pub mod Moment
-pub mod MetricLine
+pub mod Point
 pub mod Seen
+pub mod LineFields
+pub mod Stamp
+pub mod LineDatum
+pub mod LineLaws

@@ -2,9 +2,21 @@
 #![tactic(auto)]
 
 mod datum;
+mod fault;
+mod fields;
+mod laws;
+mod line;
 mod moment;
-mod plain;
+mod stamp;
 
 pub use datum::Datum;
+pub use fault::LineFault;
+pub use laws::{
+    only_minus_one_depends_on_now, refusals_do_not_depend_on_now, want_of_memory_is_no_fault,
+};
+pub use line::read_line;
 pub use moment::{GREATEST_MOMENT, LEAST_MOMENT, legal_moment};
-pub use plain::{read_plain_line, read_ten_digits};
+pub use stamp::StampFault;
+
+#[cfg(test)]
+mod tests;

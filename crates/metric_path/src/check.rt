@@ -11,7 +11,7 @@ const MOST_PATH_BYTES: usize = 1024;
 const MOST_NODE_BYTES: usize = 240;
 
 /// The first fault of a text as a path, with `None` for a legal path.
-pub(crate) fn fault_of(text: &[u8]) -> Option<PathFault>
+pub fn fault_of(text: &[u8]) -> Option<PathFault>
     ensures { result ≡ path_fault text.now }
 {
     if has_legal_nodes(text) {

@@ -1,10 +1,13 @@
-use Rattle.std.proofs.Common.{OnOk, subst}
-use Rattle.carbon_model.specs.Command.{Command}
-use Rattle.carbon_script.specs.Standing.{ServesCommand}
+use Rattle.std.proofs.Common.{◌∙◌, ap}
+use Rattle.carbon_model.specs.Command.{command_of}
+use Rattle.line_frame.specs.Lines.{Whole}
+use Rattle.carbon_script.specs.SeenCommand.{seen_command}
+use Rattle.carbon_script.proofs.StandingLemmas.{on_ok_more, serves_line}
 use Rattle.carbon_script.proofs.serve.serve_line.Goals as goal
 
 pub returns-clause-serves : goal.returns-clause-serves
 returns-clause-serves g c =
-    subst (λ (command : Command). OnOk c.serve_command.result
-    (ServesCommand c.args.plain.now command (g.K.Sink.written c.args.out.now) c.serve_command.new.plain (g.K.Sink.written c.serve_command.new.out)))
-    c.in-Ok.ensures.command c.serve_command.ensures.serves
+    on_ok_more c.serve_command.result _ _ c.serve_command.ensures.serves
+    (serves_line c.args.plain.now c.serve_command.new.plain (Whole c.args.line.now) (seen_command c.in-Ok.command)
+      (g.K.Sink.written c.args.out.now) (g.K.Sink.written c.serve_command.new.out)
+      (c.in-Ok.ensures.command ∙ ap (command_of (Whole c.args.line.now)) c.clock.ensures.clock))

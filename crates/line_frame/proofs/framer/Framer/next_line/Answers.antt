@@ -11,7 +11,7 @@ unreachable-requires c =
 
 pub invariant_of-self-then-len-gt-MOST_LINE_BYTES : goal.invariant_of-self-then-len-gt-MOST_LINE_BYTES
 invariant_of-self-then-len-gt-MOST_LINE_BYTES c =
-    let first = rw c.deref.ensures.value at c.in-Some.ensures in IsLaidOut-next _ _ _ _ _ _ c.self.invariant first (λ place is. absurd cc)
+    let first = rw c.deref.ensures.value at c.in-Some.ensures in IsLaidOut-next _ _ _ _ _ _ c.self.invariant first (λ place is. absurd cc) (λ place is. absurd cc)
 
 pub returns-then-len-gt-MOST_LINE_BYTES-clause-next : goal.returns-then-len-gt-MOST_LINE_BYTES-clause-next
 returns-then-len-gt-MOST_LINE_BYTES-clause-next c =
@@ -22,7 +22,7 @@ returns-then-len-gt-MOST_LINE_BYTES-clause-next c =
 
 pub invariant_of-self-2 : goal.invariant_of-self-2
 invariant_of-self-2 c =
-    let first = rw c.deref.ensures.value at c.in-Some.ensures in IsLaidOut-next _ _ _ _ _ _ c.self.invariant first (search rules)
+    let first = rw c.deref.ensures.value at c.in-Some.ensures in IsLaidOut-next _ _ _ _ _ _ c.self.invariant first (search rules) (search rules)
 
 pub returns-clause-next : goal.returns-clause-next
 returns-clause-next c =

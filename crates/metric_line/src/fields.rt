@@ -1,0 +1,89 @@
+//! The fields of a metric line, which blanks separate.
+
+ghost use Rattle.std.specs.Prelude.{◌≡◌, ◌≢◌, ◌+◌, ◌<◌, ◌≤◌, [], ◌∷◌, false, MatchOption, drop, length, not, position};
+ghost use Rattle.std.specs.List.{position_or_len};
+ghost use Rattle.metric_line.specs.LineFields.{fields_of, is_blank};
+
+/// The fields of a line that has three.
+#[derive(Clone, Copy)]
+pub(crate) struct Fields<'a> {
+    pub(crate) path: &'a [u8],
+    pub(crate) value: &'a [u8],
+    pub(crate) time: &'a [u8],
+}
+
+/// The fields of a line: `None` exactly where it has not three.
+pub(crate) fn three_fields(line: &[u8]) -> Option<Fields<'_>>
+    ensures { MatchOption result (length (fields_of line.now) ≢ 3) (λ fields.
+        fields_of line.now ≡ fields.path.now ∷ fields.value.now ∷ fields.time.now ∷ []) }
+{
+    let (path, others) = next_field(line)?;
+    let (value, others) = next_field(others)?;
+    let (time, others) = next_field(others)?;
+    match next_field(others) {
+        None => Some(Fields { path, value, time }),
+        Some(_) => None,
+    }
+}
+
+/// How many fields a line has.
+pub(crate) fn count_fields(line: &[u8]) -> usize
+    ensures value { result ≡ length (fields_of line.now) }
+    ensures most { result ≤ length line.now + 1 }
+{
+    line.split(|b| is_blank(*b))
+        .filter(|piece| piece.len() > 0)
+        .count()
+}
+
+// The first field of a text and what follows it: `None` exactly where the text has no field.
+fn next_field(text: &[u8]) -> Option<(&[u8], &[u8])>
+    ensures { MatchOption result (fields_of text.now ≡ []) (λ parts. fields_of text.now ≡ parts.0.now ∷ fields_of parts.1.now) }
+{
+    let text = from_field(text);
+    if text.is_empty() {
+        return None;
+    }
+    Some(text.split_at(field_len(text)))
+}
+
+// A text without the blanks at its front.
+fn from_field(text: &[u8]) -> &[u8]
+    ensures fields { fields_of result.now ≡ fields_of text.now }
+    ensures front { 0 < length result.now → 0 < position_or_len is_blank result.now }
+{
+    &text[field_start(text)..]
+}
+
+fn field_start(text: &[u8]) -> usize
+    ensures place { result ≡ position_or_len (λ b. not (is_blank b)) text.now }
+    ensures within { result ≤ length text.now }
+{
+    no_blank_in(text).unwrap_or(text.len())
+}
+
+fn no_blank_in(text: &[u8]) -> Option<usize>
+    ensures { result ≡ position (λ b. not (is_blank b)) text.now }
+{
+    text.iter().position(|b| !is_blank(*b))
+}
+
+fn field_len(text: &[u8]) -> usize
+    ensures place { result ≡ position_or_len is_blank text.now }
+    ensures within { result ≤ length text.now }
+{
+    blank_in(text).unwrap_or(text.len())
+}
+
+fn blank_in(text: &[u8]) -> Option<usize>
+    ensures { result ≡ position is_blank text.now }
+{
+    text.iter().position(|b| is_blank(*b))
+}
+
+#[tactic(auto, unfolding(crate::specs::LineFields::is_blank))]
+fn is_blank(b: u8) -> bool
+    ensures { result ≡ is_blank b }
+{
+    matches!(b, b'\t' | 0x0B | 0x0C | b'\r' | b' ')
+}

@@ -1,0 +1,115 @@
+//! The time of a metric line.
+
+ghost use Rattle.std.specs.Prelude.{◌≡◌, ◌≤◌, ◌-◌, ◌^◌, true, min, IfOk, IfSome, length, option_map, position};
+ghost use Rattle.std.specs.List.{list_all, position_or_len};
+ghost use Rattle.std.specs.Char.{is_ascii_digit};
+ghost use Rattle.std.specs.Str.Parse.{digits_value};
+ghost use Rattle.fixed_num.specs.Decimal.{is_point};
+ghost use Rattle.metric_line.specs.Moment.{is_moment};
+ghost use Rattle.metric_line.specs.Stamp.{is_cut_time, is_digits, is_now, moment_result, stamp_of, whole_digits};
+
+use crate::legal_moment;
+
+/// Why a text is not read as a time.
+#[derive(Clone, Copy, Debug, PartialEq, Eq)]
+pub enum StampFault {
+    /// The text is neither `-1` nor digits with an optional point and digits behind it.
+    NotNumber,
+    /// The text is a number of seconds that is no legal moment.
+    OutOfRange,
+}
+
+/// Reads the time of a metric line in seconds since the Unix epoch: `-1` is `now`, and else the text is digits and optionally a
+/// point and digits behind it, whose fraction is cut.
+///
+/// # Errors
+///
+/// `NotNumber` where the text has neither form, `OutOfRange` where its whole seconds are no legal moment.
+#[tactic(auto, unfolding(crate::specs::Stamp::stamp_of))]
+pub(crate) fn read_stamp(text: &[u8], now: u32) -> Result<u32, StampFault>
+    requires { is_moment now ≡ true }
+    ensures moment { result ≡ stamp_of text.now now }
+    ensures legal { IfOk result (λ t. is_moment t ≡ true) }
+{
+    if is_now(text) {
+        return Ok(now);
+    }
+    match whole_digits(text) {
+        Some(digits) => moment(digits),
+        None => Err(StampFault::NotNumber),
+    }
+}
+
+fn is_now(text: &[u8]) -> bool
+    ensures { result ≡ is_now text.now }
+{
+    text == b"-1".as_slice()
+}
+
+// The digits before the point of a time: `None` exactly where the text is no time.
+fn whole_digits(text: &[u8]) -> Option<&[u8]>
+    ensures whole { option_map (λ digits. digits.now) result ≡ whole_digits text.now }
+    ensures digits { IfSome result (λ digits. list_all is_ascii_digit digits.now ≡ true) }
+{
+    let (whole, behind) = text.split_at(first_point(text));
+    if !is_cut_time(whole, behind) {
+        return None;
+    }
+    Some(whole)
+}
+
+// Whether a text that is cut at its first point is a time.
+fn is_cut_time(whole: &[u8], behind: &[u8]) -> bool
+    ensures { result ≡ is_cut_time whole.now behind.now }
+{
+    is_digits(whole) && (behind.is_empty() || is_digits(&behind[1..]))
+}
+
+fn is_digits(text: &[u8]) -> bool
+    ensures { result ≡ is_digits text.now }
+{
+    !text.is_empty() && all_digits(text)
+}
+
+fn all_digits(text: &[u8]) -> bool
+    ensures { result ≡ list_all is_ascii_digit text.now }
+{
+    text.iter().all(|b| b.is_ascii_digit())
+}
+
+// The place of the first point, or the text's length.
+fn first_point(text: &[u8]) -> usize
+    ensures place { result ≡ position_or_len is_point text.now }
+    ensures within { result ≤ length text.now }
+{
+    point_in(text).unwrap_or(text.len())
+}
+
+fn point_in(text: &[u8]) -> Option<usize>
+    ensures { result ≡ position is_point text.now }
+{
+    text.iter().position(|b| *b == b'.')
+}
+
+// The moment that digits write, however many there are.
+fn moment(digits: &[u8]) -> Result<u32, StampFault>
+    requires { list_all is_ascii_digit digits.now ≡ true }
+    ensures moment { result ≡ moment_result (digits_value 10 digits.now) }
+    ensures legal { IfOk result (λ t. is_moment t ≡ true) }
+{
+    legal_moment(capped_number(digits)).ok_or(StampFault::OutOfRange)
+}
+
+// The number that digits write, or the greatest number where it is above.
+fn capped_number(digits: &[u8]) -> u64
+    requires { list_all is_ascii_digit digits.now ≡ true }
+    ensures { result ≡ min (digits_value 10 digits.now) (2 ^ 64 - 1) }
+{
+    let mut number: u64 = 0;
+    for digit in digits {
+        number = number
+            .saturating_mul(10)
+            .saturating_add(u64::from(digit - b'0'));
+    }
+    number
+}
