@@ -1,9 +1,8 @@
 -- Lemmas on how the moment of reading bears on a line.
-use Rattle.std.proofs.Common.{◌≡◌, ◌≢◌, ℕ, ℤ, Bool, true, false, List, [], ◌∷◌, length, Option, Some, None, Result, Ok, Err, refl, sym, ap, ◌∙◌, cond, codes, option_map}
+use Rattle.std.proofs.Common.{◌≡◌, ◌≢◌, ℕ, ℤ, Bool, true, false, List, [], ◌∷◌, Option, Some, None, Result, Ok, Err, refl, sym, ap, ◌∙◌, cond, codes, option_map}
 use Rattle.std.specs.Bool.{Decides}
 use Rattle.std.specs.List.{slice_get}
 use Rattle.std.specs.Option.{option_map_or}
-use Rattle.std.specs.Str.{bytes_eq}
 use Rattle.std.specs.Str.Parse.{digits_value}
 use Rattle.std.proofs.lemmas.Slice.Eq.{bytes_eq-Decides}
 use Rattle.fixed_num.specs.declared.NumFault.{NumFault}
@@ -12,12 +11,12 @@ use Rattle.metric_path.specs.declared.path.PathFault.{PathFault}
 use Rattle.metric_path.specs.declared.path.PathFault.TheVariants.{NoMemory as PathNoMemory, Empty, TooLong, EmptyNode, BadByte}
 use Rattle.metric_path.specs.Path.{legal_path, path_fault}
 use Rattle.metric_line.specs.declared.fault.LineFault.{LineFault}
-use Rattle.metric_line.specs.declared.fault.LineFault.TheVariants.{Fields, Path, Value, Time, NoMemory}
+use Rattle.metric_line.specs.declared.fault.LineFault.TheVariants.{Path, Value, Time, NoMemory}
 use Rattle.metric_line.specs.declared.stamp.StampFault.{StampFault}
-use Rattle.metric_line.specs.declared.stamp.StampFault.TheVariants.{NotNumber, OutOfRange}
-use Rattle.metric_line.specs.LineDatum.{datum_of, point_of_fields, point_result, where_read}
+use Rattle.metric_line.specs.declared.stamp.StampFault.TheVariants.{NotNumber}
+use Rattle.metric_line.specs.LineDatum.{point_of_fields, point_result, where_read}
 use Rattle.metric_line.specs.LineFields.{fields_of}
-use Rattle.metric_line.specs.LineLaws.{IsNoWantOfMemory, IsReadAlike, IsRefusedAlways, IsStampedNow, IsStampedOnReading}
+use Rattle.metric_line.specs.LineLaws.{IsNoWantOfMemory, IsReadAlike, IsRefusedAlways, IsStampedNow}
 use Rattle.metric_line.specs.Point.{Point}
 use Rattle.metric_line.specs.Stamp.{is_now, moment_result, stamp_of, whole_digits}
 

@@ -1,10 +1,8 @@
 -- The point of a line by its fields.
-use Rattle.std.proofs.Common.{◌≡◌, ◌≢◌, ℕ, List, [], ◌∷◌, length, Result, Ok, Err, refl, sym, ap, ◌∙◌, arith}
-use Rattle.metric_line.specs.declared.fault.LineFault.{LineFault}
-use Rattle.metric_line.specs.declared.fault.LineFault.TheVariants.{Fields, Path, Value, Time, NoMemory}
+use Rattle.std.proofs.Common.{◌≡◌, ◌≢◌, ℕ, List, [], ◌∷◌, length, Err, refl, sym, ap, ◌∙◌}
+use Rattle.metric_line.specs.declared.fault.LineFault.TheVariants.{Fields}
 use Rattle.metric_line.specs.LineFields.{fields_of}
 use Rattle.metric_line.specs.LineDatum.{datum_of, point_of_fields, point_result}
-use Rattle.metric_line.specs.Point.{Point}
 
 three_fields_point : (path value time : List ℕ) (now : ℕ) → point_of_fields (path ∷ value ∷ time ∷ []) now ≡ point_result path value time now
 unfolding point_of_fields

@@ -1,11 +1,10 @@
 -- A time by its parts before and behind the point.
-use Rattle.std.proofs.Common.{◌≡◌, ℕ, ◌+◌, ◌-◌, ◌<◌, ◌≤◌, Bool, true, false, ◌&&◌, ◌||◌, not, List, [], ◌∷◌, length, take, drop, refl, sym, ap, ◌∙◌, ◌⊎◌, inl, inr, arith, eqb, ltb, Some, None, Option, length-drop}
+use Rattle.std.proofs.Common.{◌≡◌, ℕ, ◌-◌, Bool, true, false, ◌&&◌, ◌||◌, not, List, length, take, drop, refl, sym, ap, ◌∙◌, arith, eqb, ltb, Some, None, length-drop}
 use Rattle.std.specs.List.{list_all, list_any, position_or_len}
 use Rattle.std.specs.Char.{is_ascii_digit}
-use Rattle.std.proofs.lemmas.Bool.{lt-ltb, le-ltb, cases_lt}
 use Rattle.std.proofs.lemmas.Bool.Decides.{nat_tests}
 use Rattle.std.proofs.lemmas.List.{drop-drop}
-use Rattle.fixed_num.specs.Decimal.{is_point, whole_of, fraction_of}
+use Rattle.fixed_num.specs.Decimal.{is_point}
 use Rattle.fixed_num.proofs.GrammarLemmas.{list_any_is}
 use Rattle.metric_line.specs.Stamp.{is_cut_time, is_digits, is_seconds, whole_digits}
 

@@ -1,12 +1,9 @@
 -- The point of a metric line, or the reason why it has none.
-use Rattle.std.specs.Prelude.{ℕ, ℤ, List, [], ◌∷◌, length, Result, Ok, Err}
-use Rattle.fixed_num.specs.declared.NumFault.{NumFault}
+use Rattle.std.specs.Prelude.{ℕ, List, [], ◌∷◌, length, Result, Ok, Err}
 use Rattle.fixed_num.specs.Read.{milli_result}
-use Rattle.metric_path.specs.declared.path.PathFault.{PathFault}
 use Rattle.metric_path.specs.Path.{legal_path}
 use Rattle.metric_line.specs.declared.fault.LineFault.{LineFault}
 use Rattle.metric_line.specs.declared.fault.LineFault.TheVariants.{Fields, Path, Value, Time}
-use Rattle.metric_line.specs.declared.stamp.StampFault.{StampFault}
 use Rattle.metric_line.specs.LineFields.{fields_of}
 use Rattle.metric_line.specs.Point.{Point}
 use Rattle.metric_line.specs.Stamp.{stamp_of}

@@ -1,7 +1,4 @@
-use Rattle.std.proofs.Common.{◌≡◌, List, ℕ, ◌<◌, length, sym, subst, ap, ◌∙◌, drop}
-use Rattle.std.specs.List.{position_or_len}
 use Rattle.std.proofs.lemmas.List.{take_rest}
-use Rattle.metric_line.specs.LineFields.{fields_of, is_blank}
 use Rattle.metric_line.proofs.FieldLemmas.{fields_of-from, front_is_field}
 use Rattle.metric_line.proofs.fields.from_field.Goals as goal
 

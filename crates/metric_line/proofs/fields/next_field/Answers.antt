@@ -1,6 +1,4 @@
-use Rattle.std.proofs.Common.{◌≡◌, ◌∷◌, [], List, ℕ, sym, ap, ◌∙◌, subst, rules, length, take, drop, arith}
-use Rattle.std.specs.List.{position_or_len}
-use Rattle.metric_line.specs.LineFields.{fields_of, is_blank}
+use Rattle.std.proofs.Common.{sym, ◌∙◌, rules}
 use Rattle.metric_line.proofs.FieldLemmas.{fields_of-first, fields_of-none}
 use Rattle.metric_line.proofs.fields.next_field.Goals as goal
 

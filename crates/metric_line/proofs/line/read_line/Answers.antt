@@ -1,4 +1,3 @@
-use Rattle.std.proofs.Common.{◌≡◌}
 use Rattle.metric_line.proofs.LineLemmas.{datum_of_others, datum_of_three}
 use Rattle.metric_line.proofs.line.read_line.Goals as goal
 

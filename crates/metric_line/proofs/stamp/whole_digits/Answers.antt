@@ -1,7 +1,4 @@
-use Rattle.std.proofs.Common.{◌≡◌, ◌∙◌, sym, ap, true, false, List, ℕ, take, drop, subst}
-use Rattle.std.specs.List.{position_or_len}
-use Rattle.fixed_num.specs.Decimal.{is_point}
-use Rattle.metric_line.specs.Stamp.{is_cut_time}
+use Rattle.std.proofs.Common.{◌∙◌, sym}
 use Rattle.metric_line.proofs.StampLemmas.{whole_digits_none, whole_digits_some}
 use Rattle.metric_line.proofs.stamp.whole_digits.Goals as goal
 
