@@ -1,5 +1,5 @@
 -- The text that answers a question, in the JSON of Graphite's render API.
-use Rattle.std.specs.Prelude.{ℕ, ℤ, zero, suc, ◌+◌, List, [], ◌∷◌, ◌++◌, Option, Some, None, codes, decimal}
+use Rattle.std.specs.Prelude.{ℕ, ℤ, zero, suc, List, [], ◌∷◌, ◌++◌, Option, Some, None, codes, decimal}
 use Rattle.fixed_num.specs.Print.{milli_text}
 use Rattle.carbon_model.specs.declared.window.Window.{Window}
 use Rattle.carbon_model.specs.Shown.{value_in, bucket_at}

@@ -1,5 +1,5 @@
 -- What a line of a script says.
-use Rattle.std.specs.Prelude.{ℕ, ◌+◌, ◌==◌, Bool, ◌&&◌, ◌||◌, not, nat_le, List, Option, Some, None, Result, Ok, Err, if◌then◌else◌, length, take, drop, position, codes, option_map, option_and_then}
+use Rattle.std.specs.Prelude.{ℕ, ◌+◌, ◌==◌, Bool, ◌||◌, nat_le, List, Option, Some, None, Result, Ok, Err, if◌then◌else◌, length, take, drop, position, codes, option_map, option_and_then}
 use Rattle.std.specs.List.{starts_with, list_any}
 use Rattle.std.specs.Prelude.{nat_eq}
 use Rattle.fixed_num.specs.Whole.{whole_number}

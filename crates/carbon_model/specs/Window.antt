@@ -1,5 +1,5 @@
 -- The buckets that a question from a moment until a moment asks for.
-use Rattle.std.specs.Prelude.{ℕ, ◌+◌, ◌-◌, ◌*◌, ◌/◌, ◌%◌, Bool, ◌||◌, nat_lt, Option, Some, None, if◌then◌else◌, max, min}
+use Rattle.std.specs.Prelude.{ℕ, ◌+◌, ◌-◌, ◌/◌, ◌%◌, Bool, ◌||◌, nat_lt, Option, Some, None, if◌then◌else◌, max, min}
 use Rattle.carbon_model.specs.declared.window.Window.{Window}
 
 -- every metric has one archive: 10,080 points of 60 seconds each, a week

@@ -111,7 +111,7 @@ fn refused_lines_are_counted_by_their_reason(rt: HostRuntime) -> Result<(), Fail
     input.extend_from_slice(vec![in alloc; b'x'; 16_385]?.as_slice())?;
     input.extend_from_slice(b"\na.b 1 1700000000\n")?;
     let text = "stored 1 replaced 0 full 0 fields 1 path 1 value 2 time 0 long 1 drains 0\n";
-    for cut in [1, 7, 61, 62, 63, 4_096, 16_446, 16_447, 16_448] {
+    for cut in 1..input.len() {
         let mut cuts = Vec::new(alloc);
         cuts.push(cut)?;
         let source = MemSource::new(alloc, input.clone()?).cut_at(cuts);
@@ -241,6 +241,19 @@ fn a_failed_read_is_told(rt: HostRuntime) -> Result<(), Fail> {
         let input = source_of(alloc, ONE_POINT.as_bytes())?.failing(failing);
         assert_run(&rt, alloc, input, 6, text)?;
     }
+    Ok(())
+}
+
+#[test]
+fn a_read_that_fails_on_the_way_is_told(rt: HostRuntime) -> Result<(), Fail> {
+    let alloc = rt.alloc();
+    let mut failing = Vec::new(alloc);
+    failing.push(3)?;
+    let input = format!(in alloc; "!stop\n{ONE_POINT}")?;
+    let source = source_of(alloc, input.as_bytes())?
+        .at_most(10)
+        .failing(failing);
+    assert_run(&rt, alloc, source, 6, "bad command\ncarbon: read fault\n")?;
     Ok(())
 }
 

@@ -1,5 +1,5 @@
 -- What the code's machine stands for after a command.
-use Rattle.std.proofs.Common.{◌≡◌, ◌≢◌, ◌⊎◌, inl, inr, ℕ, ℤ, ◌+◌, ◌<◌, ◌==◌, max, Bool, true, false, List, [], ◌∷◌, ◌++◌, fold, refl, sym, ap, ◌∙◌, subst, arith, if◌then◌else◌, codes}
+use Rattle.std.proofs.Common.{◌≡◌, ◌≢◌, inl, inr, ℕ, ℤ, ◌+◌, ◌<◌, max, List, [], ◌∷◌, ◌++◌, fold, refl, sym, ap, ◌∙◌, subst, arith, codes}
 use Rattle.std.proofs.lemmas.Bool.Decides.{eqb_tells}
 use Rattle.metric_path.specs.Class.{class_of}
 use Rattle.metric_line.specs.Point.{Point}
@@ -10,14 +10,14 @@ use Rattle.carbon_history.specs.declared.entry.Entry.TheVariants as entry
 use Rattle.carbon_history.specs.declared.entry.PutEnd.{PutEnd}
 use Rattle.carbon_history.specs.declared.entry.PutEnd.TheVariants.{Stored, Replaced, Full}
 use Rattle.carbon_model.specs.State.{Metrics, State, with_pending}
-use Rattle.carbon_model.specs.Command.{Command, Metric, Clock, Ask}
+use Rattle.carbon_model.specs.Command.{Metric, Ask}
 use Rattle.carbon_model.specs.Counts.{counted}
 use Rattle.carbon_model.specs.Answer.{answer_text}
 use Rattle.carbon_model.specs.Window.{window}
 use Rattle.carbon_model.specs.declared.question.Question.{Question}
 use Rattle.carbon_model.specs.Replay.{after}
-use Rattle.carbon_model.specs.Script.{Machine, greatest_ask, ask_number, put_entry, ask_entry, reply_text}
-use Rattle.carbon_script.specs.Classes.{class_at, HoldsPending, PutsInClass}
+use Rattle.carbon_model.specs.Script.{Machine, greatest_ask, ask_number, put_entry, ask_entry}
+use Rattle.carbon_script.specs.Classes.{class_at, HoldsPending}
 use Rattle.carbon_script.specs.Means.{Means, Acts}
 use Rattle.carbon_script.specs.Changes.{Enters, Asks, reply_of}
 use Rattle.carbon_script.specs.declared.plain.Plain.{Plain}

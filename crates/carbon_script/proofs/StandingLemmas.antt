@@ -1,6 +1,6 @@
 -- How a script gets on, line by line and piece by piece.
-use Rattle.std.proofs.Common.{◌≡◌, ℕ, ◌+◌, ◌<◌, ◌≤◌, ◌^◌, List, [], ◌∷◌, ◌++◌, Option, Some, None, Result, Ok, Err, OnOk, IfSome, length, refl, sym, ap, ◌∙◌, subst, append-nil, append_assoc, arith, length-append}
-use Rattle.std.specs.Io.KnownBytes.{Appends, Consumes, Keeps, IsAtEnd}
+use Rattle.std.proofs.Common.{◌≡◌, ℕ, ◌+◌, ◌<◌, ◌≤◌, ◌^◌, List, [], ◌∷◌, ◌++◌, Option, Some, None, Result, Ok, Err, OnOk, IfSome, length, refl, sym, ap, ◌∙◌, subst, append-nil, arith, length-append}
+use Rattle.std.specs.Io.KnownBytes.{Appends, Consumes, IsAtEnd}
 use Rattle.line_frame.specs.Lines.{Line, Whole, TooLong, Framing, HandsOut, lines}
 use Rattle.line_frame.specs.Calls.{Feeds, HandsNext}
 use Rattle.line_frame.specs.declared.framer.Framed.{Framed}
@@ -8,10 +8,10 @@ use Rattle.line_frame.specs.declared.framer.Framed.TheVariants as framed
 use Rattle.line_frame.proofs.FramingLemmas.{HandsOut-none, HandsOut-all, HandsOut-more}
 use Rattle.line_frame.proofs.MachineLemmas.{Runs-none, Runs-more}
 use Rattle.line_frame.specs.Machine.{Runs}
-use Rattle.outside_io.proofs.Known.{Appends-none, Appends-more, Consumes-none, Consumes-more, Consumes-kept, Consumes-all}
+use Rattle.outside_io.proofs.Known.{Appends-none, Appends-more, Consumes-none, Consumes-more, Consumes-all}
 use Rattle.carbon_model.specs.Command.{Command, command_of}
-use Rattle.carbon_model.specs.Script.{Machine, Does, Steps, ScriptRun, summary_text}
-use Rattle.carbon_script.specs.Means.{Means, Acts}
+use Rattle.carbon_model.specs.Script.{Does, Steps, ScriptRun, summary_text}
+use Rattle.carbon_script.specs.Means.{Acts}
 use Rattle.carbon_script.specs.Standing.{AppendsSome, Serves, ServesCommand, ServesFramed, Standing, GoesOn, Reached, ReadsOn, Reaches, Summarizes, Scripts}
 use Rattle.carbon_script.specs.declared.serve.Reach.TheVariants as reach
 use Rattle.carbon_script.specs.declared.plain.Plain.{Plain}

@@ -1,5 +1,5 @@
 -- Windows that the code may count in.
-use Rattle.std.specs.Prelude.{◌≡◌, ℕ, ◌+◌, ◌*◌, ◌%◌, ◌^◌, ◌<◌, ◌≤◌}
+use Rattle.std.specs.Prelude.{◌≡◌, ◌+◌, ◌*◌, ◌%◌, ◌^◌, ◌<◌, ◌≤◌}
 use Rattle.carbon_model.specs.declared.window.Window.{Window}
 use Rattle.carbon_model.specs.declared.question.Question.{Question}
 use Rattle.carbon_model.specs.Window.{step_seconds}

@@ -164,7 +164,11 @@ fn read_form_path(alloc: Global, text: &[u8]) -> Result<Option<MetricPath>, Allo
 fn read_ten_digits(text: &[u8]) -> Option<u64>
     ensures { result ≡ ten_digits text.now }
 {
-    if text.len() == 10 { read_whole(text) } else { None }
+    if text.len() == 10 {
+        read_whole(text)
+    } else {
+        None
+    }
 }
 
 fn has_form_byte(text: &[u8]) -> bool

@@ -1,11 +1,11 @@
 -- Lists of metrics with their pending points.
-use Rattle.std.proofs.Common.{◌≡◌, ℕ, ℤ, Bool, true, false, List, [], ◌∷◌, ◌++◌, Option, Some, None, slice_get, position, suc, zero, refl, sym, ap, ◌∙◌, subst, unwrap_or}
+use Rattle.std.proofs.Common.{◌≡◌, ℕ, ℤ, List, [], ◌∷◌, Some, slice_get, position, suc, zero, refl, sym, ap, ◌∙◌, unwrap_or}
 use Rattle.std.specs.Str.{bytes_eq}
-use Rattle.std.specs.Map.{lookup, keys_of, values_of}
+use Rattle.std.specs.Map.{keys_of, values_of}
 use Rattle.indexmap.specs.IndexMap.{insert_entry, set_value_at}
 use Rattle.indexmap.proofs.MapLemmas.{Found-position, insert_entry-first}
 use Rattle.point_cache.specs.Points.{has_time, with_point}
-use Rattle.point_cache.specs.Pending.{points_of, with_put, PutsPoint, Puts}
+use Rattle.point_cache.specs.Pending.{points_of, PutsPoint, Puts}
 use Rattle.point_cache.specs.declared.put.Put.{Put}
 use Rattle.point_cache.specs.declared.put.Put.TheVariants.{Stored, Replaced, Full, NoMemory}
 

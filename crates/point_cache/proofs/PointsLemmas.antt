@@ -1,8 +1,8 @@
 -- Lists of points in rising time.
-use Rattle.std.proofs.Common.{◌≡◌, ◌≢◌, ◌⊎◌, inl, inr, ℕ, ℤ, ◌+◌, ◌<◌, ◌≤◌, ◌==◌, suc, zero, nat_lt, Bool, true, false, cond, List, [], ◌∷◌, ◌++◌, filter, length, take, drop, get_or, set, refl, sym, ap, subst, ◌∙◌, arith, insert, add-one}
+use Rattle.std.proofs.Common.{◌≡◌, ◌≢◌, inl, inr, ℕ, ℤ, ◌+◌, ◌<◌, ◌≤◌, ◌==◌, suc, zero, nat_lt, true, false, List, [], ◌∷◌, filter, length, set, refl, sym, ap, subst, arith, insert}
 use Rattle.std.proofs.lemmas.Bool.{le-ltb, lt-ltb, ltb-true, ltb-false, cases_order}
 use Rattle.std.proofs.lemmas.Bool.Decides.{eqb_tells}
-use Rattle.std.specs.List.{list_any, AllWithin, AllAdjacentBelow}
+use Rattle.std.specs.List.{AllAdjacentBelow}
 use Rattle.std.specs.List.Sorted.{IsPartitionPoint, IsPartitionedBy}
 use Rattle.std.proofs.lemmas.List.Sorted.{IsPartitionedBy-ltb, IsNonDecreasingBy-from_all_adjacent}
 use Rattle.point_cache.specs.Points.{RisesAfter, IsRising, IsPlaceOf, IsPlaceFor, PutsAt, has_time, with_point}

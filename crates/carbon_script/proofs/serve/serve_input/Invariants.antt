@@ -1,4 +1,4 @@
-use Rattle.std.proofs.Common.{◌≡◌, ◌-◌, ◌<◌, ◌≤◌, ◌^◌, length}
+use Rattle.std.proofs.Common.{◌-◌, ◌≤◌, ◌^◌}
 use Rattle.carbon_script.specs.Standing.{AppendsSome, Reached}
 use Rattle.carbon_script.proofs.serve.serve_input.Given as goal
 

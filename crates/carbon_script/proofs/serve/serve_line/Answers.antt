@@ -9,5 +9,5 @@ pub returns-clause-serves : goal.returns-clause-serves
 returns-clause-serves g c =
     on_ok_more c.serve_command.result _ _ c.serve_command.ensures.serves
     (serves_line c.args.plain.now c.serve_command.new.plain (Whole c.args.line.now) (seen_command c.in-Ok.command)
-      (g.K.Sink.written c.args.out.now) (g.K.Sink.written c.serve_command.new.out)
-      (c.in-Ok.ensures.command ∙ ap (command_of (Whole c.args.line.now)) c.clock.ensures.clock))
+    (g.K.Sink.written c.args.out.now) (g.K.Sink.written c.serve_command.new.out)
+    (c.in-Ok.ensures.command ∙ ap (command_of (Whole c.args.line.now)) c.clock.ensures.clock))

@@ -1,4 +1,3 @@
-use Rattle.carbon_script.specs.Standing.{GoesOn}
 use Rattle.carbon_script.proofs.StandingLemmas.{goes_piece, on_ok_more}
 use Rattle.carbon_script.proofs.serve.serve_piece.Goals as goal
 
