@@ -20,7 +20,7 @@ import tempfile
 import time
 
 HERE = os.path.dirname(os.path.abspath(__file__))
-PROGRAM = os.path.join(HERE, "..", "crates", "carbon", "out", "carbon")
+PROGRAM = os.path.abspath(os.path.join(HERE, "..", "crates", "carbon", "out", "carbon"))
 FIRST = 1_700_000_000
 
 
@@ -44,32 +44,42 @@ def longest(lines):
     return b"".join((b"a.b 1 %d" % (FIRST + i)).rjust(16_384, b" ") + b"\n" for i in range(lines))
 
 
-def run(name, text):
-    lines = text.count(b"\n")
-    with tempfile.TemporaryFile() as given, open(os.devnull, "wb") as nowhere:
-        given.write(text)
-        given.seek(0)
+KINDS = {"one path": one_path, "many paths": many_paths, "refused": refused, "long": longest}
+
+
+def run(kind, lines):
+    with tempfile.NamedTemporaryFile() as given, open(os.devnull, "wb") as nowhere:
+        # another process makes the lines, so that the peak of this one's children is theirs
+        subprocess.run([sys.executable, __file__, "--make", kind, str(lines), given.name], check=True)
+        size = os.path.getsize(given.name)
         began = time.monotonic()
         child = subprocess.Popen([PROGRAM, "script"], stdin=given, stdout=nowhere)
         _, status, used = os.wait4(child.pid, 0)
         took = time.monotonic() - began
     if status != 0:
-        sys.exit(f"bench/lines.py: status {status} for {name}")
+        sys.exit(f"bench/lines.py: status {status} for {kind}")
     print(
-        f"{name:12} {lines:>9,} lines {len(text) / 1e6:8.1f} MB {took:7.3f} s"
-        f" {lines / took:>11,.0f} lines/s {len(text) / 1e6 / took:7.0f} MB/s  peak {used.ru_maxrss / 1024:7.1f} MiB"
+        f"{kind:12} {lines:>9,} lines {size / 1e6:8.1f} MB {took:7.3f} s"
+        f" {lines / took:>11,.0f} lines/s {size / 1e6 / took:7.0f} MB/s  peak {used.ru_maxrss / 1024:7.1f} MiB"
     )
 
 
 def main():
+    if sys.argv[1:2] == ["--make"]:
+        with open(sys.argv[4], "wb") as out:
+            out.write(KINDS[sys.argv[2]](int(sys.argv[3])))
+        return
     if not os.path.exists(PROGRAM):
         sys.exit("bench/lines.py: no program yet; run ./carbon once to build it")
     lines = int(sys.argv[1]) if len(sys.argv) > 1 else 1_000_000
-    run("one path", one_path(lines // 10))
-    run("one path", one_path(lines))
-    run("many paths", many_paths(lines))
-    run("refused", refused(lines))
-    run("long", longest(max(1, lines // 100)))
+    for kind, count in [
+        ("one path", lines // 10),
+        ("one path", lines),
+        ("many paths", lines),
+        ("refused", lines),
+        ("long", max(1, lines // 100)),
+    ]:
+        run(kind, count)
 
 
 main()

@@ -1,0 +1,11 @@
+pub mod ArchiveListLemmas
+pub mod FewArchives
+pub mod LawfulLayouts
+pub mod CellLemmas
+pub mod FoundPlaces
+pub mod HeadLemmas
+pub mod RowLemmas
+pub mod NumberLemmas
+pub mod WrittenHeads
+pub mod ReadHeads
+pub mod PatchLemmas

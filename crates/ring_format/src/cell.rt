@@ -1,0 +1,37 @@
+//! The 12 bytes of a cell.
+ghost use Rattle.std.specs.Prelude.{◌≡◌, ◌<◌, ◌^◌, ℕ, ℤ, List, length, FitsSigned, slice_index};
+ghost use Rattle.std.specs.Int.{w64};
+ghost use Rattle.ring_format.specs.Cell.{cell_bytes, cell_of};
+
+use fixed_num::{CELL_BYTES, Milli};
+
+/// Writes a cell's bytes: its bucket in four bytes, and its value in eight, both big-endian.
+pub fn write_cell(bucket: u32, value: Milli, out: &mut [u8; CELL_BYTES])
+    ensures { out.new ≡ cell_bytes bucket value }
+{
+    let [a, b, c, d] = bucket.to_be_bytes();
+    let [e, f, g, h, i, j, k, l] = value.to_be_bytes();
+    *out = [a, b, c, d, e, f, g, h, i, j, k, l];
+}
+
+/// The bucket and the value that a cell's bytes hold.
+pub fn read_cell(bytes: &[u8; CELL_BYTES]) -> (u32, Milli)
+    ensures { result ≡ cell_of bytes.now }
+{
+    let [a, b, c, d, e, f, g, h, i, j, k, l] = *bytes;
+    let bucket = u32::from_be_bytes([a, b, c, d]);
+    let value = i64::from_be_bytes([e, f, g, h, i, j, k, l]);
+    (bucket, value)
+}
+
+/// A cell that was written is read back. The function does nothing: what it ensures is the law.
+pub fn written_cell_is_read()
+    ensures { (bucket : ℕ) (value : ℤ) → bucket < 2 ^ 32 → FitsSigned w64 value → cell_of (cell_bytes bucket value) ≡ (bucket, value) }
+{}
+
+/// The bytes of a cell that was read are written again. The function does nothing: what it ensures is
+/// the law.
+#[tactic(auto, using(crate::proofs::CellLemmas::cell_is_written))]
+pub fn read_cell_is_written()
+    ensures { (bytes : List ℕ) → length bytes ≡ 12 → ((i : ℕ) → slice_index bytes i < 256) → cell_bytes (cell_of bytes).0 (cell_of bytes).1 ≡ bytes }
+{}

@@ -1,0 +1,160 @@
+//! The layout that the first bytes of a file tell of.
+ghost use Rattle.std.specs.Prelude.{◌≡◌, ◌≤◌, ◌+◌, ◌*◌, IfOk, None, length, min, map, take};
+ghost use Rattle.std.specs.List.{list_all, range_with_len};
+ghost use Rattle.ring_format.specs.Layout.{LayoutValue, layout_fault};
+ghost use Rattle.ring_format.specs.LayoutFile.{file_size_of};
+ghost use Rattle.ring_format.specs.Head.{archive_at, archives_result, count_in, head_bytes, head_result, is_short, is_zero, last_retention, misplaced_archive, number_at, placed_result};
+
+use crate::archive::{Archive, Method, retention_of};
+use crate::archive_list::ArchiveList;
+use crate::fault::HeadFault;
+use crate::layout::{CELL, Layout, file_size_of, head_size};
+use crate::method::method_of;
+
+/// The layout of a file of `size` bytes, or the first fault of its head. The bytes are the file's first
+/// 316, or all where there are fewer.
+pub fn read_head(bytes: &[u8], size: u64) -> Result<Layout, HeadFault>
+    requires { length bytes.now ≡ min 316 size }
+    ensures value { result ≡ head_result bytes.now size }
+
+    // An accepted file begins with its layout's own head, and has its layout's size.
+    ensures read { IfOk result (λ layout. (take (length (head_bytes layout)) bytes.now ≡ head_bytes layout)
+        × (size ≡ file_size_of layout.archives) × (layout_fault layout.archives layout.factor ≡ None)) }
+
+    // A file that begins with a lawful layout's head, and has its size, is accepted.
+    ensures written { (layout : LayoutValue) → layout_fault layout.archives layout.factor ≡ None
+        → take (length (head_bytes layout)) bytes.now ≡ head_bytes layout → size ≡ file_size_of layout.archives → result ≡ Ok layout }
+{
+    layout_of_head(bytes, size)
+}
+
+// The layout, or the first fault, test by test.
+#[tactic(auto, unfolding(crate::specs::Head::head_result))]
+fn layout_of_head(bytes: &[u8], size: u64) -> Result<Layout, HeadFault>
+    requires { length bytes.now ≡ min 316 size }
+    ensures { result ≡ head_result bytes.now size }
+{
+    if begins_with_zeros(bytes) {
+        return Err(HeadFault::Zero);
+    }
+    if is_short(bytes, size) {
+        return Err(HeadFault::Short);
+    }
+    let Some(method) = method_of(number_at(bytes, 0)) else {
+        return Err(HeadFault::Method);
+    };
+    let count = number_at(bytes, 12);
+    if count < 1 || count > 25 {
+        return Err(HeadFault::Count);
+    }
+    read_archives(method, count as usize, bytes, size)
+}
+
+// Whether the first 16 bytes are all zero.
+fn begins_with_zeros(bytes: &[u8]) -> bool
+    ensures { result ≡ list_all is_zero (take 16 bytes.now) }
+{
+    bytes.iter().take(16).all(|b| *b == 0)
+}
+
+// Whether the file ends before its four numbers or its rows do.
+fn is_short(bytes: &[u8], size: u64) -> bool
+    requires { length bytes.now ≡ min 316 size }
+    ensures { result ≡ is_short bytes.now size }
+{
+    if size < 16 {
+        return true;
+    }
+    let count = number_at(bytes, 12);
+    count <= 25 && size < head_size(count as usize)
+}
+
+// The layout with this method, or the first fault of what the rows tell.
+#[tactic(auto, unfolding(crate::specs::Head::archives_result))]
+fn read_archives(method: Method, count: usize, bytes: &[u8], size: u64) -> Result<Layout, HeadFault>
+    requires count { count ≡ count_in bytes.now }
+    requires few { count ≤ 25 }
+    requires room { 16 + 12 * count ≤ length bytes.now }
+    ensures { result ≡ archives_result method bytes.now size }
+{
+    let archives = archives_in(count, bytes);
+    if let Some(i) = misplaced_archive(bytes, archives.as_slice()) {
+        return Err(HeadFault::Offset(i));
+    }
+    read_placed(method, archives.as_slice(), bytes, size)
+}
+
+// The layout with these archives, or the first fault of the other fields.
+#[tactic(auto, unfolding(crate::specs::Head::placed_result))]
+fn read_placed(
+    method: Method,
+    archives: &[Archive],
+    bytes: &[u8],
+    size: u64,
+) -> Result<Layout, HeadFault>
+    requires few { length archives.now ≤ 25 }
+    requires room { 16 ≤ length bytes.now }
+    ensures { result ≡ placed_result method archives.now bytes.now size }
+{
+    if u64::from(number_at(bytes, 4)) != last_retention(archives) {
+        return Err(HeadFault::Retention);
+    }
+    if size != file_size_of(archives) {
+        return Err(HeadFault::Length);
+    }
+    match Layout::new(archives, method, number_at(bytes, 8)) {
+        Ok(layout) => Ok(layout),
+        Err(fault) => Err(HeadFault::Layout(fault)),
+    }
+}
+
+// The archives of the rows.
+fn archives_in(count: usize, bytes: &[u8]) -> ArchiveList
+    requires few { count ≤ 25 }
+    requires room { 16 + 12 * count ≤ length bytes.now }
+    ensures value { result ≡ map (archive_at bytes.now) (range_with_len 0 count) }
+    ensures count { length result ≡ count }
+{
+    let mut archives = ArchiveList::new();
+    for i in 0..count {
+        let step = number_at(bytes, 20 + 12 * i);
+        let points = number_at(bytes, 24 + 12 * i);
+        archives.push(Archive { step, points });
+    }
+    archives
+}
+
+// The first archive that does not begin where what stands before it ends.
+fn misplaced_archive(bytes: &[u8], archives: &[Archive]) -> Option<u32>
+    requires few { length archives.now ≤ 25 }
+    requires room { 16 + 12 * length archives.now ≤ length bytes.now }
+    ensures { result ≡ misplaced_archive bytes.now archives.now }
+{
+    let mut offset = head_size(archives.len());
+    for (i, archive) in archives.iter().enumerate() {
+        if u64::from(number_at(bytes, 16 + 12 * i)) != offset {
+            return Some(i as u32);
+        }
+        offset += CELL * u64::from(archive.points);
+    }
+    None
+}
+
+// How far back the last archive reaches.
+fn last_retention(archives: &[Archive]) -> u64
+    ensures { result ≡ last_retention archives.now }
+{
+    match archives.last() {
+        Some(archive) => retention_of(archive),
+        None => 0,
+    }
+}
+
+// The number in the four bytes at a place.
+#[tactic(auto, unfolding(crate::specs::Head::number_at))]
+fn number_at(bytes: &[u8], at: usize) -> u32
+    requires { at + 4 ≤ length bytes.now }
+    ensures { result ≡ number_at at bytes.now }
+{
+    u32::from_be_bytes([bytes[at], bytes[at + 1], bytes[at + 2], bytes[at + 3]])
+}
