@@ -1,4 +1,4 @@
-use Rattle.std.proofs.Common.{ℕ, List, IfSome, ◌≡◌, refl, sym, subst}
+use Rattle.std.proofs.Common.{ℕ, List, IfSome, refl, sym, subst}
 use Rattle.std.specs.Io.KnownBytes.{Appends}
 use Rattle.carbon_history.specs.declared.entry.Entry.{Entry}
 use Rattle.carbon_model.specs.Script.{ScriptRun, opening}
