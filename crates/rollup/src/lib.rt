@@ -1,0 +1,92 @@
+//! The rollup of known values: how values of a finer archive become one value of a coarser, by
+//! Graphite's aggregation methods, and whether enough of them are known. Nothing here takes memory.
+#![tactic(auto)]
+
+ghost use Rattle.std.specs.Prelude.{◌≡◌, ◌≤◌, ◌*◌, ◌↔◌, IsTrue, length};
+ghost use Rattle.rollup.specs.Rollup.{is_enough, rolled};
+
+use fixed_num::Milli;
+use ring_format::Method;
+
+mod picked;
+mod sums;
+
+use picked::{farthest, greatest, latest, least, nearest};
+use sums::{mean_over, total};
+
+/// One value of a coarser archive from the known values of a finer one, in thousandths, by a method of
+/// Graphite's Whisper files.
+///
+/// The known values are in order of time. `all` counts the places that they are of, known or not: it is
+/// at least the number of known values, and at most 31,536,000, the seconds of 365 days. Sums are exact
+/// and quotients are rounded down, so that the average of -1 and 0 is -1. Of values of the same
+/// magnitude `AbsMax` and `AbsMin` give the earliest. `None` exactly where no value is known, or the
+/// exact result does not fit a [`Milli`].
+#[tactic(auto, unfolding(crate::specs::Rollup::rolled))]
+pub fn roll(method: Method, known: &[Milli], all: u32) -> Option<Milli>
+    requires few { length known.now ≤ all }
+    requires short { all ≤ 31_536_000 }
+    ensures { result ≡ rolled method known.now all }
+{
+    match method {
+        Method::Average => mean_over(known.len() as u32, known),
+        Method::Sum => total(known),
+        Method::Last => latest(known),
+        Method::Max => greatest(known),
+        Method::Min => least(known),
+        Method::AvgZero => mean_over(all, known),
+        Method::AbsMax => farthest(known),
+        Method::AbsMin => nearest(known),
+    }
+}
+
+/// Whether enough of `all` places are known for a coarser value: at least the part `factor`, in
+/// millionths, which is Whisper's `xFilesFactor`.
+pub fn enough(known: u32, all: u32, factor: u32) -> bool
+    ensures exactly { IsTrue result ↔ factor * all ≤ known * 1_000_000 }
+    ensures value { result ≡ is_enough known all factor }
+{
+    u64::from(known) * 1_000_000 >= u64::from(factor) * u64::from(all)
+}
+
+#[cfg(test)]
+mod tests {
+    use super::*;
+
+    #[test]
+    fn known_values_roll_up(rt: HostRuntime) {
+        let table: [(Method, &[Milli], u32, Option<Milli>); 14] = [
+            (Method::Average, &[-1, 0], 2, Some(-1)),
+            (Method::Average, &[4, 1, 2], 60, Some(2)),
+            (Method::Average, &[i64::MAX, i64::MAX], 2, Some(i64::MAX)),
+            (Method::Sum, &[1500, -500, 2], 5, Some(1002)),
+            (Method::Sum, &[i64::MAX, 1], 2, None),
+            (Method::Last, &[3, 1, 2], 3, Some(2)),
+            (Method::Max, &[-7, 9, 2], 3, Some(9)),
+            (Method::Min, &[4, -7, 2], 3, Some(-7)),
+            (Method::AvgZero, &[5], 2, Some(2)),
+            (Method::AbsMax, &[-2, 2], 2, Some(-2)),
+            (Method::AbsMax, &[1, i64::MIN, i64::MAX], 3, Some(i64::MIN)),
+            (Method::AbsMin, &[3, 1, -1], 3, Some(1)),
+            (Method::AvgZero, &[], 0, None),
+            (Method::Last, &[], 5, None),
+        ];
+        for (method, known, all, value) in table {
+            assert_eq!(rt; roll(method, known, all), value);
+        }
+    }
+
+    #[test]
+    fn a_part_of_the_places_is_enough(rt: HostRuntime) {
+        let table = [
+            (1, 2, 500_000, true),
+            (1, 3, 500_000, false),
+            (0, 5, 0, true),
+            (4, 5, 1_000_000, false),
+            (u32::MAX, u32::MAX, 1_000_000, true),
+        ];
+        for (known, all, factor, is_enough) in table {
+            assert_eq!(rt; enough(known, all, factor), is_enough);
+        }
+    }
+}
