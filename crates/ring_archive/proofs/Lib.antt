@@ -1,0 +1,2 @@
+mod UnderLemmas
+mod ValueLemmas

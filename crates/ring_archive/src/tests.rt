@@ -1,0 +1,157 @@
+// Look-ups over a disk in memory.
+ghost use Rattle.std.specs.Prelude.{◌≡◌, ◌≤◌, IfOk, false, length};
+ghost use Rattle.ring_format.specs.LayoutFile.{file_size_of};
+ghost use Rattle.ring_archive.specs.Ring.{HoldsRing};
+
+use super::*;
+use fixed_num::{CELL_BYTES, Milli};
+use metric_path::MetricPath;
+use outside_io::{Disk, MemDisk};
+use ring_format::{Archive, CellWrite, Layout, Method, Patch, write_cell};
+use std::alloc::{AllocError, Global};
+use std::test::Fail;
+
+// a slot, and the bucket and the value of its cell
+type Held = (u32, u32, Milli);
+
+// Puts a cell into a slot of a file of one archive, behind its head of 28 bytes.
+fn put_cell(slot: u32, bucket: u32, value: Milli, file: &mut [u8; 148]) {
+    if slot < 10 {
+        let at = 28 + CELL_BYTES * slot as usize;
+        let mut bytes = [0; CELL_BYTES];
+        write_cell(bucket, value, &mut bytes);
+        file[at..at + CELL_BYTES].copy_from_slice(&bytes);
+    }
+}
+
+// A disk with one file of 10 points, which holds these cells.
+fn disk_with(
+    alloc: Global,
+    name: &str,
+    layout: Layout,
+    cells: &[Held],
+) -> Result<MemDisk, AllocError>
+    requires { file_size_of layout.archives ≤ 148 }
+    ensures { IfOk result (λ disk. HoldsRing false (⟦<MemDisk as Disk>⟧.image disk) name.now layout.archives) }
+{
+    let mut file = [0; 148];
+    for (slot, bucket, value) in cells {
+        put_cell(*slot, *bucket, *value, &mut file);
+    }
+    let bytes = Vec::from_slice(alloc, &file)?;
+    let mut disk = MemDisk::new(alloc, 0);
+    disk.put_file(name, bytes)?;
+    Ok(disk)
+}
+
+// A patch of these cells, in the first archive.
+fn patch_with(
+    alloc: Global,
+    path: MetricPath,
+    layout: Layout,
+    fresh: bool,
+    cells: &[Held],
+) -> Result<Patch, AllocError>
+    ensures layout { IfOk result (λ patch. patch.layout ≡ layout) }
+    ensures fresh { IfOk result (λ patch. patch.fresh ≡ fresh) }
+{
+    let mut patch = Patch::new(alloc, path, layout, fresh);
+    for (slot, bucket, value) in cells {
+        if patch.layout().has_slot(0, *slot) {
+            patch.lay(CellWrite {
+                archive: 0,
+                slot: *slot,
+                bucket: *bucket,
+                value: *value,
+            })?;
+        }
+    }
+    Ok(patch)
+}
+
+#[test]
+fn buckets_are_looked_up(rt: HostRuntime) -> Result<(), Fail> {
+    let full: &[Held] = &[
+        (0, 1_700_000_100, 1),
+        (1, 1_700_000_160, 2),
+        (9, 1_700_000_040, 3),
+        (2, 1_699_999_620, 4),
+    ];
+    // what the file holds, what the patch lays over it, the bucket, and its value
+    let cases: [(&[Held], &[Held], u32, Option<Milli>); 13] = [
+        (full, &[], 1_700_000_100, Some(1)),
+        (full, &[], 1_700_000_160, Some(2)),
+        // the ring goes round, both ways
+        (full, &[], 1_700_000_040, Some(3)),
+        (full, &[], 1_700_000_700, None),
+        (full, &[], 1_699_999_620, Some(4)),
+        // the slot holds another bucket
+        (full, &[], 1_700_000_220, None),
+        (full, &[], 1_700_000_640, None),
+        // no positive multiple of the step
+        (full, &[], 1_700_000_101, None),
+        (full, &[], 0, None),
+        // an empty archive
+        (&[(1, 60, 7)], &[], 60, None),
+        // the patch's cells come first, the base too
+        (full, &[(1, 1_700_000_760, 5)], 1_700_000_760, Some(5)),
+        (full, &[(0, 1_700_000_700, 6)], 1_700_000_100, None),
+        (&[], &[(0, 60, 6)], 60, Some(6)),
+    ];
+    let archives = [Archive {
+        step: 60,
+        points: 10,
+    }];
+    let Ok(layout) = Layout::new(&archives, Method::Average, 500_000) else {
+        panic!(rt; "the layout is lawful")
+    };
+    assert!(rt; layout.file_size() <= 148);
+    assert!(rt; layout.archive_count() > 0);
+    for (stored, laid, bucket, wanted) in cases {
+        let mut disk = disk_with(rt.alloc(), "a", layout, stored)?;
+        let path = MetricPath::new(rt.alloc(), b"a")?;
+        let patch = patch_with(rt.alloc(), path, layout, false, laid)?;
+        let view = RingView::new("a", layout);
+        assert_eq!(rt;
+            view.cell_at(&mut disk, &patch, 0, bucket),
+            Ok(wanted),
+            "bucket {bucket}"
+        );
+        assert_eq!(rt; disk.faults(), 0);
+    }
+    Ok(())
+}
+
+// There is no such file on the disk, so a read would fail.
+#[test]
+fn a_fresh_patch_reads_no_disk(rt: HostRuntime) -> Result<(), Fail> {
+    let archives = [Archive {
+        step: 60,
+        points: 10,
+    }];
+    let Ok(layout) = Layout::new(&archives, Method::Average, 500_000) else {
+        panic!(rt; "the layout is lawful")
+    };
+    assert!(rt; layout.archive_count() > 0);
+    let path = MetricPath::new(rt.alloc(), b"a")?;
+    let patch = patch_with(rt.alloc(), path, layout, true, &[(0, 600, 1), (3, 180, 2)])?;
+    let mut disk = MemDisk::new(rt.alloc(), 0);
+    let view = RingView::new("a", layout);
+    for (bucket, wanted) in [(600, Some(1)), (180, Some(2)), (660, None), (120, None)] {
+        assert_eq!(rt;
+            view.cell_at(&mut disk, &patch, 0, bucket),
+            Ok(wanted),
+            "bucket {bucket}"
+        );
+    }
+    Ok(())
+}
+
+// The first cell of a file of 10 points with step 60: bucket 1699999980 with the value 1.5.
+#[test]
+fn cells_stand_behind_the_head(rt: HostRuntime) {
+    let mut file = [0; 148];
+    put_cell(0, 1_699_999_980, 1500, &mut file);
+    let want = [0x65, 0x53, 0xf0, 0xec, 0, 0, 0, 0, 0, 0, 0x05, 0xdcu8];
+    assert!(rt; file[28..40] == want[..]);
+}

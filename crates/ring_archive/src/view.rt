@@ -1,0 +1,124 @@
+//! Looking up buckets in a ring file.
+ghost use Rattle.std.specs.Prelude.{◌≡◌, ◌<◌, ◌≤◌, false, IfOk, OnErr, length, slice_get, Some};
+ghost use Rattle.outside_io.specs.Faults.{Rose};
+ghost use Rattle.ring_format.specs.Patch.{IsPlace};
+ghost use Rattle.ring_archive.specs.Ring.{HoldsRing, OnFile, UnderPatch, is_bucket, ring_cell, stored_cell, value_for, value_of};
+
+use fixed_num::{CELL_BYTES, Milli};
+use outside_io::{Disk, DiskFailed};
+use ring_format::{Archive, Layout, Patch, read_cell, slot_of};
+
+/// The ring file of one name on a disk, with its layout.
+#[derive(Clone, Copy, Debug)]
+pub struct RingView<'a> {
+    /// The name of the file on the disk.
+    pub name: &'a str,
+    /// The layout of the file.
+    pub layout: Layout,
+}
+
+impl<'a> RingView<'a> {
+    /// The file of this name, which has this layout.
+    pub fn new(name: &'a str, layout: Layout) -> Self
+        ensures name { result.name.now ≡ name.now }
+        ensures layout { result.layout ≡ layout }
+    {
+        RingView { name, layout }
+    }
+
+    /// The value of a bucket, in seconds since 1970, in an archive, from 0 on; in thousandths. `None` where
+    /// the archive has none: it is empty, the slot holds another bucket, or the bucket is no positive
+    /// multiple of the step. At most two cells are read from the disk, and none under a fresh patch.
+    pub fn cell_at<D: Disk>(
+        &self,
+        disk: &mut D,
+        patch: &Patch,
+        archive: u32,
+        bucket: u32,
+    ) -> Result<Option<Milli>, DiskFailed>
+        requires layout { patch.now.layout ≡ self.now.layout }
+        requires archive { archive < length self.now.layout.archives }
+        requires file { HoldsRing patch.now.fresh (D.image disk.old) self.now.name.now self.now.layout.archives }
+        ensures value { IfOk result (λ value. UnderPatch patch.now.fresh (D.image disk.old) self.now.name.now (λ file. value ≡ value_of patch.now file archive bucket)) }
+        ensures kept { D.image disk.new ≡ D.image disk.old }
+        ensures later { D.faults disk.old ≤ D.faults disk.new }
+        ensures cause { OnErr result (Rose (D.faults disk.old) (D.faults disk.new)) }
+    {
+        let ring = self.layout.archive(archive);
+        if !is_bucket(bucket, ring) {
+            return Ok(None);
+        }
+        let base = self.ring_cell(disk, patch, archive, 0)?;
+        if base.0 == 0 {
+            return Ok(None);
+        }
+        let slot = slot_of(base.0, bucket, ring);
+        if slot == 0 {
+            return Ok(value_for(bucket, base));
+        }
+        let cell = self.ring_cell(disk, patch, archive, slot)?;
+        Ok(value_for(bucket, cell))
+    }
+
+    // The bucket and the value in a slot: of the patch, and else of the file.
+    #[tactic(auto, unfolding(crate::specs::Ring::ring_cell))]
+    fn ring_cell<D: Disk>(
+        &self,
+        disk: &mut D,
+        patch: &Patch,
+        archive: u32,
+        slot: u32,
+    ) -> Result<(u32, Milli), DiskFailed>
+        requires layout { patch.now.layout ≡ self.now.layout }
+        requires place { IsPlace self.now.layout (archive, slot) }
+        requires file { HoldsRing patch.now.fresh (D.image disk.old) self.now.name.now self.now.layout.archives }
+        ensures value { IfOk result (λ cell. UnderPatch patch.now.fresh (D.image disk.old) self.now.name.now (λ file. cell ≡ ring_cell patch.now file (archive, slot))) }
+        ensures kept { D.image disk.new ≡ D.image disk.old }
+        ensures later { D.faults disk.old ≤ D.faults disk.new }
+        ensures cause { OnErr result (Rose (D.faults disk.old) (D.faults disk.new)) }
+    {
+        if let Some(cell) = patch.cell(archive, slot) {
+            return Ok(cell);
+        }
+        if patch.fresh() {
+            return Ok((0, 0));
+        }
+        self.stored_cell(disk, archive, slot)
+    }
+
+    // The bucket and the value in a slot of the file.
+    #[tactic(auto, unfolding(crate::specs::Ring::stored_cell))]
+    fn stored_cell<D: Disk>(
+        &self,
+        disk: &mut D,
+        archive: u32,
+        slot: u32,
+    ) -> Result<(u32, Milli), DiskFailed>
+        requires place { IsPlace self.now.layout (archive, slot) }
+        requires file { HoldsRing false (D.image disk.old) self.now.name.now self.now.layout.archives }
+        ensures value { IfOk result (λ cell. OnFile (D.image disk.old) self.now.name.now (λ file. cell ≡ stored_cell self.now.layout.archives file (archive, slot))) }
+        ensures kept { D.image disk.new ≡ D.image disk.old }
+        ensures later { D.faults disk.old ≤ D.faults disk.new }
+        ensures cause { OnErr result (Rose (D.faults disk.old) (D.faults disk.new)) }
+    {
+        let at = u64::from(self.layout.offset(archive)) + CELL_BYTES as u64 * u64::from(slot);
+        let mut bytes = [0; CELL_BYTES];
+        disk.read_at(self.name, at, &mut bytes)?;
+        Ok(read_cell(&bytes))
+    }
+}
+
+// Whether this is a bucket of an archive: a positive multiple of its step.
+fn is_bucket(bucket: u32, archive: Archive) -> bool
+    requires { 0 < archive.step }
+    ensures { result ≡ is_bucket bucket archive }
+{
+    0 < bucket && bucket % archive.step == 0
+}
+
+// The value that a cell has for a bucket.
+fn value_for(bucket: u32, cell: (u32, Milli)) -> Option<Milli>
+    ensures { result ≡ value_for bucket cell }
+{
+    (cell.0 == bucket).then_some(cell.1)
+}
