@@ -1,4 +1,5 @@
-ghost use Rattle.std.specs.Prelude.{◌≡◌, [], None, Some, position};
+ghost use Rattle.std.specs.Prelude.{◌≡◌, ◌<◌, [], None, Some, length, position, remove, slice_get};
+ghost use Rattle.point_cache.specs.Points.{IsRising};
 ghost use Rattle.std.specs.Str.{bytes_eq};
 ghost use Rattle.indexmap.specs.IndexMap.{get, keys};
 ghost use Rattle.point_cache.specs.Pending.{Puts, points_of};
@@ -52,9 +53,30 @@ impl PointCache {
         }
     }
 
+    /// How many metrics have pending points.
+    pub fn metrics(&self) -> usize
+        ensures { result ≡ length self.now }
+    {
+        self.metrics.len()
+    }
+
+    /// Takes the metric at a place, in order of arrival, with its points. The others keep their order, and those behind it move up, so the
+    /// work grows with their number.
+    pub fn take(&mut self, place: usize) -> (MetricPath, Points)
+        requires { place < length self.old }
+        ensures metric { slice_get self.old place ≡ Some result }
+        ensures others { self.new ≡ remove self.old place }
+    {
+        let Some(metric) = self.metrics.shift_remove_index(place) else {
+            unreachable!()
+        };
+        metric
+    }
+
     /// The pending points of a metric in rising time: none where it has none.
     pub fn points(&self, path: &MetricPath) -> &[(u32, Milli)]
-        ensures { result.now ≡ points_of self.now path.now }
+        ensures points { result.now ≡ points_of self.now path.now }
+        ensures rising { IsRising result.now }
     {
         match self.metrics.get(path) {
             Some(points) => points.list(),

@@ -1,2 +1,6 @@
-mod UnderLemmas
-mod ValueLemmas
+pub mod UnderLemmas
+pub mod ValueLemmas
+pub mod SlotLemmas
+pub mod RangeLists
+pub mod HeldLemmas
+pub mod PickedLemmas

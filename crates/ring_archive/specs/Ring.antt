@@ -1,8 +1,12 @@
 -- What a ring file holds when a patch is laid over it: for each archive, a map from buckets to values.
-use Rattle.std.specs.Prelude.{ℕ, ℤ, pos, ◌+◌, ◌*◌, ◌%◌, ◌==◌, ◌≤◌, Bool, true, false, ◌&&◌, nat_lt, List, [], length, take, drop, slice_get, unwrap_or, option_and_then, Option, Some, None, ⊤, IfSome, IsSomeAnd, if◌then◌else◌}
+use Rattle.std.specs.Prelude.{◌≡◌, ℕ, ℤ, pos, ◌+◌, ◌*◌, ◌^◌, ◌%◌, ◌==◌, ◌<◌, ◌≤◌, Bool, true, false, ◌&&◌, not, nat_lt, List, [], length, take, drop, map, filter, slice_get, unwrap_or, option_and_then, Option, Some, None, ⊤, IfSome, IsSomeAnd, if◌then◌else◌, unsigned_abs}
+use Rattle.std.specs.List.{range_with_len}
+use Rattle.std.specs.Option.{option_map_or}
 use Rattle.outside_io.specs.Image.{Image}
 use Rattle.ring_format.specs.declared.archive.Archive.{Archive}
 use Rattle.ring_format.specs.LayoutFile.{file_size_of, offset_of}
+use Rattle.ring_format.specs.Layout.{LayoutValue}
+use Rattle.ring_format.specs.Head.{head_bytes}
 use Rattle.ring_format.specs.Cell.{cell_of}
 use Rattle.ring_format.specs.Slot.{slot_of}
 use Rattle.ring_format.specs.Patch.{PatchValue, cell_at}
@@ -51,6 +55,44 @@ value_in patch file i archive bucket =
 unfoldable pub value_of : PatchValue → List ℕ → ℕ → ℕ → Option ℤ
 value_of patch file i bucket =
     option_and_then (λ archive. value_in patch file i archive bucket) (slice_get patch.layout.archives i)
+
+-- ---- archives as maps
+
+-- what archives hold: of each, by its number from 0 on, and each bucket the value
+abbrev pub Rings : Type 0
+Rings = ℕ → ℕ → Option ℤ
+
+-- the file with the patch laid over it reads as these archives
+abbrev pub ReadsAs : PatchValue → List ℕ → Rings → Type 0
+ReadsAs patch file rings = (i bucket : ℕ) → value_of patch file i bucket ≡ rings i bucket
+
+-- the values of so many buckets of archive `i` from a first one on, a step apart
+unfoldable pub values_from : PatchValue → List ℕ → ℕ → ℕ → ℕ → List (Option ℤ)
+values_from patch file i first count =
+    option_map_or (λ archive. map (λ k. value_of patch file i (first + k * archive.step)) (range_with_len 0 count)) (slice_get patch.layout.archives i) []
+
+-- buckets of an archive of the layout, from a first one on, whose numbers and the end of the last fit 32 bits
+abbrev pub FitsFrom : LayoutValue → ℕ → ℕ → ℕ → Type 0
+FitsFrom layout i first count = IfSome (slice_get layout.archives i) (λ archive. first + count * archive.step < 2 ^ 32)
+
+-- a cell that is not zero
+abbrev pub is_laid : ℕ × ℤ → Bool
+is_laid cell = not ((cell.0 == 0) && (unsigned_abs cell.1 == 0))
+
+-- the slots of archive `i` whose cell is not zero, in order
+unfoldable pub stale_slots : PatchValue → List ℕ → ℕ → List ℕ
+stale_slots patch file i =
+    option_map_or (λ archive. filter (λ slot. is_laid (ring_cell patch file (i, slot))) (range_with_len 0 archive.points)) (slice_get patch.layout.archives i) []
+
+-- ---- the file of a layout
+
+-- a patch that lays nothing over a file that is there
+abbrev pub bare : List ℕ → LayoutValue → PatchValue
+bare path layout = record { path = path; layout = layout; fresh = false; cells = [] }
+
+-- the file begins with the layout's head and ends with its last archive
+abbrev pub IsRingFile : LayoutValue → List ℕ → Type 0
+IsRingFile layout file = (take (length (head_bytes layout)) file ≡ head_bytes layout) × (length file ≡ file_size_of layout.archives)
 
 -- ---- the file on a disk
 

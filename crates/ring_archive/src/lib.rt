@@ -5,9 +5,16 @@
 //! between the two, round the ring. A slot that holds another bucket tells nothing: that is Whisper's rule.
 #![tactic(auto)]
 
+mod cells;
+mod fault;
+mod round;
+mod stale;
 mod view;
 
+pub use fault::RingFault;
 pub use view::RingView;
 
+#[cfg(test)]
+mod counted_disk;
 #[cfg(test)]
 mod tests;

@@ -4,6 +4,7 @@ ghost use Rattle.ring_format.specs.LayoutFile.{file_size_of};
 ghost use Rattle.ring_archive.specs.Ring.{HoldsRing};
 
 use super::*;
+use crate::counted_disk::CountedDisk;
 use fixed_num::{CELL_BYTES, Milli};
 use metric_path::MetricPath;
 use outside_io::{Disk, MemDisk};
@@ -42,6 +43,26 @@ fn disk_with(
     let mut disk = MemDisk::new(alloc, 0);
     disk.put_file(name, bytes)?;
     Ok(disk)
+}
+
+// The same disk, which counts its reads, and of which the read with one number fails.
+fn counted_disk_with(
+    alloc: Global,
+    name: &str,
+    layout: Layout,
+    cells: &[Held],
+    failing: u32,
+) -> Result<CountedDisk, AllocError>
+    requires { file_size_of layout.archives ≤ 148 }
+    ensures { IfOk result (λ disk. HoldsRing false (⟦<CountedDisk as Disk>⟧.image disk) name.now layout.archives) }
+{
+    let disk = disk_with(alloc, name, layout, cells)?;
+    Ok(CountedDisk {
+        disk,
+        reads: 0,
+        failing,
+        faults: 0,
+    })
 }
 
 // A patch of these cells, in the first archive.
@@ -143,6 +164,168 @@ fn a_fresh_patch_reads_no_disk(rt: HostRuntime) -> Result<(), Fail> {
             Ok(wanted),
             "bucket {bucket}"
         );
+    }
+    let Ok(slots) = view.stale(rt.alloc(), &mut disk, &patch, 0) else {
+        panic!(rt; "no disk is read")
+    };
+    assert_eq!(rt; slots.as_slice(), [0, 3].as_slice());
+    assert!(rt; layout.archive(0).step == 60);
+    let Ok(values) = view.cells(rt.alloc(), &mut disk, &patch, 0, 120, 4) else {
+        panic!(rt; "no disk is read")
+    };
+    assert_eq!(rt; values.as_slice(), [None, Some(2), None, None].as_slice());
+    Ok(())
+}
+
+// A slot of each kind: two in place, one behind the ring's end, and one that holds an old bucket.
+const FULL: [Held; 4] = [
+    (0, 1_700_000_100, 1),
+    (1, 1_700_000_160, 2),
+    (9, 1_700_000_040, 3),
+    (2, 1_699_999_620, 4),
+];
+
+#[test]
+fn many_buckets_are_looked_up(rt: HostRuntime) -> Result<(), Fail> {
+    let uneven: &[Held] = &[
+        (0, 1_700_000_105, 1),
+        (1, 1_700_000_220, 2),
+        (9, 1_700_000_100, 3),
+    ];
+    let early: &[Held] = &[(0, 60, 1), (9, 0, 5)];
+    let long = [
+        Some(3),
+        Some(1),
+        Some(2),
+        None,
+        None,
+        None,
+        None,
+        None,
+        None,
+        None,
+        None,
+        None,
+    ];
+    // what the file holds, what the patch lays over it, the first bucket, the values, and how often the disk is read
+    let cases: [(&[Held], &[Held], u32, &[Option<Milli>], u32); 10] = [
+        (&FULL, &[], 1_700_000_100, &[Some(1), Some(2)], 2),
+        // round the end of the ring
+        (&FULL, &[], 1_700_000_040, &[Some(3), Some(1), Some(2)], 3),
+        // more buckets than points
+        (&FULL, &[], 1_700_000_040, &long, 3),
+        // the patch's cells come first, the base too
+        (
+            &FULL,
+            &[(1, 1_700_000_760, 5)],
+            1_700_000_700,
+            &[None, Some(5)],
+            2,
+        ),
+        (
+            &FULL,
+            &[(0, 1_700_000_700, 6)],
+            1_700_000_100,
+            &[None, Some(2)],
+            1,
+        ),
+        (&[], &[(0, 60, 6)], 60, &[Some(6), None], 1),
+        // an empty archive
+        (&[(1, 60, 7)], &[], 60, &[None, None], 1),
+        // no multiple of the step, and the bucket 0
+        (&FULL, &[], 1_700_000_101, &[None, None], 0),
+        (early, &[], 0, &[None, Some(1)], 3),
+        // a base that is no multiple of the step
+        (uneven, &[], 1_700_000_100, &[Some(3), None, Some(2)], 3),
+    ];
+    let archives = [Archive {
+        step: 60,
+        points: 10,
+    }];
+    let Ok(layout) = Layout::new(&archives, Method::Average, 500_000) else {
+        panic!(rt; "the layout is lawful")
+    };
+    assert!(rt; layout.file_size() <= 148);
+    assert!(rt; layout.archive_count() > 0);
+    assert!(rt; layout.archive(0).step == 60);
+    for (stored, laid, first, wanted, reads) in cases {
+        let mut disk = counted_disk_with(rt.alloc(), "a", layout, stored, 0)?;
+        let path = MetricPath::new(rt.alloc(), b"a")?;
+        let patch = patch_with(rt.alloc(), path, layout, false, laid)?;
+        let view = RingView::new("a", layout);
+        assert!(rt; first < 2_000_000_000 && wanted.len() < 100);
+        let count = wanted.len() as u32;
+        let Ok(values) = view.cells(rt.alloc(), &mut disk, &patch, 0, first, count) else {
+            panic!(rt; "the disk is read")
+        };
+        assert_eq!(rt; values.as_slice(), wanted, "from {first}");
+        assert_eq!(rt; disk.reads, reads, "from {first}");
+    }
+    Ok(())
+}
+
+// Each read fails in turn, and the values come where no other read is done.
+#[test]
+fn a_failed_read_is_told(rt: HostRuntime) -> Result<(), Fail> {
+    let archives = [Archive {
+        step: 60,
+        points: 10,
+    }];
+    let Ok(layout) = Layout::new(&archives, Method::Average, 500_000) else {
+        panic!(rt; "the layout is lawful")
+    };
+    assert!(rt; layout.file_size() <= 148);
+    assert!(rt; layout.archive_count() > 0);
+    assert!(rt; layout.archive(0).step == 60);
+    let path = MetricPath::new(rt.alloc(), b"a")?;
+    let patch = patch_with(rt.alloc(), path, layout, false, &[])?;
+    for (failing, fault) in [(1, true), (2, true), (3, true), (4, false)] {
+        let mut disk = counted_disk_with(rt.alloc(), "a", layout, &FULL, failing)?;
+        let view = RingView::new("a", layout);
+        let values = view.cells(rt.alloc(), &mut disk, &patch, 0, 1_700_000_040, 3);
+        let told = values.is_err_and(|found| found == RingFault::DiskFault);
+        assert_eq!(rt; told, fault, "read {failing}");
+        assert_eq!(rt; disk.faults() == 1, fault, "read {failing}");
+    }
+    let mut disk = counted_disk_with(rt.alloc(), "a", layout, &FULL, 1)?;
+    let view = RingView::new("a", layout);
+    let slots = view.stale(rt.alloc(), &mut disk, &patch, 0);
+    assert!(rt; slots.is_err_and(|found| found == RingFault::DiskFault));
+    Ok(())
+}
+
+#[test]
+fn slots_that_hold_anything_are_found(rt: HostRuntime) -> Result<(), Fail> {
+    // what the file holds, what the patch lays over it, and the slots
+    let cases: [(&[Held], &[Held], &[u32]); 6] = [
+        (&FULL, &[], &[0, 1, 2, 9]),
+        (&[], &[], &[]),
+        // a value without a bucket, and a bucket without a value
+        (&[(3, 0, -1), (4, 60, 0)], &[], &[3, 4]),
+        // the patch lays zero, and something
+        (&FULL, &[(1, 0, 0)], &[0, 2, 9]),
+        (&FULL, &[(5, 600, 1)], &[0, 1, 2, 5, 9]),
+        (&[], &[(7, 0, 1)], &[7]),
+    ];
+    let archives = [Archive {
+        step: 60,
+        points: 10,
+    }];
+    let Ok(layout) = Layout::new(&archives, Method::Average, 500_000) else {
+        panic!(rt; "the layout is lawful")
+    };
+    assert!(rt; layout.file_size() <= 148);
+    assert!(rt; layout.archive_count() > 0);
+    for (stored, laid, wanted) in cases {
+        let mut disk = counted_disk_with(rt.alloc(), "a", layout, stored, 0)?;
+        let path = MetricPath::new(rt.alloc(), b"a")?;
+        let patch = patch_with(rt.alloc(), path, layout, false, laid)?;
+        let view = RingView::new("a", layout);
+        let Ok(slots) = view.stale(rt.alloc(), &mut disk, &patch, 0) else {
+            panic!(rt; "the disk is read")
+        };
+        assert_eq!(rt; slots.as_slice(), wanted);
+        assert_eq!(rt; disk.reads, 1);
     }
     Ok(())
 }

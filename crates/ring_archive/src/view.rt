@@ -1,5 +1,5 @@
 //! Looking up buckets in a ring file.
-ghost use Rattle.std.specs.Prelude.{◌≡◌, ◌<◌, ◌≤◌, false, IfOk, OnErr, length, slice_get, Some};
+ghost use Rattle.std.specs.Prelude.{◌≡◌, ◌<◌, ◌≤◌, false, IfOk, OnErr, length, Some};
 ghost use Rattle.outside_io.specs.Faults.{Rose};
 ghost use Rattle.ring_format.specs.Patch.{IsPlace};
 ghost use Rattle.ring_archive.specs.Ring.{HoldsRing, OnFile, UnderPatch, is_bucket, ring_cell, stored_cell, value_for, value_of};
@@ -18,12 +18,35 @@ pub struct RingView<'a> {
 }
 
 impl<'a> RingView<'a> {
+    ghost use Rattle.ring_archive.specs.Ring.{base_of};
+
     /// The file of this name, which has this layout.
     pub fn new(name: &'a str, layout: Layout) -> Self
         ensures name { result.name.now ≡ name.now }
         ensures layout { result.layout ≡ layout }
     {
         RingView { name, layout }
+    }
+
+    /// The bucket in an archive's first slot, from which its slots are counted: 0 where the archive is empty.
+    /// At most one cell is read from the disk, and none under a fresh patch.
+    pub fn base<D: Disk>(
+        &self,
+        disk: &mut D,
+        patch: &Patch,
+        archive: u32,
+    ) -> Result<u32, DiskFailed>
+        requires layout { patch.now.layout ≡ self.now.layout }
+        requires archive { archive < length self.now.layout.archives }
+        requires file { HoldsRing patch.now.fresh (D.image disk.old) self.now.name.now self.now.layout.archives }
+        ensures value { IfOk result (λ base. UnderPatch patch.now.fresh (D.image disk.old) self.now.name.now (λ file. base ≡ base_of patch.now file archive)) }
+        ensures kept { D.image disk.new ≡ D.image disk.old }
+        ensures later { D.faults disk.old ≤ D.faults disk.new }
+        ensures cause { OnErr result (Rose (D.faults disk.old) (D.faults disk.new)) }
+    {
+        let _ = self.layout.archive(archive);
+        let cell = self.ring_cell(disk, patch, archive, 0)?;
+        Ok(cell.0)
     }
 
     /// The value of a bucket, in seconds since 1970, in an archive, from 0 on; in thousandths. `None` where
@@ -62,7 +85,7 @@ impl<'a> RingView<'a> {
 
     // The bucket and the value in a slot: of the patch, and else of the file.
     #[tactic(auto, unfolding(crate::specs::Ring::ring_cell))]
-    fn ring_cell<D: Disk>(
+    pub(crate) fn ring_cell<D: Disk>(
         &self,
         disk: &mut D,
         patch: &Patch,
@@ -117,7 +140,7 @@ fn is_bucket(bucket: u32, archive: Archive) -> bool
 }
 
 // The value that a cell has for a bucket.
-fn value_for(bucket: u32, cell: (u32, Milli)) -> Option<Milli>
+pub(crate) fn value_for(bucket: u32, cell: (u32, Milli)) -> Option<Milli>
     ensures { result ≡ value_for bucket cell }
 {
     (cell.0 == bucket).then_some(cell.1)

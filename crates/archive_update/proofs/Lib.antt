@@ -1,0 +1,9 @@
+pub mod SlotLemmas
+pub mod LayLemmas
+pub mod ClearLemmas
+pub mod OwnLemmas
+pub mod StepLemmas
+pub mod RollLemmas
+pub mod PlanLemmas
+pub mod MoveLemmas
+pub mod StretchLemmas

@@ -1,0 +1,9 @@
+-- The last bucket that is counted is no later than the last legal moment.
+use Rattle.std.proofs.Common.{◌+◌, ◌*◌, ◌≤◌}
+use Rattle.archive_update.proofs.rolling.buckets_near.Given as goal
+
+abbrev pub invariant-loop-bucket : goal.invariant-loop-bucket
+invariant-loop-bucket l = record {
+  some : 1 ≤ l.count;
+  fits : l.first + l.count * l.step ≤ 4000000000 + l.step;
+}

@@ -1,0 +1,4 @@
+pub mod Batch
+pub mod Laid
+pub mod Buckets
+pub mod Rolled

@@ -1,0 +1,188 @@
+//! Values laid by a patch into one archive.
+ghost use Rattle.std.specs.Prelude.{◌≡◌, ◌≢◌, ◌≤◌, ◌<◌, ◌==◌, ◌&&◌, not, [], ◌∷◌, All, IfOk, IsErrOf, OnOk, length};
+ghost use Rattle.std.specs.List.{list_any};
+ghost use Rattle.outside_io.specs.Faults.{Rose};
+ghost use Rattle.ring_format.specs.Patch.{IsPlace};
+ghost use Rattle.ring_archive.specs.Ring.{HoldsRing, UnderPatch, base_of};
+ghost use Rattle.archive_update.specs.Batch.{step_of};
+ghost use Rattle.archive_update.specs.Laid.{IsAlike, IsBucketOf, IsCleared, IsLaid, IsZeroed, Lays, Prepares, Writes};
+
+use fixed_num::Milli;
+use outside_io::Disk;
+use ring_archive::{RingFault, RingView};
+use ring_format::{CellWrite, NoMemory, Patch, slot_of};
+use std::alloc::Global;
+
+/// Writes values under their buckets into an archive, in order.
+pub(crate) fn write_values<D: Disk>(
+    alloc: Global,
+    view: &RingView<'_>,
+    disk: &mut D,
+    patch: &mut Patch,
+    archive: u32,
+    writes: &[(u32, Milli)],
+) -> Result<(), RingFault>
+    requires layout { patch.old.layout ≡ view.now.layout }
+    requires archive { archive < length view.now.layout.archives }
+    requires buckets { All (λ write. IsBucketOf (step_of view.now.layout.archives archive) write.0) writes.now }
+    requires file { HoldsRing patch.old.fresh (D.image disk.old) view.now.name.now view.now.layout.archives }
+    ensures writes { OnOk result (UnderPatch patch.old.fresh (D.image disk.old) view.now.name.now (Writes view.now.layout.archives patch.old patch.new archive writes.now)) }
+    ensures alike { IsAlike patch.old patch.new }
+    ensures filled { OnOk result (patch.new.cells ≡ [] → writes.now ≡ []) }
+    ensures kept { D.image disk.new ≡ D.image disk.old }
+    ensures later { D.faults disk.old ≤ D.faults disk.new }
+    ensures cause { IsErrOf result RingFault.DiskFault → Rose (D.faults disk.old) (D.faults disk.new) }
+{
+    let base = prepared(alloc, view, disk, patch, archive)?;
+    lay_all(patch, archive, base, writes)?;
+    Ok(())
+}
+
+// The base of an archive, 0 where it is empty. Then each slot holds zero afterwards, so that no old cell comes back.
+fn prepared<D: Disk>(
+    alloc: Global,
+    view: &RingView<'_>,
+    disk: &mut D,
+    patch: &mut Patch,
+    archive: u32,
+) -> Result<u32, RingFault>
+    requires layout { patch.old.layout ≡ view.now.layout }
+    requires archive { archive < length view.now.layout.archives }
+    requires file { HoldsRing patch.old.fresh (D.image disk.old) view.now.name.now view.now.layout.archives }
+    ensures prepares { IfOk result (λ base. UnderPatch patch.old.fresh (D.image disk.old) view.now.name.now (Prepares patch.old patch.new archive base)) }
+    ensures alike { IsAlike patch.old patch.new }
+    ensures kept { D.image disk.new ≡ D.image disk.old }
+    ensures later { D.faults disk.old ≤ D.faults disk.new }
+    ensures cause { IsErrOf result RingFault.DiskFault → Rose (D.faults disk.old) (D.faults disk.new) }
+{
+    let base = view.base(disk, patch, archive)?;
+    if base > 0 {
+        return Ok(base);
+    }
+    if !is_blank(patch, archive) {
+        clear_stale(alloc, view, disk, patch, archive)?;
+    }
+    Ok(0)
+}
+
+// Whether each slot of an archive holds zero, since the file is to be created and no cell is laid there.
+fn is_blank(patch: &Patch, archive: u32) -> bool
+    ensures { result ≡ (patch.now.fresh && not (list_any (λ cell. cell.0.0 == archive) patch.now.cells)) }
+{
+    patch.fresh() && !has_cells(patch, archive)
+}
+
+// Whether a patch lays a cell in an archive.
+fn has_cells(patch: &Patch, archive: u32) -> bool
+    ensures { result ≡ list_any (λ cell. cell.0.0 == archive) patch.now.cells }
+{
+    patch.cells().any(|(place, _)| place.0 == archive)
+}
+
+// Lays zero over each cell of an archive that is not zero.
+fn clear_stale<D: Disk>(
+    alloc: Global,
+    view: &RingView<'_>,
+    disk: &mut D,
+    patch: &mut Patch,
+    archive: u32,
+) -> Result<(), RingFault>
+    requires layout { patch.old.layout ≡ view.now.layout }
+    requires archive { archive < length view.now.layout.archives }
+    requires file { HoldsRing patch.old.fresh (D.image disk.old) view.now.name.now view.now.layout.archives }
+    ensures prepares { OnOk result (UnderPatch patch.old.fresh (D.image disk.old) view.now.name.now (λ file. base_of patch.old file archive ≡ 0 → Prepares patch.old patch.new archive 0 file)) }
+    ensures alike { IsAlike patch.old patch.new }
+    ensures kept { D.image disk.new ≡ D.image disk.old }
+    ensures later { D.faults disk.old ≤ D.faults disk.new }
+    ensures cause { IsErrOf result RingFault.DiskFault → Rose (D.faults disk.old) (D.faults disk.new) }
+{
+    let slots = view.stale(alloc, disk, patch, archive)?;
+    clear_slots(patch, archive, &slots)?;
+    Ok(())
+}
+
+// Lays zero into slots of an archive.
+fn clear_slots(patch: &mut Patch, archive: u32, slots: &[u32]) -> Result<(), NoMemory>
+    ensures cleared { OnOk result (IsCleared patch.old patch.new archive slots.now (length slots.now)) }
+    ensures alike { IsAlike patch.old patch.new }
+{
+    for slot in slots {
+        clear_slot(patch, archive, *slot)?;
+    }
+    Ok(())
+}
+
+// Lays zero into a slot of an archive, where the archive has it.
+fn clear_slot(patch: &mut Patch, archive: u32, slot: u32) -> Result<(), NoMemory>
+    ensures zeroed { OnOk result (IsZeroed patch.old patch.new (archive, slot)) }
+    ensures alike { IsAlike patch.old patch.new }
+{
+    if !patch.layout().has_slot(archive, slot) {
+        return Ok(());
+    }
+    lay_cell(patch, archive, slot, 0, 0)
+}
+
+// Lays values under their buckets into an archive with this base, in order.
+fn lay_all(
+    patch: &mut Patch,
+    archive: u32,
+    base: u32,
+    writes: &[(u32, Milli)],
+) -> Result<u32, NoMemory>
+    requires archive { archive < length patch.old.layout.archives }
+    requires buckets { All (λ write. IsBucketOf (step_of patch.old.layout.archives archive) write.0) writes.now }
+    ensures lays { IfOk result (λ later. Lays patch.old patch.new archive base later writes.now) }
+    ensures alike { IsAlike patch.old patch.new }
+    ensures filled { OnOk result (patch.new.cells ≡ [] → writes.now ≡ []) }
+{
+    let mut later = base;
+    for (bucket, value) in writes {
+        later = lay_value(patch, archive, later, *bucket, *value)?;
+    }
+    Ok(later)
+}
+
+// Lays a value under its bucket into an archive with this base, and answers the base that it has then.
+fn lay_value(
+    patch: &mut Patch,
+    archive: u32,
+    base: u32,
+    bucket: u32,
+    value: Milli,
+) -> Result<u32, NoMemory>
+    requires archive { archive < length patch.old.layout.archives }
+    requires bucket { IsBucketOf (step_of patch.old.layout.archives archive) bucket }
+    ensures lays { IfOk result (λ later. Lays patch.old patch.new archive base later ((bucket, value) ∷ [])) }
+    ensures alike { IsAlike patch.old patch.new }
+    ensures filled { OnOk result (patch.new.cells ≢ []) }
+{
+    let ring = patch.layout().archive(archive);
+    let slot = slot_of(base, bucket, ring);
+    lay_cell(patch, archive, slot, bucket, value)?;
+    if slot == 0 {
+        return Ok(bucket);
+    }
+    Ok(base)
+}
+
+// Lays a cell.
+fn lay_cell(
+    patch: &mut Patch,
+    archive: u32,
+    slot: u32,
+    bucket: u32,
+    value: Milli,
+) -> Result<(), NoMemory>
+    requires place { IsPlace patch.old.layout (archive, slot) }
+    ensures laid { OnOk result (IsLaid patch.old patch.new (archive, slot) (bucket, value)) }
+    ensures alike { IsAlike patch.old patch.new }
+    ensures filled { OnOk result (patch.new.cells ≢ []) }
+{
+    patch.lay(CellWrite {
+        archive,
+        slot,
+        bucket,
+        value,
+    })
+}

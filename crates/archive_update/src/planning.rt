@@ -1,0 +1,114 @@
+//! The plan of a drain.
+ghost use Rattle.std.specs.Prelude.{◌≡◌, ◌↔◌, ◌<◌, ◌≤◌, [], None, true, All, IfOk, IfErr, IsErrOf, OnOk, length};
+ghost use Rattle.outside_io.specs.Faults.{Rose};
+ghost use Rattle.metric_line.specs.Moment.{is_moment};
+ghost use Rattle.point_cache.specs.Points.{IsRising};
+ghost use Rattle.ring_archive.specs.Ring.{HoldsRing, ReadsAs, Rings, UnderPatch};
+ghost use Rattle.archive_update.specs.Batch.{batch, home_of, own_writes};
+ghost use Rattle.archive_update.specs.Laid.{IsAlike};
+ghost use Rattle.archive_update.specs.Rolled.{HasNoOwn, Plans, PlansFirst};
+
+use crate::laying::write_values;
+use crate::own::own_writes;
+use crate::rolling::roll_up;
+use fixed_num::Milli;
+use outside_io::Disk;
+use ring_archive::{RingFault, RingView};
+use ring_format::Patch;
+use std::alloc::Global;
+
+/// Plans a drain: lays the points of a metric into its archives, over a patch that lays nothing yet.
+///
+/// The points are in rising time, in seconds since 1970, with their values in thousandths; `now` is the moment
+/// of the drain. A point goes to the first archive that reaches back to it from `now`: to the finest where it is
+/// of the future, and to none where it is older than all retentions. Of the points of one bucket the latest
+/// counts. From its archive on, each coarser one gets the rollup of what the one before it knows in the bucket,
+/// as far as enough is known, which is Whisper's rule. A bucket that shares its slot with a new one is forgotten.
+///
+/// The disk is only read: a few times for each archive that gets anything, and once more for each stretch of
+/// coarse buckets. At an error the patch comes back with some of its cells laid; it is of no use then, but for
+/// its path.
+pub fn plan<D: Disk>(
+    alloc: Global,
+    view: &RingView<'_>,
+    disk: &mut D,
+    patch: Patch,
+    points: &[(u32, Milli)],
+    now: u32,
+) -> Result<Patch, (Patch, RingFault)>
+    requires layout { patch.layout ≡ view.now.layout }
+    requires empty { patch.cells ≡ [] }
+    requires rising { IsRising points.now }
+    requires moments { All (λ p. is_moment p.0 ≡ true) points.now }
+    requires file { HoldsRing patch.fresh (D.image disk.old) view.now.name.now view.now.layout.archives }
+    ensures batch { IfOk result (λ new. UnderPatch patch.fresh (D.image disk.old) view.now.name.now (λ file. (rings : Rings) → ReadsAs patch file rings → ReadsAs new file (batch view.now.layout now points.now rings))) }
+    ensures same { IfOk result (λ new. (new.path ≡ patch.path) × (new.layout ≡ patch.layout) × (new.fresh ≡ patch.fresh)) }
+    ensures cells { IfOk result (λ new. new.cells ≡ [] ↔ All (λ p. home_of view.now.layout.archives now p.0 ≡ None) points.now) }
+    ensures kept { D.image disk.new ≡ D.image disk.old }
+    ensures later { D.faults disk.old ≤ D.faults disk.new }
+    ensures cause { IfErr result (λ refusal. refusal.1 ≡ RingFault.DiskFault → Rose (D.faults disk.old) (D.faults disk.new)) }
+    ensures back { IfErr result (λ refusal. (refusal.0.path ≡ patch.path) × (refusal.0.layout ≡ patch.layout) × (refusal.0.fresh ≡ patch.fresh)) }
+{
+    let mut patch = patch;
+    match plan_all(alloc, view, disk, &mut patch, points, now) {
+        Ok(()) => Ok(patch),
+        Err(fault) => Err((patch, fault)),
+    }
+}
+
+// Plans the points of each archive, the finest first.
+fn plan_all<D: Disk>(
+    alloc: Global,
+    view: &RingView<'_>,
+    disk: &mut D,
+    patch: &mut Patch,
+    points: &[(u32, Milli)],
+    now: u32,
+) -> Result<(), RingFault>
+    requires layout { patch.old.layout ≡ view.now.layout }
+    requires moments { All (λ p. is_moment p.0 ≡ true) points.now }
+    requires file { HoldsRing patch.old.fresh (D.image disk.old) view.now.name.now view.now.layout.archives }
+    ensures plans { OnOk result (UnderPatch patch.old.fresh (D.image disk.old) view.now.name.now (PlansFirst view.now.layout now points.now patch.old patch.new (length view.now.layout.archives))) }
+    ensures alike { IsAlike patch.old patch.new }
+    ensures filled { OnOk result (patch.new.cells ≡ [] → HasNoOwn view.now.layout now points.now (length view.now.layout.archives)) }
+    ensures untouched { OnOk result (HasNoOwn view.now.layout now points.now (length view.now.layout.archives) → patch.new ≡ patch.old) }
+    ensures kept { D.image disk.new ≡ D.image disk.old }
+    ensures later { D.faults disk.old ≤ D.faults disk.new }
+    ensures cause { IsErrOf result RingFault.DiskFault → Rose (D.faults disk.old) (D.faults disk.new) }
+{
+    for archive in 0..view.layout.archive_count() {
+        plan_archive(alloc, view, disk, patch, archive, points, now)?;
+    }
+    Ok(())
+}
+
+// Plans the points that an archive is the home of.
+fn plan_archive<D: Disk>(
+    alloc: Global,
+    view: &RingView<'_>,
+    disk: &mut D,
+    patch: &mut Patch,
+    archive: u32,
+    points: &[(u32, Milli)],
+    now: u32,
+) -> Result<(), RingFault>
+    requires layout { patch.old.layout ≡ view.now.layout }
+    requires archive { archive < length view.now.layout.archives }
+    requires moments { All (λ p. is_moment p.0 ≡ true) points.now }
+    requires file { HoldsRing patch.old.fresh (D.image disk.old) view.now.name.now view.now.layout.archives }
+    ensures plans { OnOk result (UnderPatch patch.old.fresh (D.image disk.old) view.now.name.now (Plans view.now.layout now points.now patch.old patch.new archive)) }
+    ensures alike { IsAlike patch.old patch.new }
+    ensures filled { OnOk result (patch.new.cells ≡ [] → own_writes view.now.layout.archives now archive points.now ≡ []) }
+    ensures untouched { OnOk result (own_writes view.now.layout.archives now archive points.now ≡ [] → patch.new ≡ patch.old) }
+    ensures kept { D.image disk.new ≡ D.image disk.old }
+    ensures later { D.faults disk.old ≤ D.faults disk.new }
+    ensures cause { IsErrOf result RingFault.DiskFault → Rose (D.faults disk.old) (D.faults disk.new) }
+{
+    let own = own_writes(alloc, &view.layout, archive, now, points)?;
+    if own.is_empty() {
+        return Ok(());
+    }
+    write_values(alloc, view, disk, patch, archive, &own)?;
+    roll_up(alloc, view, disk, patch, archive, &own)?;
+    Ok(())
+}

@@ -1,0 +1,326 @@
+//! Values of an archive rolled up into the coarser ones.
+ghost use Rattle.std.specs.Prelude.{◌≡◌, ◌<◌, ◌≤◌, ◌↔◌, ◌+◌, ◌-◌, ◌*◌, ◌/◌, ◌%◌, ◌++◌, All, IfOk, IsErrOf, IsTrue, OnOk, length, map, slice_index};
+ghost use Rattle.outside_io.specs.Faults.{Rose};
+ghost use Rattle.ring_archive.specs.Ring.{HoldsRing, ReadsAs, Rings, UnderPatch};
+ghost use Rattle.archive_update.specs.Batch.{bucket_of, buckets_of_writes, level_writes, rolled_from, step_of, value_from_finer};
+ghost use Rattle.archive_update.specs.Buckets.{IsOwn, IsShown};
+ghost use Rattle.archive_update.specs.Laid.{IsAlike};
+ghost use Rattle.archive_update.specs.Rolled.{HoldsStretch, IsInStretch, IsReached, Level, RollsUp, given, known_from, places_in};
+
+use crate::laying::write_values;
+use fixed_num::Milli;
+use outside_io::Disk;
+use ring_archive::{RingFault, RingView};
+use ring_format::{Layout, Patch};
+use rollup::{enough, roll};
+use std::alloc::{AllocError, Global};
+
+// The most values that are read at once, but for those of one bucket.
+const MOST_VALUES: u32 = 65_536;
+
+// Values of an archive that were read at once: those of so many buckets of the archive behind it, from one on.
+#[derive(Drop)]
+struct Stretch {
+    first: u32,
+    count: u32,
+    values: Vec<Option<Milli>>,
+}
+
+impl Stretch {
+    // Whether it has the values of a bucket.
+    fn has(&self, step: u32, bucket: u32) -> bool
+        requires { 0 < step }
+        ensures { IsTrue result ↔ IsInStretch step self.now.first self.now.count bucket }
+    {
+        self.first <= bucket && (bucket - self.first) / step < self.count
+    }
+}
+
+/// From an archive on, gives each coarser archive what the one before it has in the buckets that hold one
+/// of these writes; ends where nothing is known well enough.
+pub(crate) fn roll_up<D: Disk>(
+    alloc: Global,
+    view: &RingView<'_>,
+    disk: &mut D,
+    patch: &mut Patch,
+    archive: u32,
+    own: &[(u32, Milli)],
+) -> Result<(), RingFault>
+    requires layout { patch.old.layout ≡ view.now.layout }
+    requires archive { archive < length view.now.layout.archives }
+    requires own { All (λ write. IsOwn (step_of view.now.layout.archives archive) write.0) own.now }
+    requires file { HoldsRing patch.old.fresh (D.image disk.old) view.now.name.now view.now.layout.archives }
+    ensures rolls { OnOk result (UnderPatch patch.old.fresh (D.image disk.old) view.now.name.now (RollsUp view.now.layout own.now patch.old patch.new archive)) }
+    ensures alike { IsAlike patch.old patch.new }
+    ensures kept { D.image disk.new ≡ D.image disk.old }
+    ensures later { D.faults disk.old ≤ D.faults disk.new }
+    ensures cause { IsErrOf result RingFault.DiskFault → Rose (D.faults disk.old) (D.faults disk.new) }
+{
+    for finer in archive..view.layout.archive_count() - 1 {
+        let more = roll_level(alloc, view, disk, patch, finer, own)?;
+        if !more {
+            return Ok(());
+        }
+    }
+    Ok(())
+}
+
+// Gives the archive behind `finer` what that has in the buckets that hold one of these writes, and answers
+// whether there is anything.
+fn roll_level<D: Disk>(
+    alloc: Global,
+    view: &RingView<'_>,
+    disk: &mut D,
+    patch: &mut Patch,
+    finer: u32,
+    own: &[(u32, Milli)],
+) -> Result<bool, RingFault>
+    requires layout { patch.old.layout ≡ view.now.layout }
+    requires archive { finer + 1 < length view.now.layout.archives }
+    requires few { finer ≤ 24 }
+    requires own { All (λ write. IsReached (step_of view.now.layout.archives (finer + 1)) write.0) own.now }
+    requires file { HoldsRing patch.old.fresh (D.image disk.old) view.now.name.now view.now.layout.archives }
+    ensures level { IfOk result (λ more. UnderPatch patch.old.fresh (D.image disk.old) view.now.name.now (Level view.now.layout own.now patch.old patch.new finer more)) }
+    ensures alike { IsAlike patch.old patch.new }
+    ensures kept { D.image disk.new ≡ D.image disk.old }
+    ensures later { D.faults disk.old ≤ D.faults disk.new }
+    ensures cause { IsErrOf result RingFault.DiskFault → Rose (D.faults disk.old) (D.faults disk.new) }
+{
+    let buckets = coarse_buckets(alloc, &view.layout, finer + 1, own)?;
+    let writes = level_writes(alloc, view, disk, patch, finer, &buckets)?;
+    if writes.is_empty() {
+        return Ok(false);
+    }
+    write_values(alloc, view, disk, patch, finer + 1, &writes)?;
+    Ok(true)
+}
+
+// The buckets of an archive that hold one of these writes.
+fn coarse_buckets(
+    alloc: Global,
+    layout: &Layout,
+    archive: u32,
+    own: &[(u32, Milli)],
+) -> Result<Vec<u32>, AllocError>
+    requires archive { archive < length layout.now.archives }
+    requires own { All (λ write. IsReached (step_of layout.now.archives archive) write.0) own.now }
+    ensures value { IfOk result (λ buckets. buckets.items ≡ buckets_of_writes layout.now.archives archive own.now) }
+    ensures shown { IfOk result (λ buckets. All (IsShown (step_of layout.now.archives archive)) buckets.items) }
+{
+    let step = layout.archive(archive).step;
+    let mut buckets = buckets_with(alloc, step, own)?;
+    buckets.dedup();
+    Ok(buckets)
+}
+
+// The bucket of each write.
+fn buckets_with(alloc: Global, step: u32, own: &[(u32, Milli)]) -> Result<Vec<u32>, AllocError>
+    requires { 0 < step }
+    ensures { IfOk result (λ buckets. buckets.items ≡ map (λ write. bucket_of step write.0) own.now) }
+{
+    own.iter()
+        .map(|write| write.0 - write.0 % step)
+        .collect(alloc)
+}
+
+// What these buckets of the archive behind `finer` get from it.
+fn level_writes<D: Disk>(
+    alloc: Global,
+    view: &RingView<'_>,
+    disk: &mut D,
+    patch: &Patch,
+    finer: u32,
+    buckets: &[u32],
+) -> Result<Vec<(u32, Milli)>, RingFault>
+    requires layout { patch.now.layout ≡ view.now.layout }
+    requires archive { finer + 1 < length view.now.layout.archives }
+    requires few { finer ≤ 24 }
+    requires shown { All (IsShown (step_of view.now.layout.archives (finer + 1))) buckets.now }
+    requires file { HoldsRing patch.now.fresh (D.image disk.old) view.now.name.now view.now.layout.archives }
+    ensures writes { IfOk result (λ writes. UnderPatch patch.now.fresh (D.image disk.old) view.now.name.now (λ file. (rings : Rings) → ReadsAs patch.now file rings → writes.items ≡ level_writes view.now.layout rings finer buckets.now)) }
+    ensures shown { IfOk result (λ writes. All (λ write. IsShown (step_of view.now.layout.archives (finer + 1)) write.0) writes.items) }
+    ensures kept { D.image disk.new ≡ D.image disk.old }
+    ensures later { D.faults disk.old ≤ D.faults disk.new }
+    ensures cause { IsErrOf result RingFault.DiskFault → Rose (D.faults disk.old) (D.faults disk.new) }
+{
+    let places = places_of(&view.layout, finer);
+    let step = view.layout.archive(finer + 1).step;
+    let mut writes = Vec::new(alloc);
+    let mut stretch = Stretch {
+        first: 0,
+        count: 0,
+        values: Vec::new(alloc),
+    };
+    for (k, bucket) in buckets.iter().enumerate() {
+        stretch = stretch_at(alloc, view, disk, patch, finer, &buckets[k..], stretch)?;
+        let value = value_in(alloc, &view.layout, places, step, &stretch, *bucket)?;
+        push_given(&mut writes, *bucket, value)?;
+    }
+    Ok(writes)
+}
+
+// Adds a bucket with its value, where it has one.
+fn push_given(
+    writes: &mut Vec<(u32, Milli)>,
+    bucket: u32,
+    value: Option<Milli>,
+) -> Result<(), AllocError>
+    ensures { OnOk result (writes.new.items ≡ writes.old.items ++ given bucket value) }
+{
+    if let Some(value) = value {
+        writes.push((bucket, value))?;
+    }
+    Ok(())
+}
+
+// The stretch, where it has the first of these buckets, and else one that begins with it.
+fn stretch_at<D: Disk>(
+    alloc: Global,
+    view: &RingView<'_>,
+    disk: &mut D,
+    patch: &Patch,
+    finer: u32,
+    buckets: &[u32],
+    stretch: Stretch,
+) -> Result<Stretch, RingFault>
+    requires layout { patch.now.layout ≡ view.now.layout }
+    requires archive { finer + 1 < length view.now.layout.archives }
+    requires few { finer ≤ 24 }
+    requires some { 0 < length buckets.now }
+    requires shown { All (IsShown (step_of view.now.layout.archives (finer + 1))) buckets.now }
+    requires file { HoldsRing patch.now.fresh (D.image disk.old) view.now.name.now view.now.layout.archives }
+    requires exact { stretch.first % step_of view.now.layout.archives (finer + 1) ≡ 0 }
+    requires held { UnderPatch patch.now.fresh (D.image disk.old) view.now.name.now (HoldsStretch view.now.layout patch.now finer stretch.first stretch.count stretch.values.items) }
+    ensures exact { IfOk result (λ stretch. stretch.first % step_of view.now.layout.archives (finer + 1) ≡ 0) }
+    ensures held { IfOk result (λ stretch. UnderPatch patch.now.fresh (D.image disk.old) view.now.name.now (HoldsStretch view.now.layout patch.now finer stretch.first stretch.count stretch.values.items)) }
+    ensures has { IfOk result (λ stretch. IsInStretch (step_of view.now.layout.archives (finer + 1)) stretch.first stretch.count (slice_index buckets.now 0)) }
+    ensures kept { D.image disk.new ≡ D.image disk.old }
+    ensures later { D.faults disk.old ≤ D.faults disk.new }
+    ensures cause { IsErrOf result RingFault.DiskFault → Rose (D.faults disk.old) (D.faults disk.new) }
+{
+    let step = view.layout.archive(finer + 1).step;
+    if stretch.has(step, buckets[0]) {
+        return Ok(stretch);
+    }
+    read_stretch(alloc, view, disk, patch, finer, buckets)
+}
+
+// Reads a stretch that begins with the first of these buckets, up to the last of them that is near enough.
+fn read_stretch<D: Disk>(
+    alloc: Global,
+    view: &RingView<'_>,
+    disk: &mut D,
+    patch: &Patch,
+    finer: u32,
+    buckets: &[u32],
+) -> Result<Stretch, RingFault>
+    requires layout { patch.now.layout ≡ view.now.layout }
+    requires archive { finer + 1 < length view.now.layout.archives }
+    requires few { finer ≤ 24 }
+    requires some { 0 < length buckets.now }
+    requires shown { All (IsShown (step_of view.now.layout.archives (finer + 1))) buckets.now }
+    requires file { HoldsRing patch.now.fresh (D.image disk.old) view.now.name.now view.now.layout.archives }
+    ensures exact { IfOk result (λ stretch. stretch.first % step_of view.now.layout.archives (finer + 1) ≡ 0) }
+    ensures held { IfOk result (λ stretch. UnderPatch patch.now.fresh (D.image disk.old) view.now.name.now (HoldsStretch view.now.layout patch.now finer stretch.first stretch.count stretch.values.items)) }
+    ensures has { IfOk result (λ stretch. IsInStretch (step_of view.now.layout.archives (finer + 1)) stretch.first stretch.count (slice_index buckets.now 0)) }
+    ensures kept { D.image disk.new ≡ D.image disk.old }
+    ensures later { D.faults disk.old ≤ D.faults disk.new }
+    ensures cause { IsErrOf result RingFault.DiskFault → Rose (D.faults disk.old) (D.faults disk.new) }
+{
+    let places = places_of(&view.layout, finer);
+    let step = view.layout.archive(finer + 1).step;
+    let most = view.layout.archive(finer).points.min(MOST_VALUES) / places;
+    let first = buckets[0];
+    let count = buckets_near(step, most, buckets);
+    let values = view.cells(alloc, disk, patch, finer, first, count * places)?;
+    Ok(Stretch {
+        first,
+        count,
+        values,
+    })
+}
+
+// How many buckets there are from the first of these up to the last that is less than `most` steps away.
+fn buckets_near(step: u32, most: u32, buckets: &[u32]) -> u32
+    requires some { 0 < length buckets.now }
+    requires shown { All (IsShown step) buckets.now }
+    requires step { (1 ≤ step) × (step ≤ 31536000) }
+    ensures some { 1 ≤ result }
+    ensures fits { slice_index buckets.now 0 + result * step ≤ 4031536000 }
+{
+    let first = buckets[0];
+    let mut count = 1;
+    for bucket in buckets {
+        if *bucket < first || (*bucket - first) / step >= most {
+            return count;
+        }
+        count = (*bucket - first) / step + 1;
+    }
+    count
+}
+
+// The value that a bucket of a coarser archive with this step gets from a stretch, of which it covers so many
+// places.
+fn value_in(
+    alloc: Global,
+    layout: &Layout,
+    places: u32,
+    step: u32,
+    stretch: &Stretch,
+    bucket: u32,
+) -> Result<Option<Milli>, AllocError>
+    requires step { 0 < step }
+    requires short { places ≤ 31536000 }
+    requires has { stretch.now.first ≤ bucket }
+    ensures { IfOk result (λ value. value ≡ rolled_from layout.now (known_from stretch.now.values.items ((bucket - stretch.now.first) / step * places) places) places) }
+{
+    let at = ((bucket - stretch.first) / step) as usize * places as usize;
+    let known = known_from(alloc, &stretch.values, at, places)?;
+    Ok(rolled_from(layout, &known, places))
+}
+
+// How many places of an archive one of the archive behind it covers.
+fn places_of(layout: &Layout, finer: u32) -> u32
+    requires archive { finer + 1 < length layout.now.archives }
+    requires few { finer ≤ 24 }
+    ensures value { result ≡ places_in layout.now finer }
+    ensures exact { result * step_of layout.now.archives finer ≡ step_of layout.now.archives (finer + 1) }
+    ensures some { 1 ≤ result }
+    ensures few { result ≤ step_of layout.now.archives (finer + 1) }
+    ensures short { result ≤ 31536000 }
+{
+    let _ = layout.archives();
+    layout.archive(finer + 1).step / layout.archive(finer).step
+}
+
+// The known of so many values from a place on.
+#[tactic(auto, unfolding(crate::specs::Rolled::known_from))]
+fn known_from(
+    alloc: Global,
+    values: &[Option<Milli>],
+    at: usize,
+    places: u32,
+) -> Result<Vec<Milli>, AllocError>
+    ensures value { IfOk result (λ known. known.items ≡ known_from values.now at places) }
+    ensures few { IfOk result (λ known. length known.items ≤ places) }
+{
+    values
+        .iter()
+        .skip(at)
+        .take(places as usize)
+        .filter_map(|value| *value)
+        .collect(alloc)
+}
+
+// The value of known places among so many, where enough are known.
+#[tactic(auto, unfolding(crate::specs::Batch::rolled_from))]
+fn rolled_from(layout: &Layout, known: &[Milli], places: u32) -> Option<Milli>
+    requires few { length known.now ≤ places }
+    requires short { places ≤ 31536000 }
+    ensures { result ≡ rolled_from layout.now known.now places }
+{
+    if !enough(known.len() as u32, places, layout.factor()) {
+        return None;
+    }
+    roll(layout.method(), known, places)
+}

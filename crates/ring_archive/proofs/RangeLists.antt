@@ -1,0 +1,42 @@
+-- Lists over a range of numbers.
+use Rattle.std.proofs.Common.{◌≡◌, ◌∙◌, ℕ, zero, suc, ◌+◌, ◌<◌, ◌≤◌, Bool, true, false, cond, List, [], ◌∷◌, ◌++◌, map, refl, sym, ap, ap₂, arith, append-nil}
+use Rattle.std.specs.Prelude.{filter}
+use Rattle.std.specs.List.{range_with_len}
+use Rattle.std.proofs.Math.ListN.{replicate}
+use Rattle.std.proofs.lemmas.List.{map-id}
+use Rattle.std.proofs.lemmas.List.FromFn.{map-range_with_len_more, filter_of_map_range_with_len_more}
+
+-- two functions that agree on the range
+pub map_agrees : {X : Type 0} (f g : ℕ → X) (a n : ℕ) → ((k : ℕ) → a ≤ k → k < a + n → f k ≡ g k) → map f (range_with_len a n) ≡ map g (range_with_len a n)
+map_agrees f g a zero agree = refl
+map_agrees {X} f g a (suc n) agree =
+    ap₂ (λ (x : X) (xs : List X). x ∷ xs) (agree a (omega arith) (omega arith)) (map_agrees f g (a + 1) n (λ k l u. agree k (omega arith) (omega arith)))
+
+-- a function that is the same everywhere
+pub map_alike : {X : Type 0} (f : ℕ → X) (x : X) (a n : ℕ) → ((k : ℕ) → f k ≡ x) → map f (range_with_len a n) ≡ replicate n x
+map_alike f x a zero same = refl
+map_alike {X} f x a (suc n) same =
+    ap₂ (λ (y : X) (ys : List X). y ∷ ys) (same a) (map_alike f x (a + 1) n same)
+
+-- two tests that agree on the range
+pub filter_agrees : (p q : ℕ → Bool) (a n : ℕ) → ((k : ℕ) → a ≤ k → k < a + n → p k ≡ q k) → filter p (range_with_len a n) ≡ filter q (range_with_len a n)
+filter_agrees p q a zero agree = refl
+filter_agrees p q a (suc n) agree =
+    ap₂ (λ (b : Bool) (xs : List ℕ). cond b (a ∷ xs) xs) (agree a (omega arith) (omega arith)) (filter_agrees p q (a + 1) n (λ k l u. agree k (omega arith) (omega arith)))
+
+-- one more number
+pub map_more : {X : Type 0} (f : ℕ → X) (n : ℕ) → map f (range_with_len 0 (n + 1)) ≡ map f (range_with_len 0 n) ++ f n ∷ []
+map_more f n = map-range_with_len_more f 0 n n (omega arith)
+
+-- one more number is tested
+pub filter_more : (p : ℕ → Bool) (n : ℕ) → filter p (range_with_len 0 (n + 1)) ≡ filter p (range_with_len 0 n) ++ cond (p n) (n ∷ []) []
+filter_more p n =
+    ap (filter p) (sym (map-id (range_with_len 0 (n + 1))))
+    ∙ filter_of_map_range_with_len_more p (λ k. k) 0 n n (omega arith)
+    ∙ ap (λ (xs : List ℕ). filter p xs ++ cond (p n) (n ∷ []) []) (map-id (range_with_len 0 n))
+
+pub filter_keeps : (p : ℕ → Bool) (n : ℕ) → p n ≡ true → filter p (range_with_len 0 (n + 1)) ≡ filter p (range_with_len 0 n) ++ n ∷ []
+filter_keeps p n passes = filter_more p n ∙ rw passes refl
+
+pub filter_passes : (p : ℕ → Bool) (n : ℕ) → p n ≡ false → filter p (range_with_len 0 (n + 1)) ≡ filter p (range_with_len 0 n)
+filter_passes p n fails = filter_more p n ∙ rw fails (append-nil (filter p (range_with_len 0 n)))

@@ -1,0 +1,36 @@
+-- The cells of a ring as they are held in memory: those of neighbouring slots, from one on and round the ring's end.
+use Rattle.std.specs.Prelude.{◌≡◌, ℕ, ℤ, pos, ◌+◌, ◌*◌, ◌%◌, ◌==◌, ◌≤◌, Bool, List, length, take, drop, slice_get, unwrap_or, Option, None, IfSome, if◌then◌else◌}
+use Rattle.ring_format.specs.declared.archive.Archive.{Archive}
+use Rattle.ring_format.specs.Cell.{cell_of}
+use Rattle.ring_format.specs.Patch.{Cells, cell_at}
+use Rattle.ring_archive.specs.declared.round.Round.{Round}
+use Rattle.ring_archive.specs.Ring.{stored_cell, value_for}
+
+-- the ring is that of an archive among these, and has the first slot
+abbrev pub IsRoundOf : List Archive → Round → Type 0
+IsRoundOf archives round = IfSome (slice_get archives round.archive) (λ archive. round.points ≡ archive.points)
+
+-- the slot so many slots behind the first one, of a number that is less than the points
+abbrev pub slot_behind : Round → ℕ → ℕ
+slot_behind round place = (round.slot + place) % round.points
+
+-- the cell of a slot as the file holds it; a file that is yet to be created holds zero in each slot
+unfoldable pub file_cell : Bool → List Archive → List ℕ → ℕ × ℕ → ℕ × ℤ
+file_cell fresh archives file place = if fresh then (0, pos 0) else stored_cell archives file place
+
+-- the cell at a place of the memory
+unfoldable pub held_cell : List ℕ → ℕ → ℕ × ℤ
+held_cell bytes place = cell_of (take 12 (drop (12 * place) bytes))
+
+-- the memory holds the file's cells
+pub record HoldsSlots (fresh : Bool) (archives : List Archive) (file : List ℕ) (round : Round) (bytes : List ℕ) : Type 0 where
+  pub cells : (place : ℕ) → 12 * place + 12 ≤ length bytes → held_cell bytes place ≡ file_cell fresh archives file (round.archive, slot_behind round place)
+
+-- the cell so many slots behind the first one: the patch's, and else that in memory
+unfoldable pub cell_behind : Cells → Round → List ℕ → ℕ → ℕ × ℤ
+cell_behind cells round bytes place = unwrap_or (cell_at cells (round.archive, slot_behind round place)) (held_cell bytes place)
+
+-- the value of the bucket with a number, in a ring whose first slot in memory is that of the first bucket
+unfoldable pub picked_value : Cells → Round → List ℕ → ℕ → ℕ → ℕ → Option ℤ
+picked_value cells round bytes first step k =
+    if first + k * step == 0 then None else value_for (first + k * step) (cell_behind cells round bytes (k % round.points))

@@ -1,0 +1,98 @@
+//! The values of many buckets.
+ghost use Rattle.std.specs.Prelude.{◌≡◌, ◌+◌, ◌*◌, ◌==◌, ◌^◌, ◌<◌, ◌≤◌, None, if◌then◌else◌, IfOk, IsErrOf, length, map, min, replicate};
+ghost use Rattle.std.specs.List.{range_with_len};
+ghost use Rattle.outside_io.specs.Faults.{Rose};
+ghost use Rattle.ring_archive.specs.Ring.{FitsFrom, HoldsRing, UnderPatch, value_for, values_from};
+ghost use Rattle.ring_archive.specs.Held.{cell_behind, picked_value};
+
+use crate::fault::RingFault;
+use crate::round::Round;
+use crate::view::{RingView, value_for};
+use fixed_num::Milli;
+use outside_io::Disk;
+use ring_format::{Patch, slot_of};
+use std::alloc::{AllocError, Global};
+
+impl RingView<'_> {
+    /// The values of `count` buckets of an archive, from the bucket `first` on, a step apart. However many
+    /// they are, the disk is read at most three times: the base, and the ring's cells in one stretch or two.
+    pub fn cells<D: Disk>(
+        &self,
+        alloc: Global,
+        disk: &mut D,
+        patch: &Patch,
+        archive: u32,
+        first: u32,
+        count: u32,
+    ) -> Result<Vec<Option<Milli>>, RingFault>
+        requires layout { patch.now.layout ≡ self.now.layout }
+        requires archive { archive < length self.now.layout.archives }
+        requires fits { FitsFrom self.now.layout archive first count }
+        requires file { HoldsRing patch.now.fresh (D.image disk.old) self.now.name.now self.now.layout.archives }
+        ensures values { IfOk result (λ values. UnderPatch patch.now.fresh (D.image disk.old) self.now.name.now (λ file. values.items ≡ values_from patch.now file archive first count)) }
+        ensures kept { D.image disk.new ≡ D.image disk.old }
+        ensures later { D.faults disk.old ≤ D.faults disk.new }
+        ensures cause { IsErrOf result RingFault.DiskFault → Rose (D.faults disk.old) (D.faults disk.new) }
+    {
+        let ring = self.layout.archive(archive);
+        if first % ring.step != 0 {
+            return Ok(no_values(alloc, count)?);
+        }
+        let base = self.ring_cell(disk, patch, archive, 0)?;
+        if base.0 == 0 {
+            return Ok(no_values(alloc, count)?);
+        }
+        let round = Round {
+            archive,
+            points: ring.points,
+            slot: slot_of(base.0, first, ring),
+        };
+        let held = count.min(ring.points);
+        let bytes = self.held_cells(alloc, disk, patch.fresh(), round, held)?;
+        Ok(picked_values(alloc, patch, round, &bytes, first, ring.step, count)?)
+    }
+}
+
+// So many buckets that have no value.
+fn no_values(alloc: Global, count: u32) -> Result<Vec<Option<Milli>>, AllocError>
+    ensures { IfOk result (λ values. values.items ≡ replicate count None) }
+{
+    vec![in alloc; None; count as usize]
+}
+
+// The values of buckets from the first one on, of the cells in memory with the patch's laid over them.
+#[tactic(auto, unfolding(crate::specs::Held::picked_value), using(crate::proofs::RangeLists::map_more))]
+fn picked_values(
+    alloc: Global,
+    patch: &Patch,
+    round: Round,
+    bytes: &[u8],
+    first: u32,
+    step: u32,
+    count: u32,
+) -> Result<Vec<Option<Milli>>, AllocError>
+    requires slot { round.slot < round.points }
+    requires fits { first + count * step < 2 ^ 32 }
+    requires held { length bytes.now ≡ 12 * min count round.points }
+    ensures { IfOk result (λ values. values.items ≡ map (λ k. picked_value patch.now.cells round bytes.now first step k) (range_with_len 0 count)) }
+{
+    let mut values = Vec::with_capacity(alloc, count as usize)?;
+    for k in 0..count {
+        let bucket = first + k * step;
+        values.push(picked_value(patch, round, bytes, bucket, k % round.points))?;
+    }
+    Ok(values)
+}
+
+// The value of a bucket in the cell so many slots behind the first one in memory.
+fn picked_value(patch: &Patch, round: Round, bytes: &[u8], bucket: u32, place: u32) -> Option<Milli>
+    requires slot { round.slot < round.points }
+    requires place { place < round.points }
+    requires held { 12 * place + 12 ≤ length bytes.now }
+    ensures { result ≡ (if bucket == 0 then None else value_for bucket (cell_behind patch.now.cells round bytes.now place)) }
+{
+    if bucket == 0 {
+        return None;
+    }
+    value_for(bucket, round.cell_behind(patch, bytes, place))
+}

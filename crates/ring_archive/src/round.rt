@@ -1,0 +1,137 @@
+//! The cells of a ring in memory.
+ghost use Rattle.std.specs.Prelude.{◌≡◌, ◌+◌, ◌*◌, ◌%◌, ◌<◌, ◌≤◌, false, IfOk, IsErrOf, OnErr, OnOk, length, replicate, take, drop};
+ghost use Rattle.outside_io.specs.Faults.{Rose};
+ghost use Rattle.ring_archive.specs.Ring.{HoldsRing, OnFile, UnderPatch, cell_offset};
+ghost use Rattle.ring_archive.specs.Held.{HoldsSlots, IsRoundOf, cell_behind, held_cell};
+
+use crate::fault::RingFault;
+use crate::view::RingView;
+use fixed_num::{CELL_BYTES, Milli};
+use outside_io::{Disk, DiskFailed};
+use ring_format::{Patch, read_cell};
+use std::alloc::{AllocError, Global};
+
+// The slots of an archive's ring, from one on and round the ring's end.
+#[derive(Clone, Copy, Debug)]
+pub(crate) struct Round {
+    // The archive, from 0 on.
+    pub(crate) archive: u32,
+    // How many slots the ring has.
+    pub(crate) points: u32,
+    // The first slot.
+    pub(crate) slot: u32,
+}
+
+impl RingView<'_> {
+    // So many cells of a ring, as the file holds them; under a fresh patch they are zero, and no disk is read.
+    // The disk is read once, or twice where the cells go round the ring's end.
+    pub(crate) fn held_cells<D: Disk>(
+        &self,
+        alloc: Global,
+        disk: &mut D,
+        fresh: bool,
+        round: Round,
+        count: u32,
+    ) -> Result<Vec<u8>, RingFault>
+        requires archive { round.archive < length self.now.layout.archives }
+        requires ring { IsRoundOf self.now.layout.archives round }
+        requires slot { round.slot < round.points }
+        requires count { count ≤ round.points }
+        requires file { HoldsRing fresh (D.image disk.old) self.now.name.now self.now.layout.archives }
+        ensures length { IfOk result (λ bytes. length bytes.items ≡ 12 * count) }
+        ensures cells { IfOk result (λ bytes. UnderPatch fresh (D.image disk.old) self.now.name.now (λ file. HoldsSlots fresh self.now.layout.archives file round bytes.items)) }
+        ensures kept { D.image disk.new ≡ D.image disk.old }
+        ensures later { D.faults disk.old ≤ D.faults disk.new }
+        ensures cause { IsErrOf result RingFault.DiskFault → Rose (D.faults disk.old) (D.faults disk.new) }
+    {
+        let mut bytes = zeros(alloc, CELL_BYTES * count as usize)?;
+        if fresh {
+            return Ok(bytes);
+        }
+        self.read_round(disk, round, &mut bytes)?;
+        Ok(bytes)
+    }
+
+    // Fills a buffer with the cells of a ring, as the file holds them.
+    fn read_round<D: Disk>(
+        &self,
+        disk: &mut D,
+        round: Round,
+        bytes: &mut [u8],
+    ) -> Result<(), DiskFailed>
+        requires archive { round.archive < length self.now.layout.archives }
+        requires ring { IsRoundOf self.now.layout.archives round }
+        requires slot { round.slot < round.points }
+        requires room { length bytes.old ≤ 12 * round.points }
+        requires file { HoldsRing false (D.image disk.old) self.now.name.now self.now.layout.archives }
+        ensures cells { OnOk result (OnFile (D.image disk.old) self.now.name.now (λ file. HoldsSlots false self.now.layout.archives file round bytes.new)) }
+        ensures kept { D.image disk.new ≡ D.image disk.old }
+        ensures later { D.faults disk.old ≤ D.faults disk.new }
+        ensures cause { OnErr result (Rose (D.faults disk.old) (D.faults disk.new)) }
+    {
+        let before_end = CELL_BYTES * (round.points - round.slot) as usize;
+        if bytes.len() <= before_end {
+            return self.read_slots(disk, round, bytes);
+        }
+        let (front, back) = bytes.split_at_mut(before_end);
+        self.read_slots(disk, round, front)?;
+        self.read_slots(disk, Round { slot: 0, ..round }, back)
+    }
+
+    // Fills a buffer with the bytes of neighbouring slots, from the first one of a ring on.
+    fn read_slots<D: Disk>(
+        &self,
+        disk: &mut D,
+        round: Round,
+        bytes: &mut [u8],
+    ) -> Result<(), DiskFailed>
+        requires archive { round.archive < length self.now.layout.archives }
+        requires ring { IsRoundOf self.now.layout.archives round }
+        requires room { 12 * round.slot + length bytes.old ≤ 12 * round.points }
+        requires file { HoldsRing false (D.image disk.old) self.now.name.now self.now.layout.archives }
+        ensures bytes { OnOk result (OnFile (D.image disk.old) self.now.name.now (λ file. bytes.new ≡ take (length bytes.old) (drop (cell_offset self.now.layout.archives (round.archive, round.slot)) file))) }
+        ensures kept { D.image disk.new ≡ D.image disk.old }
+        ensures later { D.faults disk.old ≤ D.faults disk.new }
+        ensures cause { OnErr result (Rose (D.faults disk.old) (D.faults disk.new)) }
+    {
+        let offset = u64::from(self.layout.offset(round.archive));
+        let at = offset + CELL_BYTES as u64 * u64::from(round.slot);
+        disk.read_at(self.name, at, bytes)
+    }
+}
+
+impl Round {
+    // The cell so many slots behind the first one: the patch's, and else that in memory.
+    #[tactic(auto, unfolding(crate::specs::Held::cell_behind))]
+    pub(crate) fn cell_behind(self, patch: &Patch, bytes: &[u8], place: u32) -> (u32, Milli)
+        requires slot { self.slot < self.points }
+        requires place { place < self.points }
+        requires held { 12 * place + 12 ≤ length bytes.now }
+        ensures { result ≡ cell_behind patch.now.cells self bytes.now place }
+    {
+        let slot = (u64::from(self.slot) + u64::from(place)) % u64::from(self.points);
+        match patch.cell(self.archive, slot as u32) {
+            Some(cell) => cell,
+            None => held_cell(bytes, place as usize),
+        }
+    }
+}
+
+// So many zero bytes.
+fn zeros(alloc: Global, count: usize) -> Result<Vec<u8>, AllocError>
+    ensures { IfOk result (λ bytes. bytes.items ≡ replicate count 0) }
+{
+    vec![in alloc; 0; count]
+}
+
+// The cell at a place of the memory.
+#[tactic(auto, unfolding(crate::specs::Held::held_cell))]
+fn held_cell(bytes: &[u8], place: usize) -> (u32, Milli)
+    requires { 12 * place + 12 ≤ length bytes.now }
+    ensures { result ≡ held_cell bytes.now place }
+{
+    let at = CELL_BYTES * place;
+    let mut cell = [0; CELL_BYTES];
+    cell.copy_from_slice(&bytes[at..at + CELL_BYTES]);
+    read_cell(&cell)
+}

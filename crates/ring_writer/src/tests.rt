@@ -1,0 +1,238 @@
+// Patches written to a disk in memory.
+ghost use Rattle.std.specs.Prelude.{◌≡◌, false, IfOk, OnOk};
+ghost use Rattle.ring_archive.specs.Ring.{IsRingFile, OnFile};
+
+use super::*;
+use fixed_num::Milli;
+use metric_path::MetricPath;
+use outside_io::{Disk, MemDisk};
+use ring_archive::{RingFault, RingView};
+use ring_format::{Archive, CellWrite, Layout, Method, Patch};
+use std::alloc::Global;
+use std::test::Fail;
+
+// A cell: its archive, its slot, its bucket and its value.
+type Laid = (u32, u32, u32, Milli);
+
+// A patch of these cells.
+fn patch_with(alloc: Global, layout: Layout, fresh: bool, cells: &[Laid]) -> Result<Patch, Fail>
+    ensures layout { IfOk result (λ patch. patch.layout ≡ layout) }
+    ensures fresh { IfOk result (λ patch. patch.fresh ≡ fresh) }
+{
+    let path = MetricPath::new(alloc, b"a")?;
+    let mut patch = Patch::new(alloc, path, layout, fresh);
+    for (archive, slot, bucket, value) in cells {
+        if patch.layout().has_slot(*archive, *slot) {
+            patch.lay(CellWrite {
+                archive: *archive,
+                slot: *slot,
+                bucket: *bucket,
+                value: *value,
+            })?;
+        }
+    }
+    Ok(patch)
+}
+
+// Writes a patch of these cells to the file of a name.
+fn write(
+    alloc: Global,
+    disk: &mut MemDisk,
+    name: &str,
+    layout: Layout,
+    fresh: bool,
+    cells: &[Laid],
+) -> Result<Result<(), RingFault>, Fail>
+    requires { fresh ≡ false → OnFile (⟦<MemDisk as Disk>⟧.image disk.old) name.now (IsRingFile layout) }
+    ensures { IfOk result (λ written. OnOk written (OnFile (⟦<MemDisk as Disk>⟧.image disk.new) name.now (IsRingFile layout))) }
+{
+    let patch = patch_with(alloc, layout, fresh, cells)?;
+    let view = RingView::new(name, layout);
+    match write_patch(alloc, &view, disk, &patch) {
+        Ok(()) => Ok(Ok(())),
+        Err(fault) => Ok(Err(fault)),
+    }
+}
+
+// The bytes of a file, or none where it is not there.
+fn bytes_of(alloc: Global, disk: &mut MemDisk, name: &str) -> Result<Option<Vec<u8>>, Fail> {
+    let Ok(Some(length)) = disk.length(name) else {
+        return Ok(None);
+    };
+    let mut bytes = vec![in alloc; 0; length as usize]?;
+    match disk.read_at(name, 0, &mut bytes) {
+        Ok(()) => Ok(Some(bytes)),
+        Err(_) => Ok(None),
+    }
+}
+
+// A head of 28 bytes, one cell of 12, and zero behind them.
+#[test]
+fn a_week_of_minutes_is_created(rt: HostRuntime) -> Result<(), Fail> {
+    let archives = [Archive {
+        step: 60,
+        points: 10_080,
+    }];
+    let Ok(layout) = Layout::new(&archives, Method::Average, 500_000) else {
+        panic!(rt; "the layout is lawful")
+    };
+    let mut disk = MemDisk::new(rt.alloc(), 120_988);
+    let written = write(
+        rt.alloc(),
+        &mut disk,
+        "a",
+        layout,
+        true,
+        &[(0, 0, 1_699_999_980, 1500)],
+    )?;
+    assert_eq!(rt; written, Ok(()));
+    let Some(file) = bytes_of(rt.alloc(), &mut disk, "a")? else {
+        panic!(rt; "the file is there")
+    };
+    assert_eq!(rt; file.len(), 120_988);
+    let front = [
+        0, 0, 0, 1, 0, 0x09, 0x3a, 0x80, 0, 0x07, 0xa1, 0x20, 0, 0, 0, 1, 0, 0, 0, 0x1c, 0, 0, 0,
+        0x3c, 0, 0, 0x27, 0x60, 0x65, 0x53, 0xf0, 0xec, 0, 0, 0, 0, 0, 0, 0x05, 0xdcu8,
+    ];
+    assert_eq!(rt; file.get(..40), Some(front.as_slice()));
+    assert!(rt; file.iter().skip(40).all(|byte| *byte == 0));
+    Ok(())
+}
+
+// Two archives of 10 and 12 points, behind a head of 40 bytes: they begin at 40 and 160, and end at 304.
+const TWO: [Archive; 2] = [
+    Archive {
+        step: 60,
+        points: 10,
+    },
+    Archive {
+        step: 300,
+        points: 12,
+    },
+];
+
+#[test]
+fn a_patch_is_laid_over_a_file(rt: HostRuntime) -> Result<(), Fail> {
+    let Ok(layout) = Layout::new(&TWO, Method::Last, 0) else {
+        panic!(rt; "the layout is lawful")
+    };
+    let mut disk = MemDisk::new(rt.alloc(), 304);
+    let first = [(0, 0, 600, 1), (0, 3, 780, 2), (1, 11, 3300, 3)];
+    assert_eq!(rt;
+        write(rt.alloc(), &mut disk, "a", layout, true, &first)?,
+        Ok(())
+    );
+    let second = [(0, 3, 1380, -1), (0, 4, 840, 256), (1, 0, 900, 5)];
+    assert_eq!(rt;
+        write(rt.alloc(), &mut disk, "a", layout, false, &second)?,
+        Ok(())
+    );
+    let Some(file) = bytes_of(rt.alloc(), &mut disk, "a")? else {
+        panic!(rt; "the file is there")
+    };
+    let mut wanted = [0; 304];
+    let pieces: [(usize, [u8; 20]); 7] = [
+        (
+            0,
+            [
+                0, 0, 0, 3, 0, 0, 0x0e, 0x10, 0, 0, 0, 0, 0, 0, 0, 2, 0, 0, 0, 40,
+            ],
+        ),
+        (
+            20,
+            [
+                0, 0, 0, 60, 0, 0, 0, 10, 0, 0, 0, 160, 0, 0, 1, 44, 0, 0, 0, 12,
+            ],
+        ),
+        // slot 0 of the first archive, and the 8 bytes behind it
+        (
+            40,
+            [
+                0, 0, 2, 0x58, 0, 0, 0, 0, 0, 0, 0, 1, 0, 0, 0, 0, 0, 0, 0, 0,
+            ],
+        ),
+        // slots 3 and 4
+        (
+            76,
+            [
+                0, 0, 5, 0x64, 255, 255, 255, 255, 255, 255, 255, 255, 0, 0, 3, 0x48, 0, 0, 0, 0,
+            ],
+        ),
+        (
+            96,
+            [0, 0, 1, 0, 0, 0, 0, 0, 0, 0, 0, 0, 0, 0, 0, 0, 0, 0, 0, 0],
+        ),
+        // slot 0 of the second archive, and its last slot
+        (
+            160,
+            [
+                0, 0, 3, 0x84, 0, 0, 0, 0, 0, 0, 0, 5, 0, 0, 0, 0, 0, 0, 0, 0,
+            ],
+        ),
+        (
+            284,
+            [
+                0, 0, 0, 0, 0, 0, 0, 0, 0, 0, 0x0c, 0xe4, 0, 0, 0, 0, 0, 0, 0, 3,
+            ],
+        ),
+    ];
+    for (at, piece) in &pieces {
+        assert!(rt; *at <= 284);
+        wanted[*at..*at + 20].copy_from_slice(piece);
+    }
+    assert_eq!(rt; file.as_slice(), wanted.as_slice());
+    Ok(())
+}
+
+// Each call of the disk fails in turn, and the next patch is written where no other call is done.
+#[test]
+fn neighbours_are_written_in_one_piece(rt: HostRuntime) -> Result<(), Fail> {
+    let Ok(layout) = Layout::new(&TWO, Method::Last, 0) else {
+        panic!(rt; "the layout is lawful")
+    };
+    // the cells, and the calls: the file and its head are two
+    let cases: [(&[Laid], u64); 6] = [
+        (&[], 2),
+        (&[(0, 4, 840, 1)], 3),
+        (&[(0, 4, 840, 1), (0, 5, 900, 2), (0, 6, 960, 3)], 3),
+        (&[(0, 4, 840, 1), (0, 6, 960, 3)], 4),
+        // the end of one archive and the front of the next
+        (
+            &[
+                (0, 8, 480, 1),
+                (0, 9, 540, 1),
+                (1, 0, 300, 2),
+                (1, 1, 600, 3),
+            ],
+            4,
+        ),
+        (
+            &[
+                (0, 0, 600, 1),
+                (0, 9, 540, 1),
+                (1, 0, 300, 2),
+                (1, 2, 900, 3),
+            ],
+            6,
+        ),
+    ];
+    for (cells, calls) in cases {
+        for failing in 1..=calls + 1 {
+            let listed = Vec::from_slice(rt.alloc(), &[failing])?;
+            let mut disk = MemDisk::new(rt.alloc(), 304).failing(listed);
+            disk.put_file("b", Vec::from_slice(rt.alloc(), b"other")?)?;
+            let written = write(rt.alloc(), &mut disk, "a", layout, true, cells)?;
+            let wanted = if failing <= calls {
+                Err(RingFault::DiskFault)
+            } else {
+                Ok(())
+            };
+            assert_eq!(rt; written, wanted, "call {failing} of {calls}");
+            let Some(other) = bytes_of(rt.alloc(), &mut disk, "b")? else {
+                panic!(rt; "the file is there")
+            };
+            assert_eq!(rt; other.as_slice(), b"other".as_slice());
+        }
+    }
+    Ok(())
+}

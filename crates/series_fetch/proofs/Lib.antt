@@ -1,0 +1,4 @@
+pub mod CutLemmas
+pub mod LayingLemmas
+pub mod ShownLemmas
+pub mod WindowLemmas

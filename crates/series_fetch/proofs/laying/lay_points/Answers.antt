@@ -1,0 +1,26 @@
+use Rattle.std.proofs.Common.{◌≡◌, ◌+◌, ◌*◌, ◌-◌, ◌∙◌, None, drop, arith, length-take}
+use Rattle.std.proofs.lemmas.List.{length-set}
+use Rattle.std.proofs.lemmas.List.{get_or-set_other}
+use Rattle.series_fetch.proofs.CutLemmas.{few_between, values_of_bucket}
+use Rattle.series_fetch.proofs.LayingLemmas.{laid_more, value_laid, whole_more}
+use Rattle.series_fetch.proofs.laying.lay_points.Goals as goal
+
+pub shown_value-requires : goal.shown_value-requires
+shown_value-requires c =
+    let few = few_between c.args.points.now c.loop-k.limit c.args.step c.loop-k.at c.cut_from-end.result c.requires.rising c.loop-k.invariant.cut c.cut_from-end.ensures.cut c.cut_from-end.ensures.onward in
+    record { few = omega (arith, length-take (c.cut_from-end.result - c.loop-k.at) (drop c.loop-k.at c.args.known.now)) }
+
+pub loop-k-preserved : goal.loop-k-preserved
+loop-k-preserved c =
+    let now = c.loop-k.invariant in
+    let end : c.loop-k.limit + c.args.step ≡ c.args.first + (c.loop-k.k + 1) * c.args.step = omega (arith, now.place) in
+    let whole = whole_more c.args.first c.args.step c.loop-k.k c.requires.whole in
+    let pending = values_of_bucket c.args.points.now c.args.known.now c.args.step c.loop-k.limit c.loop-k.at c.cut_from-end.result now.cut c.cut_from-end.ensures.cut c.cut_from-end.ensures.onward c.requires.some (rw now.place whole) c.requires.known in
+    let value = value_laid c.args.layout.now c.args.points.now c.args.archive c.args.step c.loop-k.limit c.shown_value.result _ _ _ c.shown_value.ensures (now.rest c.loop-k.k (omega arith)) pending in
+    record {
+      place = end;
+      all = length-set c.loop-k.values c.loop-k.k c.shown_value.result ∙ now.all;
+      cut = c.cut_from-end.ensures.cut;
+      done = laid_more c.args.layout.now c.args.values.now c.loop-k.values c.args.points.now c.args.archive c.args.first c.args.step c.loop-k.k c.shown_value.result (omega (arith, now.all)) now.done (rw now.place at value);
+      rest = λ j above. get_or-set_other c.loop-k.values c.loop-k.k j c.shown_value.result None (omega arith) ∙ now.rest j (omega arith);
+    }

@@ -1,0 +1,3 @@
+pub mod Window
+pub mod Shown
+pub mod Cut

@@ -1,0 +1,57 @@
+//! The values of a window.
+ghost use Rattle.std.specs.Prelude.{◌≡◌, ◌≤◌, ℕ, true, All, IfOk, IsErrOf, length};
+ghost use Rattle.outside_io.specs.Faults.{Rose};
+ghost use Rattle.metric_line.specs.Moment.{is_moment};
+ghost use Rattle.point_cache.specs.Points.{IsRising};
+ghost use Rattle.ring_archive.specs.Ring.{HoldsRing, ReadsAs, Rings, UnderPatch};
+ghost use Rattle.series_fetch.specs.Window.{FitsWindow, IsWindow};
+ghost use Rattle.series_fetch.specs.Shown.{shown};
+
+use crate::laying::with_pending;
+use crate::range::Window;
+use fixed_num::Milli;
+use outside_io::Disk;
+use ring_archive::{RingFault, RingView};
+use ring_format::Patch;
+use std::alloc::Global;
+
+/// The values of a window's buckets, in order, in thousandths, of the metric whose archives the view and the patch make
+/// and whose pending points, in rising time, are `cached`.
+///
+/// A bucket with pending points shows what they give, whatever its archive holds: in the finest archive the latest of
+/// them, and in a coarser one their rollup by the layout's method with all of them known, which is `None` where the
+/// exact result does not fit. A bucket without pending points shows what its archive holds. The disk is read at most
+/// three times, and not at all for an empty window or under a fresh patch.
+///
+/// Errors: `DiskFault` where a read failed, and `NoMemory`.
+pub fn fetch<D: Disk>(
+    alloc: Global,
+    view: &RingView<'_>,
+    disk: &mut D,
+    patch: &Patch,
+    window: Window,
+    cached: &[(u32, Milli)],
+) -> Result<Vec<Option<Milli>>, RingFault>
+    requires layout { patch.now.layout ≡ view.now.layout }
+    requires window { IsWindow view.now.layout window }
+    requires rising { IsRising cached.now }
+    requires moments { All (λ p. is_moment p.0 ≡ true) cached.now }
+    requires file { HoldsRing patch.now.fresh (D.image disk.old) view.now.name.now view.now.layout.archives }
+    ensures shown { IfOk result (λ values. UnderPatch patch.now.fresh (D.image disk.old) view.now.name.now (λ file. (rings : Rings) → ReadsAs patch.now file rings → values.items ≡ shown view.now.layout rings cached.now window)) }
+    ensures fits { IfOk result (λ values. FitsWindow view.now.layout window (length values.items)) }
+    ensures kept { D.image disk.new ≡ D.image disk.old }
+    ensures later { D.faults disk.old ≤ D.faults disk.new }
+    ensures cause { IsErrOf result RingFault.DiskFault → Rose (D.faults disk.old) (D.faults disk.new) }
+{
+    let Window::Range(archive, first, end) = window else {
+        return Ok(Vec::new(alloc));
+    };
+    let step = view.layout.archive(archive).step;
+    let (first, end) = (first as u32, end as u32);
+    let count = (end - first) / step;
+    let mut values = view.cells(alloc, disk, patch, archive, first, count)?;
+    // There are as many, but of a disk that does not tell its bytes nothing is known of them.
+    values.truncate(count as usize);
+    let shown = with_pending(alloc, values, &view.layout, archive, first, step, cached)?;
+    Ok(shown)
+}
