@@ -1,0 +1,8 @@
+pub mod TextLemmas
+pub mod UnitLemmas
+pub mod SplitLemmas
+pub mod PatternLemmas
+pub mod FactorLemmas
+pub mod LayoutLemmas
+pub mod Cross
+pub mod RulesCross

@@ -1,0 +1,9 @@
+use Rattle.std.proofs.Common.{◌≡◌, ◌+◌, drop, []}
+use Rattle.schema_rules.specs.RuleSections.{aggregations_from}
+use Rattle.schema_rules.proofs.aggregation.aggregations_of.Given as goal
+
+abbrev pub invariant-loop-section : goal.invariant-loop-section
+invariant-loop-section l = record {
+  same : aggregations_from [] 1 l.sections ≡ aggregations_from l.rules.items l.number (drop l.section-index l.sections);
+  count : l.number ≡ l.section-index + 1;
+}
