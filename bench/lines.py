@@ -9,7 +9,7 @@ The kinds of lines:
   refused        short lines that are read to their third field and refused there: framing, reading and counting alone
   long           lines of 16,384 bytes, of which only the blanks between the fields are many (a hundredth of the lines)
 
-Nothing is checked beyond the exit status, and nothing timed here is a test: the numbers are for reading. Run ./carbon once
+The points are drained into a folder of its own at the end of each. Nothing is checked beyond the exit status, and nothing timed here is a test: the numbers are for reading. Run ./carbon once
 to build the program.
 """
 import os
@@ -48,12 +48,12 @@ KINDS = {"one path": one_path, "many paths": many_paths, "refused": refused, "lo
 
 
 def run(kind, lines):
-    with tempfile.NamedTemporaryFile() as given, open(os.devnull, "wb") as nowhere:
+    with tempfile.NamedTemporaryFile() as given, tempfile.TemporaryDirectory() as folder, open(os.devnull, "wb") as nowhere:
         # another process makes the lines, so that the peak of this one's children is theirs
         subprocess.run([sys.executable, __file__, "--make", kind, str(lines), given.name], check=True)
         size = os.path.getsize(given.name)
         began = time.monotonic()
-        child = subprocess.Popen([PROGRAM, "script"], stdin=given, stdout=nowhere)
+        child = subprocess.Popen([PROGRAM, "script"], stdin=given, stdout=nowhere, cwd=folder)
         _, status, used = os.wait4(child.pid, 0)
         took = time.monotonic() - began
     if status != 0:

@@ -1,11 +1,13 @@
-//! The storage daemon: its words, its standard streams and its exit status. All else is `carbon_run::run`.
+//! The storage daemon: its words, its standard streams, its disks and its exit status. All else is `carbon_run::run`.
+//!
+//! The ring files stand below the working folder, those of class 0 in `data/00`, and so on to `data/15`.
 #![tactic(auto)]
 
 ghost use Rattle.std.specs.Prelude.{◌≡◌, IfOk, vec_len};
 
 use carbon_run::run;
-use outside_io::{ClosedNet, FixedClock, MemDisk, StdSink, StdSource};
-use std::alloc::{AllocError, Global};
+use outside_io::{ClosedNet, FixedClock, FolderDisk, StdSink, StdSource};
+use std::alloc::AllocError;
 use std::process::ExitCode;
 use std::{env, io};
 
@@ -21,10 +23,10 @@ fn main(rt: HostRuntime) -> io::Result<ExitCode> {
     for word in env::args(&rt)?.skip(1) {
         words.push(word)?;
     }
-    let disks = disks_without_room(alloc)?;
+    let disks = folders(&rt)?;
     let mut input = StdSource::new(&rt);
     let mut out = StdSink::new(rt.clone()?);
-    let mut conf = MemDisk::new(alloc, 0);
+    let mut conf = FolderDisk::new(rt.clone()?, String::from_str(alloc, "conf")?);
     let clock = FixedClock::new(MOMENT);
     let mut net = ClosedNet;
     let report = run(
@@ -33,13 +35,15 @@ fn main(rt: HostRuntime) -> io::Result<ExitCode> {
     Ok(ExitCode::from(report.status))
 }
 
-/// A disk for each class, without room: there are no files yet.
-fn disks_without_room(alloc: Global) -> Result<Vec<MemDisk>, AllocError>
+/// A disk for each class, over the folders `data/00` to `data/15`.
+fn folders(rt: &HostRuntime) -> Result<Vec<FolderDisk<HostRuntime>>, AllocError>
     ensures { IfOk result (λ disks. vec_len disks ≡ 16) }
 {
+    let alloc = rt.alloc();
     let mut disks = Vec::with_capacity(alloc, CLASSES)?;
-    for _ in 0..CLASSES {
-        disks.push(MemDisk::new(alloc, 0))?;
+    for class in 0..CLASSES {
+        let folder = format!(in alloc; "data/{class:02}")?;
+        disks.push(FolderDisk::new(rt.clone()?, folder))?;
     }
     Ok(disks)
 }

@@ -1,10 +1,41 @@
--- The text that answers a question, in the JSON of Graphite's render API.
-use Rattle.std.specs.Prelude.{ℕ, ℤ, zero, suc, List, [], ◌∷◌, ◌++◌, Option, Some, None, codes, decimal}
+-- The answer to a question about one metric, and its text, in the JSON of Graphite's render API.
+use Rattle.std.specs.Prelude.{ℕ, ℤ, zero, suc, ◌+◌, ◌*◌, ◌^◌, ◌<◌, List, [], ◌∷◌, ◌++◌, length, Option, Some, None, codes, decimal, slice_index_or}
 use Rattle.fixed_num.specs.Print.{milli_text}
-use Rattle.carbon_model.specs.declared.window.Window.{Window}
-use Rattle.carbon_model.specs.Shown.{value_in, bucket_at}
+use Rattle.archive_update.specs.Batch.{step_of}
+use Rattle.ring_format.specs.Layout.{LayoutValue}
+use Rattle.ring_archive.specs.Ring.{Rings}
+use Rattle.series_fetch.specs.declared.range.Window.{Window}
+use Rattle.series_fetch.specs.declared.range.Window.TheVariants.{Empty, Range}
+use Rattle.series_fetch.specs.Window.{window}
+use Rattle.series_fetch.specs.Shown.{shown}
+use Rattle.carbon_model.specs.declared.series.Series.{Series}
+use Rattle.carbon_model.specs.State.{Kept, State, layout_of, points_in, rings_of}
 
--- the parts of the texts
+-- ---- the series
+
+-- what is shown in a window, unless it is empty
+abbrev pub series_in : LayoutValue → Rings → List (ℕ × ℤ) → Window → Option Series
+series_in layout rings points Empty = None
+series_in layout rings points (Range i first end) =
+    Some (record { first = first; step = step_of layout.archives i; values = shown layout rings points (Range i first end) })
+
+-- what is shown of a metric that is kept so and has these pending points: nothing where it has neither
+abbrev pub series_of : Option Kept → List (ℕ × ℤ) → ℕ → ℕ → ℕ → Option Series
+series_of None [] now from until = None
+series_of None (p ∷ ps) now from until =
+    series_in (layout_of None) (rings_of None) (p ∷ ps) (window (layout_of None) now from until)
+series_of (Some kept) points now from until = series_in kept.layout kept.rings points (window kept.layout now from until)
+
+-- what a state shows of a path
+abbrev pub series_at : State → List ℕ → ℕ → ℕ → ℕ → Option Series
+series_at s path now from until = series_of (s.kept path) (points_in s path) now from until
+
+-- all its buckets, and the end of the last, fit 32 bits
+abbrev pub EndsInTime : Series → Type 0
+EndsInTime s = (0 < s.step) × (s.first + length s.values * s.step < 2 ^ 32)
+
+-- ---- the parts of the texts
+
 unfoldable pub null_text : List ℕ
 null_text = codes "null"
 
@@ -35,21 +66,22 @@ abbrev pub separator : ℕ → List ℕ
 separator zero = []
 separator (suc i) = codes ", "
 
--- the i-th point from a bucket on, and what stands before it
-abbrev pub next_text : List (ℕ × ℤ) → ℕ → ℕ → List ℕ
-next_text points first i = separator i ++ point_text (value_in points (bucket_at first i)) (bucket_at first i)
+-- the i-th point, and what stands before it
+abbrev pub next_text : Series → ℕ → List ℕ
+next_text s i = separator i ++ point_text (slice_index_or s.values i None) (s.first + i * s.step)
 
--- the first n points from a bucket on, in order
-abbrev pub points_text : List (ℕ × ℤ) → ℕ → ℕ → List ℕ
-points_text points first zero = []
-points_text points first (suc n) = points_text points first n ++ next_text points first n
+-- the first n points, in order
+abbrev pub points_text : Series → ℕ → List ℕ
+points_text s zero = []
+points_text s (suc n) = points_text s n ++ next_text s n
+
+-- ---- the text
 
 -- the one series of a metric; the name stands as JSON writes a text that has no quote, no backslash and nothing past ASCII
-abbrev pub series_text : List ℕ → List (ℕ × ℤ) → Window → List ℕ
-series_text path points w = target_text ++ (path ++ (datapoints_text ++ (points_text points w.first w.count ++ series_end)))
+abbrev pub series_text : List ℕ → Series → List ℕ
+series_text path s = target_text ++ (path ++ (datapoints_text ++ (points_text s (length s.values) ++ series_end)))
 
--- What is answered of a metric with these pending points: no series where it has none, or where the window has no bucket.
-abbrev pub answer_text : List ℕ → List (ℕ × ℤ) → Option Window → List ℕ
-answer_text path [] w = no_series
-answer_text path (p ∷ ps) None = no_series
-answer_text path (p ∷ ps) (Some w) = series_text path (p ∷ ps) w
+-- what is answered: the series, or none
+abbrev pub answer_text : List ℕ → Option Series → List ℕ
+answer_text path None = no_series
+answer_text path (Some s) = series_text path s

@@ -1,5 +1,6 @@
 -- What a line of a script says.
-use Rattle.std.specs.Prelude.{ℕ, ◌+◌, ◌==◌, Bool, ◌||◌, nat_le, List, Option, Some, None, Result, Ok, Err, if◌then◌else◌, length, take, drop, position, codes, option_map, option_and_then}
+use Rattle.std.specs.Str.{bytes_eq}
+use Rattle.std.specs.Prelude.{ℕ, ◌+◌, ◌==◌, Bool, true, false, ◌||◌, nat_le, List, Option, Some, None, Result, Ok, Err, if◌then◌else◌, length, take, drop, position, codes, option_map, option_and_then}
 use Rattle.std.specs.List.{starts_with, list_any}
 use Rattle.std.specs.Prelude.{nat_eq}
 use Rattle.fixed_num.specs.Whole.{whole_number}
@@ -12,14 +13,15 @@ use Rattle.metric_line.specs.Point.{Point}
 use Rattle.line_frame.specs.Lines.{Line, Whole, TooLong}
 use Rattle.carbon_model.specs.declared.question.Question.{Question}
 
--- A line is a metric line, with its point or the reason why it is refused, or too long to be read; or it sets the clock, asks, or
--- is an unknown command.
+-- A line is a metric line, with its point or the reason why it is refused, or too long to be read; or it sets the clock, asks, has all
+-- drained, or is an unknown command.
 pub data Command : Type 0 where
   Metric : Point → Command
   Refused : LineFault → Command
   Long : Command
   Clock : ℕ → Command
   Ask : Question → Command
+  DrainAll : Command
   Bad : Command
 
 -- what stands behind a word that begins a text
@@ -94,9 +96,20 @@ set_clock line = option_and_then clock_moment (behind clock_word line)
 unfoldable pub asked : List ℕ → Option Question
 asked line = option_and_then question_in (behind ask_word line)
 
-abbrev pub ask_or_bad : Option Question → Command
-ask_or_bad (Some q) = Ask q
-ask_or_bad None = Bad
+-- the command that drains all, which nothing follows
+unfoldable pub drain_word : List ℕ
+drain_word = codes "!drain"
+
+unfoldable pub is_drain_all : List ℕ → Bool
+is_drain_all line = bytes_eq line drain_word
+
+abbrev pub drain_or_bad : Bool → Command
+drain_or_bad true = DrainAll
+drain_or_bad false = Bad
+
+abbrev pub ask_or : Option Question → Command → Command
+ask_or (Some q) other = Ask q
+ask_or None other = other
 
 abbrev pub clock_or : Option ℕ → Command → Command
 clock_or (Some t) other = Clock t
@@ -104,7 +117,7 @@ clock_or None other = other
 
 -- the command of a line that begins with `!`
 unfoldable pub command_in : List ℕ → Command
-command_in line = clock_or (set_clock line) (ask_or_bad (asked line))
+command_in line = clock_or (set_clock line) (ask_or (asked line) (drain_or_bad (is_drain_all line)))
 
 -- a line that begins with `!` is a command, and any other a metric line
 abbrev pub is_command : List ℕ → Bool

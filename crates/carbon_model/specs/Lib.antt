@@ -1,7 +1,6 @@
 pub mod State
+pub mod RingFiles
 pub mod Replay
-pub mod Window
-pub mod Shown
 pub mod Answer
 pub mod Command
 pub mod Counts

@@ -1,16 +1,17 @@
 -- The run of a script: what a carbon on one thread does with lines and commands.
-use Rattle.std.specs.Prelude.{◌≡◌, ℕ, ◌+◌, ◌==◌, Bool, true, false, max, List, [], ◌∷◌, ◌++◌, fold, codes, decimal, count_by, if◌then◌else◌}
+use Rattle.std.specs.Prelude.{◌≡◌, ℕ, zero, suc, ◌+◌, ◌-◌, ◌==◌, Bool, true, false, max, List, [], ◌∷◌, ◌++◌, length, map, fold, codes, decimal, count_by, if◌then◌else◌}
 use Rattle.line_frame.specs.Lines.{Line, lines}
 use Rattle.line_frame.specs.Machine.{Runs}
 use Rattle.metric_line.specs.Point.{Point}
 use Rattle.carbon_history.specs.declared.entry.Entry.{Entry}
 use Rattle.carbon_history.specs.declared.entry.Entry.TheVariants as entry
 use Rattle.carbon_history.specs.declared.entry.PutEnd.{PutEnd}
-use Rattle.carbon_model.specs.State.{State, nothing_pending, points_in}
-use Rattle.carbon_model.specs.Replay.{IsLegal, after}
-use Rattle.carbon_model.specs.Window.{window}
-use Rattle.carbon_model.specs.Answer.{answer_text}
-use Rattle.carbon_model.specs.Command.{Command, Metric, Refused, Long, Clock, Ask, Bad, command_of}
+use Rattle.carbon_model.specs.State.{State}
+use Rattle.carbon_model.specs.RingFiles.{opening_state}
+use Rattle.outside_io.specs.Image.{Image}
+use Rattle.carbon_model.specs.Replay.{IsLegal, after, replay}
+use Rattle.carbon_model.specs.Answer.{answer_text, series_at}
+use Rattle.carbon_model.specs.Command.{Command, Metric, Refused, Long, Clock, Ask, DrainAll, Bad, command_of}
 use Rattle.carbon_model.specs.declared.counts.Counts.{Counts}
 use Rattle.carbon_model.specs.declared.question.Question.{Question}
 use Rattle.carbon_model.specs.Counts.{no_counts, counted, refused, overlong}
@@ -26,9 +27,9 @@ pub record Machine : Type 0 where
 abbrev pub first_clock : ℕ
 first_clock = 1700000000
 
--- where a script begins
-abbrev pub opening : Machine
-opening = record { state = nothing_pending; clock = first_clock; counts = no_counts; entries = [] }
+-- where a script over disks with these images begins
+abbrev pub opening : (ℕ → Image) → Machine
+opening images = record { state = opening_state images; clock = first_clock; counts = no_counts; entries = [] }
 
 -- the number of a question in a pass, and 0 of anything else
 abbrev pub ask_number : ℕ → Entry → ℕ
@@ -53,10 +54,45 @@ bad_command = codes "bad command\n"
 
 -- the answer to a question, with a line end
 abbrev pub reply_text : Machine → Question → List ℕ
-reply_text m q = answer_text q.path (points_in m.state q.path) (window m.clock q.from q.until) ++ codes "\n"
+reply_text m q = answer_text q.path (series_at m.state q.path m.clock q.from q.until) ++ codes "\n"
+
+-- a number behind a word
+abbrev pub count_text : List ℕ → ℕ → List ℕ
+count_text word n = word ++ decimal n
+
+-- ---- drains
+
+-- the machine after more entries, which change its state
+abbrev pub with_entries : Machine → List Entry → Machine
+with_entries m entries = record { state = replay m.state entries; clock = m.clock; counts = m.counts; entries = m.entries ++ entries }
+
+-- the drains of all pending metrics of a class, as it picks them
+abbrev pub class_drains : Machine → ℕ → List Entry
+class_drains m class = map (λ metric. entry.Drain 0 metric.0 m.clock) (m.state.pending class)
+
+-- the machine after the drains of the first so many classes, in order
+abbrev pub classes_drained : Machine → ℕ → Machine
+classes_drained m zero = m
+classes_drained m (suc n) = with_entries (classes_drained m n) (class_drains (classes_drained m n) n)
+
+-- all is drained
+unfoldable pub all_drained : Machine → Machine
+all_drained m = classes_drained m 16
+
+-- how many drains that were
+unfoldable pub drained_word : List ℕ
+drained_word = codes "drained "
+
+abbrev pub drained_text : ℕ → List ℕ
+drained_text n = count_text drained_word n ++ codes "\n"
+
+abbrev pub drain_text : Machine → List ℕ
+drain_text m = drained_text (length (all_drained m).entries - length m.entries)
+
+-- ---- the steps
 
 -- What a script may do at a command, and what it writes. A point is put as the history allows, a line that is refused or too long is
--- counted, and a question is one entry and is answered.
+-- counted, a question is one entry and is answered, and all that is pending is drained.
 abbrev pub Does : Machine → Command → Machine → List ℕ → Type 0
 Does m (Metric point) next said =
     (end : PutEnd) × (IsLegal m.state (put_entry point end)
@@ -67,6 +103,7 @@ Does m Long next said = (next ≡ record { state = m.state; clock = m.clock; cou
 Does m (Clock t) next said = (next ≡ record { state = m.state; clock = t; counts = m.counts; entries = m.entries }) × (said ≡ [])
 Does m (Ask q) next said =
     (next ≡ record { state = m.state; clock = m.clock; counts = m.counts; entries = m.entries ++ ask_entry m ∷ [] }) × (said ≡ reply_text m q)
+Does m DrainAll next said = (next ≡ all_drained m) × (said ≡ drain_text m)
 Does m Bad next said = (next ≡ m) × (said ≡ bad_command)
 
 abbrev pub Steps : Machine → Line → Machine → List ℕ → Type 0
@@ -77,10 +114,6 @@ is_drain (entry.Drain pass path now) = true
 is_drain (entry.Put pass path time value end) = false
 is_drain (entry.Ask pass number try now) = false
 is_drain (entry.Fault pass class) = false
-
--- one number of the summary, behind its word
-abbrev pub count_text : List ℕ → ℕ → List ℕ
-count_text word n = word ++ decimal n
 
 unfoldable pub stored_word : List ℕ
 stored_word = codes "stored "
@@ -120,7 +153,8 @@ refusals_text c = count_text fields_word c.fields ++ (count_text path_word c.pat
 abbrev pub summary_text : Machine → List ℕ
 summary_text m = puts_text m.counts ++ (refusals_text m.counts ++ (count_text drains_word (count_by is_drain m.entries) ++ codes "\n"))
 
--- From `start` the script of these bytes makes these entries, and writes this text: that of its lines in order, and the summary.
-abbrev pub ScriptRun : Machine → List ℕ → List Entry → List ℕ → Type 0
-ScriptRun start input entries text =
-    (end : Machine) × (said : List ℕ) × (Runs Steps start (lines input) end said × (entries ≡ end.entries) × (text ≡ said ++ summary_text end))
+-- From `start` the script of these bytes comes to the machine `end`, and writes this text: that of its lines in order, and, once all that is
+-- still pending was drained, the summary.
+abbrev pub ScriptRun : Machine → List ℕ → Machine → List ℕ → Type 0
+ScriptRun start input end text =
+    (last : Machine) × (said : List ℕ) × (Runs Steps start (lines input) last said × (end ≡ all_drained last) × (text ≡ said ++ summary_text end))

@@ -5,9 +5,9 @@
 mod counts;
 mod laws;
 mod question;
-mod window;
+mod series;
 
 pub use counts::Counts;
 pub use laws::{fronts_are_legal, replay_in_parts};
 pub use question::Question;
-pub use window::Window;
+pub use series::{Series, Values};

@@ -1,9 +1,10 @@
-ghost use Rattle.std.specs.Prelude.{◌≡◌, ◌≢◌, ◌≤◌, ◌⊎◌};
+ghost use Rattle.std.specs.Prelude.{◌≡◌, ◌≢◌, ◌≤◌, ◌⊎◌, OnOk, OnErr};
 ghost use Rattle.std.specs.Io.KnownBytes.{Appends};
 ghost use Rattle.outside_io.specs.Faults.{Rose};
-ghost use Rattle.carbon_run.specs.Texts.{usage_line, read_fault_line, no_memory_line, limit_line};
+ghost use Rattle.carbon_run.specs.Texts.{usage_line, read_fault_line, no_memory_line, limit_line, damaged_line, damaged_word, disk_fault_line, disk_fault_word};
 
-use outside_io::{Sink, write_all};
+use itoa::Buffer;
+use outside_io::{Sink, WriteFault, write_all};
 
 /// Writes the fault line of a status. The answer is that status, or 7 where the line could not be written.
 fn tell<K: Sink>(out: &mut K, status: u8, line: &[u8]) -> u8
@@ -61,4 +62,71 @@ pub(crate) fn tell_limit<K: Sink>(out: &mut K) -> u8
     ensures later { K.write_faults out.old ≤ K.write_faults out.new }
 {
     tell(out, 10, b"carbon: limit\n")
+}
+
+/// Tells the first damaged file, by its name: status 4, or 7 where that could not be written.
+pub(crate) fn tell_damaged<K: Sink>(out: &mut K, name: &str) -> u8
+    ensures status { (result ≡ 4) ⊎ (result ≡ 7) }
+    ensures line { result ≡ 4 → Appends (K.written out.old) (K.written out.new) (damaged_line name.now) }
+    ensures cause { result ≡ 7 → Rose (K.write_faults out.old) (K.write_faults out.new) }
+    ensures later { K.write_faults out.old ≤ K.write_faults out.new }
+{
+    match write_damaged(out, name) {
+        Ok(()) => 4,
+        Err(_) => 7,
+    }
+}
+
+/// Writes the line of a damaged file.
+fn write_damaged<K: Sink>(out: &mut K, name: &str) -> Result<(), WriteFault>
+    ensures line { OnOk result (Appends (K.written out.old) (K.written out.new) (damaged_line name.now)) }
+    ensures cause { OnErr result (Rose (K.write_faults out.old) (K.write_faults out.new)) }
+    ensures later { K.write_faults out.old ≤ K.write_faults out.new }
+{
+    write_damaged_word(out)?;
+    write_all(out, name.as_bytes())?;
+    write_all(out, b"\n")
+}
+
+#[tactic(auto, unfolding(crate::specs::Texts::damaged_word))]
+fn write_damaged_word<K: Sink>(out: &mut K) -> Result<(), WriteFault>
+    ensures word { OnOk result (Appends (K.written out.old) (K.written out.new) damaged_word) }
+    ensures cause { OnErr result (Rose (K.write_faults out.old) (K.write_faults out.new)) }
+    ensures later { K.write_faults out.old ≤ K.write_faults out.new }
+{
+    write_all(out, b"carbon: damaged file ")
+}
+
+/// Tells that the disk of a class failed: status 5, or 7 where that could not be written.
+pub(crate) fn tell_disk_fault<K: Sink>(out: &mut K, class: u32) -> u8
+    ensures status { (result ≡ 5) ⊎ (result ≡ 7) }
+    ensures line { result ≡ 5 → Appends (K.written out.old) (K.written out.new) (disk_fault_line class) }
+    ensures cause { result ≡ 7 → Rose (K.write_faults out.old) (K.write_faults out.new) }
+    ensures later { K.write_faults out.old ≤ K.write_faults out.new }
+{
+    match write_disk_fault(out, class) {
+        Ok(()) => 5,
+        Err(_) => 7,
+    }
+}
+
+/// Writes the line of a failed disk.
+fn write_disk_fault<K: Sink>(out: &mut K, class: u32) -> Result<(), WriteFault>
+    ensures line { OnOk result (Appends (K.written out.old) (K.written out.new) (disk_fault_line class)) }
+    ensures cause { OnErr result (Rose (K.write_faults out.old) (K.write_faults out.new)) }
+    ensures later { K.write_faults out.old ≤ K.write_faults out.new }
+{
+    let mut buffer = Buffer::new();
+    write_disk_fault_word(out)?;
+    write_all(out, buffer.format(class).as_bytes())?;
+    write_all(out, b"\n")
+}
+
+#[tactic(auto, unfolding(crate::specs::Texts::disk_fault_word))]
+fn write_disk_fault_word<K: Sink>(out: &mut K) -> Result<(), WriteFault>
+    ensures word { OnOk result (Appends (K.written out.old) (K.written out.new) disk_fault_word) }
+    ensures cause { OnErr result (Rose (K.write_faults out.old) (K.write_faults out.new)) }
+    ensures later { K.write_faults out.old ≤ K.write_faults out.new }
+{
+    write_all(out, b"carbon: disk fault class ")
 }

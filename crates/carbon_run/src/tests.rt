@@ -1,7 +1,9 @@
 //! Whole runs over streams in memory.
+ghost use Rattle.std.specs.Prelude.{◌≡◌, IfOk, vec_len};
+
 use crate::{Report, run};
 use carbon_history::{Entry, PutEnd};
-use outside_io::{ClosedNet, FixedClock, MemDisk, MemSink, MemSource};
+use outside_io::{ClosedNet, Disk, FixedClock, MemDisk, MemSink, MemSource};
 use std::alloc::{AllocError, Global};
 use std::process::Abort;
 use std::test::Fail;
@@ -12,7 +14,7 @@ const ONE_POINT: &str =
 const ONE_POINT_GRAPH: &str = "[{\"target\": \"a.b\", \"datapoints\": [[1.5, 1699999980]]}]\n";
 
 const ONE_POINT_SUMMARY: &str =
-    "stored 1 replaced 0 full 0 fields 0 path 0 value 0 time 0 long 0 drains 0\n";
+    "stored 1 replaced 0 full 0 fields 0 path 0 value 0 time 0 long 0 drains 1\n";
 
 const NOTHING: &str = "stored 0 replaced 0 full 0 fields 0 path 0 value 0 time 0 long 0 drains 0\n";
 
@@ -20,23 +22,37 @@ fn source_of(alloc: Global, text: &[u8]) -> Result<MemSource, AllocError> {
     Ok(MemSource::new(alloc, Vec::from_slice(alloc, text)?))
 }
 
-fn run_on(
-    rt: &impl Abort,
+// A disk for each class.
+const CLASSES: usize = 16;
+
+// So many bytes hold the files of a few metrics, each of a week of minutes.
+const ROOM: u64 = 1_000_000;
+
+fn empty_disks(alloc: Global) -> Result<Vec<MemDisk>, AllocError>
+    ensures { IfOk result (λ disks. vec_len disks ≡ 16) }
+{
+    let mut disks = Vec::with_capacity(alloc, CLASSES)?;
+    for _ in 0..CLASSES {
+        disks.push(MemDisk::new(alloc, ROOM))?;
+    }
+    Ok(disks)
+}
+
+fn run_over(
     alloc: Global,
     word: &str,
     mut input: MemSource,
+    disks: Vec<MemDisk>,
     out: &mut MemSink,
-) -> Result<Report<MemDisk>, AllocError> {
+) -> Result<Report<MemDisk>, AllocError>
+    requires { vec_len disks ≡ 16 }
+    ensures { IfOk result (λ report. vec_len report.disks ≡ 16) }
+{
     let mut words = Vec::new(alloc);
     words.push(String::from_str(alloc, word)?)?;
-    let mut disks = Vec::new(alloc);
-    for _ in 0..16 {
-        disks.push(MemDisk::new(alloc, 0))?;
-    }
-    assert_eq!(rt; disks.len(), 16);
     let mut conf = MemDisk::new(alloc, 0);
     let clock = FixedClock::new(1_700_000_000);
-    let report = run(
+    Ok(run(
         alloc,
         &words,
         &mut input,
@@ -45,9 +61,19 @@ fn run_on(
         disks,
         &clock,
         &mut ClosedNet,
-    );
-    assert_eq!(rt; report.disks.len(), 16);
-    Ok(report)
+    ))
+}
+
+fn run_on(
+    alloc: Global,
+    word: &str,
+    input: MemSource,
+    out: &mut MemSink,
+) -> Result<Report<MemDisk>, AllocError>
+    ensures { IfOk result (λ report. vec_len report.disks ≡ 16) }
+{
+    let disks = empty_disks(alloc)?;
+    run_over(alloc, word, input, disks, out)
 }
 
 fn assert_run(
@@ -58,7 +84,7 @@ fn assert_run(
     text: &str,
 ) -> Result<(), AllocError> {
     let mut out = MemSink::new(alloc);
-    let report = run_on(rt, alloc, "script", input, &mut out)?;
+    let report = run_on(alloc, "script", input, &mut out)?;
     assert_eq!(rt; report.status, status);
     assert_eq!(rt; out.bytes(), text.as_bytes());
     Ok(())
@@ -96,9 +122,19 @@ fn points_are_shown_by_bucket_and_time(rt: HostRuntime) -> Result<(), Fail> {
         !ask target=a.b&from=1700000131&until=1700000140\n!ask target=a.b&from=1600000000&until=1600000060\n";
     let text =
         "[{\"target\": \"a.b\", \"datapoints\": [[3.0, 1699999980], [null, 1700000040], [-0.5, 1700000100]]}]\n\
-        []\n[]\n[]\nstored 4 replaced 1 full 0 fields 0 path 0 value 0 time 0 long 0 drains 0\n";
+        []\n[]\n[]\nstored 4 replaced 1 full 0 fields 0 path 0 value 0 time 0 long 0 drains 2\n";
     assert_run(&rt, alloc, source_of(alloc, input.as_bytes())?, 0, text)?;
     Ok(())
+}
+
+// An empty ring file of 10 points of a minute, which is quicker to fill than a new one of a week.
+fn small_ring(alloc: Global) -> Result<Vec<u8>, AllocError> {
+    let mut bytes = Vec::new(alloc);
+    for number in [1, 600, 500_000, 1, 28, 60, 10u32] {
+        bytes.extend_from_slice(&number.to_be_bytes())?;
+    }
+    bytes.resize(148, 0)?;
+    Ok(bytes)
 }
 
 #[test]
@@ -110,12 +146,20 @@ fn refused_lines_are_counted_by_their_reason(rt: HostRuntime) -> Result<(), Fail
     )?;
     input.extend_from_slice(vec![in alloc; b'x'; 16_385]?.as_slice())?;
     input.extend_from_slice(b"\na.b 1 1700000000\n")?;
-    let text = "stored 1 replaced 0 full 0 fields 1 path 1 value 2 time 0 long 1 drains 0\n";
+    let text = "stored 1 replaced 0 full 0 fields 1 path 1 value 2 time 0 long 1 drains 1\n";
     for cut in 1..input.len() {
+        // of the long line, which is the same byte again and again, every 16th byte is enough
+        if cut > 200 && cut < 16_300 && cut % 16 != 0 {
+            continue;
+        }
         let mut cuts = Vec::new(alloc);
         cuts.push(cut)?;
         let source = MemSource::new(alloc, input.clone()?).cut_at(cuts);
-        assert_run(&rt, alloc, source, 0, text)?;
+        let disks = disks_with(alloc, CLASS, "a/b.ring", small_ring(alloc)?)?;
+        let mut out = MemSink::new(alloc);
+        let report = run_over(alloc, "script", source, disks, &mut out)?;
+        assert_eq!(rt; report.status, 0);
+        assert_eq!(rt; out.bytes(), text.as_bytes());
     }
     assert_run(&rt, alloc, MemSource::new(alloc, input).at_most(1), 0, text)?;
     Ok(())
@@ -131,7 +175,7 @@ fn real_senders_are_understood(rt: HostRuntime) -> Result<(), Fail> {
     let text =
         "[{\"target\": \"servers.web01.loadavg.01\", \"datapoints\": [[0.425, 1699999980]]}]\n\
         [{\"target\": \"a.b\", \"datapoints\": [[2.5, 1699999980]]}]\n\
-        stored 3 replaced 0 full 0 fields 0 path 0 value 0 time 0 long 0 drains 0\n";
+        stored 3 replaced 0 full 0 fields 0 path 0 value 0 time 0 long 0 drains 2\n";
     assert_run(&rt, alloc, source_of(alloc, input.as_bytes())?, 0, text)?;
     Ok(())
 }
@@ -204,7 +248,7 @@ fn hostile_lines_change_nothing_but_their_count(rt: HostRuntime) -> Result<(), F
         input.push(b'\n')?;
         input.extend_from_slice(ONE_POINT.as_bytes())?;
         let text = format!(in alloc;
-            "{ONE_POINT_GRAPH}stored 1 replaced 0 full 0 {refusals} drains 0\n"
+            "{ONE_POINT_GRAPH}stored 1 replaced 0 full 0 {refusals} drains 1\n"
         )?;
         assert_run(
             &rt,
@@ -264,7 +308,7 @@ fn a_failed_write_ends_the_run(rt: HostRuntime) -> Result<(), Fail> {
     for (calls, text) in table {
         let mut out = MemSink::new(alloc).failing(Vec::from_slice(alloc, calls)?);
         let input = source_of(alloc, ONE_POINT.as_bytes())?;
-        let report = run_on(&rt, alloc, "script", input, &mut out)?;
+        let report = run_on(alloc, "script", input, &mut out)?;
         assert_eq!(rt; report.status, 7);
         assert_eq!(rt; out.bytes(), text.as_bytes());
     }
@@ -275,7 +319,7 @@ fn a_failed_write_ends_the_run(rt: HostRuntime) -> Result<(), Fail> {
 fn a_fault_line_that_cannot_be_written_is_a_failed_write(rt: HostRuntime) -> Result<(), Fail> {
     let alloc = rt.alloc();
     let mut out = MemSink::new(alloc).failing(Vec::from_slice(alloc, &[1])?);
-    let report = run_on(&rt, alloc, "serve", source_of(alloc, b"")?, &mut out)?;
+    let report = run_on(alloc, "serve", source_of(alloc, b"")?, &mut out)?;
     assert_eq!(rt; report.status, 7);
     assert_eq!(rt; out.bytes().len(), 0);
     Ok(())
@@ -287,7 +331,6 @@ fn other_words_are_told_the_usage(rt: HostRuntime) -> Result<(), Fail> {
     for word in ["", "serve", "Script", "script "] {
         let mut out = MemSink::new(alloc);
         let report = run_on(
-            &rt,
             alloc,
             word,
             source_of(alloc, ONE_POINT.as_bytes())?,
@@ -300,19 +343,18 @@ fn other_words_are_told_the_usage(rt: HostRuntime) -> Result<(), Fail> {
 }
 
 #[test]
-fn puts_and_asks_are_entered(rt: HostRuntime) -> Result<(), Fail> {
+fn puts_asks_and_drains_are_entered(rt: HostRuntime) -> Result<(), Fail> {
     let alloc = rt.alloc();
     let mut out = MemSink::new(alloc);
     let input = format!(in alloc; "{ONE_POINT}a.b 2 1700000000\n")?;
     let report = run_on(
-        &rt,
         alloc,
         "script",
         source_of(alloc, input.as_bytes())?,
         &mut out,
     )?;
     let entries = report.history.entries();
-    assert_eq!(rt; entries.len(), 3);
+    assert_eq!(rt; entries.len(), 4);
     assert!(rt;
         matches!(
             &entries[0],
@@ -326,5 +368,225 @@ fn puts_and_asks_are_entered(rt: HostRuntime) -> Result<(), Fail> {
             Entry::Put(0, _, 1_700_000_000, 2000, PutEnd::Replaced)
         )
     );
+    assert!(rt; matches!(&entries[3], Entry::Drain(0, _, 1_700_000_030)));
+    Ok(())
+}
+
+// The class of the path a.b, whose file is on that disk.
+const CLASS: usize = 12;
+
+const DRAINED_GRAPH: &str =
+    "drained 1\n[{\"target\": \"a.b\", \"datapoints\": [[1.5, 1699999980]]}]\n";
+
+const QUESTION: &str = "!clock 1700000030\n!ask target=a.b&from=1699999930&until=1700000030\n";
+
+// The first bytes of a file, as many as there is room for: none where they cannot be read.
+fn front_of(disk: &mut MemDisk, name: &str, room: &mut [u8]) -> Option<u64> {
+    let Ok(Some(size)) = disk.length(name) else {
+        return None;
+    };
+    if size < room.len() as u64 || disk.read_at(name, 0, room).is_err() {
+        return None;
+    }
+    Some(size)
+}
+
+fn disks_with(
+    alloc: Global,
+    class: usize,
+    name: &str,
+    bytes: Vec<u8>,
+) -> Result<Vec<MemDisk>, AllocError>
+    ensures { IfOk result (λ disks. vec_len disks ≡ 16) }
+{
+    let mut disks = Vec::with_capacity(alloc, 16)?;
+    let mut held = Some(bytes);
+    for k in 0..16 {
+        let mut disk = MemDisk::new(alloc, ROOM);
+        if k == class {
+            if let Some(bytes) = held.take() {
+                disk.put_file(name, bytes)?;
+            }
+        }
+        disks.push(disk)?;
+    }
+    Ok(disks)
+}
+
+#[test]
+fn one_point_goes_to_its_file(rt: HostRuntime) -> Result<(), Fail> {
+    let alloc = rt.alloc();
+    let mut out = MemSink::new(alloc);
+    let input = source_of(alloc, ONE_POINT.as_bytes())?;
+    let mut report = run_on(alloc, "script", input, &mut out)?;
+    assert_eq!(rt; report.status, 0);
+    let mut front = [0; 52];
+    assert_eq!(rt;
+        front_of(&mut report.disks[CLASS], "a/b.ring", &mut front),
+        Some(120_988)
+    );
+    // average, a week, one half, one archive at 28 of 60 seconds by 10,080 points; then its first two cells
+    let want = [
+        0, 0, 0, 1, 0, 0x09, 0x3a, 0x80, 0, 0x07, 0xa1, 0x20, 0, 0, 0, 1, 0, 0, 0, 0x1c, 0, 0, 0,
+        0x3c, 0, 0, 0x27, 0x60, 0x65, 0x53, 0xf0, 0xec, 0, 0, 0, 0, 0, 0, 0x05, 0xdc, 0, 0, 0, 0,
+        0, 0, 0, 0, 0, 0, 0, 0u8,
+    ];
+    assert!(rt; front == want);
+    for (class, expected) in [(CLASS, 1), (0, 0), (15, 0)] {
+        assert!(rt; class < 16);
+        let names = match report.disks[class].names() {
+            Ok(names) => names.len(),
+            Err(_) => 99,
+        };
+        assert_eq!(rt; names, expected);
+    }
+    Ok(())
+}
+
+#[test]
+fn a_drained_point_is_graphed(rt: HostRuntime) -> Result<(), Fail> {
+    let alloc = rt.alloc();
+    let input = format!(in alloc; "a.b 1.5 1700000000\n!clock 1700000030\n!drain\n{QUESTION}")?;
+    let text = format!(in alloc; "{DRAINED_GRAPH}{ONE_POINT_SUMMARY}")?;
+    assert_run(
+        &rt,
+        alloc,
+        source_of(alloc, input.as_bytes())?,
+        0,
+        text.as_str(),
+    )?;
+    let input =
+        "a.b 2 1700000039\na.b 1 1699999980\n!clock 1700000040\n!ask target=a.b&from=1699999930&until=1700000039\n\
+        !drain\n!ask target=a.b&from=1699999930&until=1700000039\n!drain\n";
+    let text = "[{\"target\": \"a.b\", \"datapoints\": [[2.0, 1699999980]]}]\ndrained 1\n\
+        [{\"target\": \"a.b\", \"datapoints\": [[2.0, 1699999980]]}]\ndrained 0\n\
+        stored 2 replaced 0 full 0 fields 0 path 0 value 0 time 0 long 0 drains 1\n";
+    assert_run(&rt, alloc, source_of(alloc, input.as_bytes())?, 0, text)?;
+    Ok(())
+}
+
+#[test]
+fn a_second_run_shows_what_the_first_drained(rt: HostRuntime) -> Result<(), Fail> {
+    let alloc = rt.alloc();
+    let mut out = MemSink::new(alloc);
+    let first = run_on(
+        alloc,
+        "script",
+        source_of(alloc, ONE_POINT.as_bytes())?,
+        &mut out,
+    )?;
+    let mut out = MemSink::new(alloc);
+    let input = format!(in alloc;
+        "{QUESTION}a.b 3 1700000100\n!clock 1700000130\n!drain\n\
+        !ask target=a.b&from=1699999930&until=1700000130\n"
+    )?;
+    let report = run_over(
+        alloc,
+        "script",
+        source_of(alloc, input.as_bytes())?,
+        first.disks,
+        &mut out,
+    )?;
+    let text = "[{\"target\": \"a.b\", \"datapoints\": [[1.5, 1699999980]]}]\ndrained 1\n\
+        [{\"target\": \"a.b\", \"datapoints\": [[1.5, 1699999980], [null, 1700000040], [3.0, 1700000100]]}]\n\
+        stored 1 replaced 0 full 0 fields 0 path 0 value 0 time 0 long 0 drains 1\n";
+    assert_eq!(rt; report.status, 0);
+    assert_eq!(rt; out.bytes(), text.as_bytes());
+    Ok(())
+}
+
+#[test]
+fn a_file_of_zeros_counts_as_none(rt: HostRuntime) -> Result<(), Fail> {
+    let alloc = rt.alloc();
+    let disks = disks_with(alloc, CLASS, "a/b.ring", vec![in alloc; 0; 28]?)?;
+    let mut out = MemSink::new(alloc);
+    let input = format!(in alloc; "{QUESTION}{ONE_POINT}")?;
+    let input = source_of(alloc, input.as_bytes())?;
+    let mut report = run_over(alloc, "script", input, disks, &mut out)?;
+    let text = format!(in alloc; "[]\n{ONE_POINT_GRAPH}{ONE_POINT_SUMMARY}")?;
+    assert_eq!(rt; report.status, 0);
+    assert_eq!(rt; out.bytes(), text.as_bytes());
+    let mut front = [0; 1];
+    assert_eq!(rt;
+        front_of(&mut report.disks[CLASS], "a/b.ring", &mut front),
+        Some(120_988)
+    );
+    Ok(())
+}
+
+#[test]
+fn a_damaged_file_is_told_by_its_name(rt: HostRuntime) -> Result<(), Fail> {
+    let alloc = rt.alloc();
+    let mut bytes = vec![in alloc; 0; 60]?;
+    bytes[3] = 9;
+    let disks = disks_with(alloc, CLASS, "a/b.ring", bytes.clone()?)?;
+    let mut out = MemSink::new(alloc);
+    let input = source_of(alloc, ONE_POINT.as_bytes())?;
+    let mut report = run_over(alloc, "script", input, disks, &mut out)?;
+    assert_eq!(rt; report.status, 4);
+    assert_eq!(rt; out.bytes(), b"carbon: damaged file a/b.ring\n".as_slice());
+    assert_eq!(rt; report.history.entries().len(), 0);
+    let mut held = [0; 60];
+    assert_eq!(rt;
+        front_of(&mut report.disks[CLASS], "a/b.ring", &mut held),
+        Some(60)
+    );
+    assert!(rt; held[..] == bytes[..]);
+    Ok(())
+}
+
+#[test]
+fn files_of_other_names_are_left_alone(rt: HostRuntime) -> Result<(), Fail> {
+    let alloc = rt.alloc();
+    // a name that no path has, and the file of a path of class 12 on another disk
+    for (class, name) in [(CLASS, "a.b.ring"), (CLASS, "notes"), (3, "a/b.ring")] {
+        let bytes = vec![in alloc; 7; 60]?;
+        let disks = disks_with(alloc, class, name, bytes.clone()?)?;
+        let mut out = MemSink::new(alloc);
+        let input = source_of(alloc, ONE_POINT.as_bytes())?;
+        let mut report = run_over(alloc, "script", input, disks, &mut out)?;
+        assert_eq!(rt; report.status, 0);
+        assert!(rt; class < 16);
+        let mut held = [0; 60];
+        assert_eq!(rt;
+            front_of(&mut report.disks[class], name, &mut held),
+            Some(60)
+        );
+        assert!(rt; held[..] == bytes[..]);
+    }
+    Ok(())
+}
+
+// The drain of a new metric makes one create and two writes: its cells, and its head.
+#[test]
+fn a_disk_that_fails_ends_the_run(rt: HostRuntime) -> Result<(), Fail> {
+    let alloc = rt.alloc();
+    for call in 1..4 {
+        let mut disks = empty_disks(alloc)?;
+        let mut calls = Vec::new(alloc);
+        calls.push(call)?;
+        disks[CLASS] = MemDisk::new(alloc, ROOM).failing(calls);
+        let mut out = MemSink::new(alloc);
+        let input = source_of(alloc, ONE_POINT.as_bytes())?;
+        let report = run_over(alloc, "script", input, disks, &mut out)?;
+        let text = format!(in alloc; "{ONE_POINT_GRAPH}carbon: disk fault class 12\n")?;
+        assert_eq!(rt; report.status, 5, "call {call}");
+        assert_eq!(rt; out.bytes(), text.as_bytes());
+        assert_eq!(rt; report.disks[CLASS].faults(), 1);
+    }
+    Ok(())
+}
+
+#[test]
+fn a_disk_that_fails_in_a_drain_ends_the_run(rt: HostRuntime) -> Result<(), Fail> {
+    let alloc = rt.alloc();
+    let mut disks = empty_disks(alloc)?;
+    disks[CLASS] = MemDisk::new(alloc, 100);
+    let mut out = MemSink::new(alloc);
+    let input = format!(in alloc; "a.b 1.5 1700000000\n!drain\n{QUESTION}")?;
+    let input = source_of(alloc, input.as_bytes())?;
+    let report = run_over(alloc, "script", input, disks, &mut out)?;
+    assert_eq!(rt; report.status, 5);
+    assert_eq!(rt; out.bytes(), b"carbon: disk fault class 12\n".as_slice());
     Ok(())
 }

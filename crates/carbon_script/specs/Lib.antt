@@ -1,7 +1,9 @@
 pub mod SeenCommand
-pub mod Classes
 pub mod Windows
+pub mod Faults
 pub mod Means
 pub mod Changes
 pub mod PutEnds
 pub mod Standing
+pub mod Ends
+pub mod Replies

@@ -2,7 +2,7 @@
 use Rattle.std.specs.Prelude.{◌≡◌, true}
 use Rattle.metric_line.specs.Moment.{is_moment}
 use Rattle.metric_line.specs.Seen.{seen}
-use Rattle.carbon_model.specs.Command.{Command, Metric, Refused, Long, Clock, Ask, Bad}
+use Rattle.carbon_model.specs.Command.{Command, Metric, Refused, Long, Clock, Ask, DrainAll, Bad}
 use Rattle.carbon_script.specs.Windows.{IsQuestion}
 use Rattle.carbon_script.specs.declared.command.Command.{Command as Read}
 use Rattle.carbon_script.specs.declared.command.Command.TheVariants as read
@@ -13,6 +13,7 @@ seen_command (read.Refused fault) = Refused fault
 seen_command read.Long = Long
 seen_command (read.Clock moment) = Clock moment
 seen_command (read.Ask question) = Ask question
+seen_command read.DrainAll = DrainAll
 seen_command read.Bad = Bad
 
 -- what is set and asked lies in the ranges that the code counts in
@@ -22,4 +23,5 @@ IsSound (read.Refused fault) = Unit {0}
 IsSound read.Long = Unit {0}
 IsSound (read.Clock moment) = is_moment moment ≡ true
 IsSound (read.Ask question) = IsQuestion question
+IsSound read.DrainAll = Unit {0}
 IsSound read.Bad = Unit {0}

@@ -14,6 +14,8 @@ pub enum Command {
     Clock(u32),
     /// `!ask QUERY`: a question.
     Ask(Question),
+    /// `!drain`: all that is pending goes to the ring files.
+    DrainAll,
     /// Anything else.
     Bad,
 }

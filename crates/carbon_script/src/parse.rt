@@ -2,7 +2,7 @@ ghost use Rattle.std.specs.Prelude.{◌≡◌, ◌≤◌, IfOk, IfSome, true, le
 ghost use Rattle.std.specs.List.{list_any, starts_with};
 ghost use Rattle.fixed_num.specs.Whole.{whole_number};
 ghost use Rattle.line_frame.specs.Lines.{Whole};
-ghost use Rattle.carbon_model.specs.Command.{behind, clock_word, ask_word, from_word, until_word, clock_moment, set_clock, asked, cut_at_ampersand, ten_digits, is_ampersand, is_form_byte, form_path, form_moment, question_of, question_in, command_in, command_of, is_command};
+ghost use Rattle.carbon_model.specs.Command.{behind, clock_word, ask_word, from_word, until_word, clock_moment, set_clock, asked, cut_at_ampersand, ten_digits, is_ampersand, is_form_byte, form_path, form_moment, question_of, question_in, command_in, command_of, is_command, is_drain_all};
 ghost use Rattle.metric_line.specs.Moment.{is_moment};
 ghost use Rattle.carbon_script.specs.SeenCommand.{seen_command, IsSound};
 ghost use Rattle.carbon_script.specs.Windows.{IsQuestion};
@@ -47,8 +47,16 @@ fn read_command_in(alloc: Global, line: &[u8]) -> Result<Command, AllocError>
     }
     match read_asked(alloc, line)? {
         Some(question) => Ok(Command::Ask(question)),
+        None if is_drain_all(line) => Ok(Command::DrainAll),
         None => Ok(Command::Bad),
     }
+}
+
+#[tactic(auto, unfolding(carbon_model::specs::Command::is_drain_all, carbon_model::specs::Command::drain_word))]
+fn is_drain_all(line: &[u8]) -> bool
+    ensures { result ≡ is_drain_all line.now }
+{
+    line == b"!drain".as_slice()
 }
 
 #[tactic(auto, unfolding(carbon_model::specs::Command::set_clock))]

@@ -2,13 +2,15 @@ ghost use Rattle.std.specs.Prelude.{◌≡◌, ◌≤◌, true, IfSome};
 ghost use Rattle.metric_line.specs.Moment.{is_moment};
 ghost use Rattle.carbon_script.specs.PutEnds.{put_of};
 
-use crate::classes::Classes;
-use crate::reply::push_answer;
-use crate::window::window_of;
+use crate::fault::Fault;
+use crate::reply::reply;
 use carbon_history::{Entry, History, PutEnd};
 use carbon_model::{Counts, Question};
 use metric_line::{Datum, LineFault};
+use metric_path::MetricPath;
+use outside_io::Disk;
 use point_cache::Put;
+use shard_core::{CLASSES, Shards};
 use std::alloc::{AllocError, Global};
 
 /// The clock of a script before it is set: 2023-11-14 22:13:20 UTC.
@@ -17,10 +19,10 @@ const FIRST_CLOCK: u32 = 1_700_000_000;
 /// The pass of a script, which is the only one.
 const PASS: u32 = 0;
 
-/// A carbon on one thread: its pending points, its clock, and what it counted and entered.
+/// A carbon on one thread: its shards, its clock, and what it counted and entered.
 #[derive(Drop)]
-pub struct Plain {
-    classes: Classes,
+pub struct Plain<D: Disk> {
+    shards: Shards<D>,
     clock: u32,
     counts: Counts,
     history: History,
@@ -29,32 +31,39 @@ pub struct Plain {
     ghost legal: { is_moment clock ≡ true },
 }
 
-impl Plain {
-    ghost use Rattle.std.specs.Prelude.{◌≡◌, ◌++◌, ◌∷◌, [], true, IfOk, OnOk};
+impl<D: Disk> Plain<D> {
+    ghost use Rattle.std.specs.Prelude.{◌≡◌, ◌≤◌, ◌<◌, ◌-◌, ◌++◌, ◌∷◌, ℕ, [], length, true, IfOk, IfErr, OnOk, OnErr};
+    ghost use Rattle.outside_io.specs.Image.{Image};
     ghost use Rattle.metric_line.specs.Seen.{seen};
-    ghost use Rattle.carbon_model.specs.Script.{opening};
+    ghost use Rattle.carbon_model.specs.RingFiles.{opening_state};
+    ghost use Rattle.carbon_model.specs.Script.{Machine, all_drained, class_drains, opening, with_entries};
+    ghost use Rattle.carbon_model.specs.Answer.{answer_text};
     ghost use Rattle.carbon_model.specs.Command.{Command, Metric, Refused, Long, Clock, Ask};
-    ghost use Rattle.carbon_script.specs.Means.{Means, Acts};
-    ghost use Rattle.carbon_script.specs.Changes.{Counts as CountsPut, Asks, reply_of};
+    ghost use Rattle.shard_core.specs.Shards.{HoldsAll, NoFewer, pending_at};
+    ghost use Rattle.carbon_script.specs.Faults.{HasCause};
+    ghost use Rattle.carbon_script.specs.Means.{Means, Acts, DrainsOne};
+    ghost use Rattle.carbon_script.specs.Changes.{Counts as CountsPut, Asks, Drained};
     ghost use Rattle.carbon_script.specs.Windows.{IsQuestion};
 
-    /// Nothing pending, nothing counted and nothing entered.
-    pub fn new(alloc: Global) -> Result<Plain, AllocError>
-        ensures { IfOk result (λ plain. Means plain opening) }
+    /// Nothing counted and nothing entered, over these shards.
+    pub fn new(alloc: Global, shards: Shards<D>) -> Plain<D>
+        ensures means { (images : ℕ → Image) → HoldsAll images shards.items.items (opening_state images) → Means images result (opening images) }
+        ensures shards { result.shards ≡ shards }
     {
-        Ok(Plain {
-            classes: Classes::new(alloc)?,
+        Plain {
+            shards,
             clock: FIRST_CLOCK,
             counts: Counts::none(),
             history: History::empty(alloc),
             asks: 0,
-        })
+        }
     }
 
     /// Sets the clock to a legal moment.
     pub fn set_clock(&mut self, moment: u32)
         requires { is_moment moment ≡ true }
-        ensures { Acts self.old (Clock moment) [] self.new }
+        ensures acts { Acts self.old (Clock moment) [] self.new }
+        ensures shards { self.new.shards ≡ self.old.shards }
     {
         self.clock = moment;
     }
@@ -69,24 +78,26 @@ impl Plain {
 
     /// Counts a metric line that was refused, by the reason.
     pub fn refuse(&mut self, fault: &LineFault)
-        ensures { Acts self.old (Refused fault.now) [] self.new }
+        ensures acts { Acts self.old (Refused fault.now) [] self.new }
+        ensures shards { self.new.shards ≡ self.old.shards }
     {
         self.counts.count_refused(fault);
     }
 
     /// Counts a line that was too long.
     pub fn pass_over_long_line(&mut self)
-        ensures { Acts self.old Long [] self.new }
+        ensures acts { Acts self.old Long [] self.new }
+        ensures shards { self.new.shards ≡ self.old.shards }
     {
         self.counts.count_long();
     }
 
     /// Puts the point of a metric line.
-    #[tactic(auto, using(crate::proofs::MeansLemmas::acts_put))]
     pub fn put(&mut self, datum: Datum) -> Result<(), AllocError>
-        ensures { OnOk result (Acts self.old (Metric (seen datum)) [] self.new) }
+        ensures acts { OnOk result (Acts self.old (Metric (seen datum)) [] self.new) }
+        ensures later { NoFewer self.old.shards.items.items self.new.shards.items.items }
     {
-        let put = self.classes.put(&datum.path, datum.time, datum.value);
+        let put = self.shards.put(&datum);
         let Some(end) = end_of(put) else {
             return Err(AllocError);
         };
@@ -96,7 +107,8 @@ impl Plain {
 
     /// Enters a put into the history, and counts it.
     fn enter_put(&mut self, datum: Datum, end: PutEnd) -> Result<(), AllocError>
-        ensures { OnOk result (CountsPut self.old self.new (seen datum) end) }
+        ensures counts { OnOk result (CountsPut self.old self.new (seen datum) end) }
+        ensures shards { self.new.shards ≡ self.old.shards }
     {
         let Datum { path, time, value } = datum;
         self.history
@@ -106,33 +118,31 @@ impl Plain {
     }
 
     /// Answers a question, with a line end.
-    #[tactic(auto, using(crate::proofs::MeansLemmas::acts_ask))]
-    pub fn ask(&mut self, alloc: Global, question: &Question) -> Result<Vec<u8>, AllocError>
+    pub fn ask(&mut self, alloc: Global, question: &Question) -> Result<Vec<u8>, Fault>
         requires { IsQuestion question.now }
-        ensures { IfOk result (λ text. Acts self.old (Ask question.now) text.items self.new) }
+        ensures acts { IfOk result (λ text. Acts self.old (Ask question.now) text.items self.new) }
+        ensures later { NoFewer self.old.shards.items.items self.new.shards.items.items }
+        ensures cause { IfErr result (λ fault. HasCause fault self.old.shards.items.items self.new.shards.items.items) }
     {
-        let text = self.reply(alloc, question)?;
-        self.enter_ask()?;
-        Ok(text)
-    }
-
-    /// The answer to a question, with a line end.
-    fn reply(&self, alloc: Global, question: &Question) -> Result<Vec<u8>, AllocError>
-        requires { IsQuestion question.now }
-        ensures { IfOk result (λ text. text.items ≡ reply_of self.now question.now) }
-    {
-        let mut text = Vec::new(alloc);
-        let path = &question.path;
-        let points = self.classes.points(path);
-        let window = window_of(self.clock, question.from, question.until);
-        push_answer(alloc, &mut text, path, points, window)?;
-        text.extend_from_slice(b"\n")?;
-        Ok(text)
+        let ends = (u64::from(question.from), u64::from(question.until));
+        let now = u64::from(self.clock);
+        let series = match self.shards.show(&question.path, ends, now) {
+            Ok(series) => series,
+            Err(fault) => return Err(Fault::of(fault, question.path.class())),
+        };
+        let Ok(text) = reply(alloc, &question.path, &series) else {
+            return Err(Fault::NoMemory);
+        };
+        match self.enter_ask() {
+            Ok(()) => Ok(text),
+            Err(_) => Err(Fault::NoMemory),
+        }
     }
 
     /// Enters the next question into the history.
     fn enter_ask(&mut self) -> Result<(), AllocError>
-        ensures { OnOk result (Asks self.old self.new) }
+        ensures asks { OnOk result (Asks self.old self.new) }
+        ensures shards { self.new.shards ≡ self.old.shards }
     {
         let Some(number) = self.asks.checked_add(1) else {
             return Err(AllocError);
@@ -140,6 +150,79 @@ impl Plain {
         self.history
             .enter(Entry::Ask(PASS, number, 1, u64::from(self.clock)))?;
         self.asks = number;
+        Ok(())
+    }
+
+    /// Drains all that is pending, class by class, and answers how many metrics that were.
+    pub fn drain_all(&mut self) -> Result<usize, Fault>
+        ensures drains { OnOk result ((images : ℕ → Image) (m : Machine) → Means images self.old m → Means images self.new (all_drained m)) }
+        ensures count { IfOk result (λ count. count ≡ length self.new.history - length self.old.history) }
+        ensures later { NoFewer self.old.shards.items.items self.new.shards.items.items }
+        ensures cause { IfErr result (λ fault. HasCause fault self.old.shards.items.items self.new.shards.items.items) }
+    {
+        let before = self.history.entries().len();
+        match self.drain_classes() {
+            Ok(()) => Ok(self.history.entries().len().saturating_sub(before)),
+            Err(fault) => Err(fault),
+        }
+    }
+
+    /// Drains all classes, one after the other.
+    fn drain_classes(&mut self) -> Result<(), Fault>
+        ensures drains { OnOk result ((images : ℕ → Image) (m : Machine) → Means images self.old m → Means images self.new (all_drained m)) }
+        ensures later { NoFewer self.old.shards.items.items self.new.shards.items.items }
+        ensures cause { IfErr result (λ fault. HasCause fault self.old.shards.items.items self.new.shards.items.items) }
+    {
+        for class in 0..CLASSES as u32 {
+            match self.drain_class(class) {
+                Ok(()) => {}
+                Err(fault) => return Err(fault),
+            }
+        }
+        Ok(())
+    }
+
+    /// Drains all metrics of a class, as it picks them.
+    fn drain_class(&mut self, class: u32) -> Result<(), Fault>
+        requires { class < 16 }
+        ensures drains { OnOk result ((images : ℕ → Image) (m : Machine) → Means images self.old m → Means images self.new (with_entries m (class_drains m class))) }
+        ensures later { NoFewer self.old.shards.items.items self.new.shards.items.items }
+        ensures cause { IfErr result (λ fault. HasCause fault self.old.shards.items.items self.new.shards.items.items) }
+    {
+        loop {
+            match self.drain_next(class) {
+                Ok(true) => {}
+                Ok(false) => return Ok(()),
+                Err(fault) => return Err(fault),
+            }
+        }
+    }
+
+    /// Drains the metric that a class picks: false where nothing of it is pending.
+    fn drain_next(&mut self, class: u32) -> Result<bool, Fault>
+        requires { class < 16 }
+        ensures drains { IfOk result (λ more. (images : ℕ → Image) (m : Machine) → Means images self.old m → DrainsOne more m class (Means images self.new)) }
+        ensures fewer { IfOk result (λ more. more ≡ true → pending_at self.new.shards.items.items class < pending_at self.old.shards.items.items class) }
+        ensures later { NoFewer self.old.shards.items.items self.new.shards.items.items }
+        ensures cause { IfErr result (λ fault. HasCause fault self.old.shards.items.items self.new.shards.items.items) }
+    {
+        match self.shards.drain_next(class, self.clock) {
+            Ok(Some(path)) => match self.enter_drain(path) {
+                Ok(()) => Ok(true),
+                Err(_) => Err(Fault::NoMemory),
+            },
+            Ok(None) => Ok(false),
+            Err(fault) => Err(Fault::of(fault, class)),
+        }
+    }
+
+    /// Enters a drain into the history.
+    fn enter_drain(&mut self, path: MetricPath) -> Result<(), AllocError>
+        ensures drained { OnOk result (Drained self.old self.new path) }
+        ensures shards { self.new.shards ≡ self.old.shards }
+    {
+        self.history
+            .enter(Entry::Drain(PASS, path, u64::from(self.clock)))?;
         Ok(())
     }
 
@@ -157,11 +240,12 @@ impl Plain {
         self.history.entries()
     }
 
-    /// The history so far.
-    pub fn into_history(self) -> History
-        ensures { result ≡ self.history }
+    /// The shards, and the history so far.
+    pub fn into_parts(self) -> (Shards<D>, History)
+        ensures shards { result.0 ≡ self.shards }
+        ensures history { result.1 ≡ self.history }
     {
-        self.history
+        (self.shards, self.history)
     }
 }
 

@@ -1,96 +1,87 @@
-ghost use Rattle.std.specs.Prelude.{◌≡◌, ◌++◌, ◌<◌, OnOk};
-ghost use Rattle.std.specs.Option.{ForSome};
-ghost use Rattle.carbon_model.specs.Answer.{answer_text, series_text, points_text, next_text, point_text, value_text, separator, null_text, target_text, datapoints_text, series_end, no_series};
-ghost use Rattle.carbon_model.specs.Shown.{Shows};
-ghost use Rattle.carbon_script.specs.Windows.{IsWindow};
+ghost use Rattle.std.specs.Prelude.{◌≡◌, ◌++◌, ◌<◌, ◌≤◌, ◌*◌, ◌+◌, ◌^◌, IfOk, IfSome, OnOk, length};
+ghost use Rattle.carbon_script.specs.Replies.{reply_of};
+ghost use Rattle.carbon_model.specs.Answer.{EndsInTime, answer_text, series_text, points_text, next_text, point_text, value_text, separator, null_text, target_text, datapoints_text, series_end, no_series};
 
-use crate::shown::shown;
-use crate::window::STEP_SECONDS;
-use carbon_model::Window;
+use carbon_model::Series;
 use fixed_num::{MILLI_TEXT, Milli, print_milli};
 use itoa::Buffer;
 use metric_path::MetricPath;
 use std::alloc::{AllocError, Global};
 
-/// Appends the answer to a question about a metric with these pending points, as JSON.
-pub fn push_answer(
+/// The answer to a question about a metric, of which this is shown, with a line end.
+pub fn reply(
     alloc: Global,
+    path: &MetricPath,
+    series: &Option<Series>,
+) -> Result<Vec<u8>, AllocError>
+    requires { IfSome series.now EndsInTime }
+    ensures { IfOk result (λ text. text.items ≡ reply_of path.now series.now) }
+{
+    let mut text = Vec::new(alloc);
+    push_answer(&mut text, path, series)?;
+    text.extend_from_slice(b"\n")?;
+    Ok(text)
+}
+
+/// Appends the answer to a question about a metric, of which this is shown, as JSON.
+fn push_answer(
     out: &mut Vec<u8>,
     path: &MetricPath,
-    points: &[(u32, Milli)],
-    window: Option<Window>,
+    series: &Option<Series>,
 ) -> Result<(), AllocError>
-    requires { ForSome window IsWindow }
-    ensures { OnOk result (out.new.items ≡ out.old.items ++ answer_text path.now points.now window) }
+    requires { IfSome series.now EndsInTime }
+    ensures { OnOk result (out.new.items ≡ out.old.items ++ answer_text path.now series.now) }
 {
-    if points.is_empty() {
-        return push_no_series(out);
-    }
-    match window {
+    match series {
         None => push_no_series(out),
-        Some(window) => {
-            let values = shown(alloc, points, window)?;
-            push_series(out, path, points, window, &values)
-        }
+        Some(series) => push_series(out, path, series),
     }
 }
 
-/// Appends the series of a metric, whose values in the window are these.
-fn push_series(
-    out: &mut Vec<u8>,
-    path: &MetricPath,
-    points: &[(u32, Milli)],
-    window: Window,
-    values: &[Option<Milli>],
-) -> Result<(), AllocError>
-    requires window { IsWindow window }
-    requires values { Shows points.now window values.now }
-    ensures { OnOk result (out.new.items ≡ out.old.items ++ series_text path.now points.now window) }
+/// Appends the series of a metric.
+fn push_series(out: &mut Vec<u8>, path: &MetricPath, series: &Series) -> Result<(), AllocError>
+    requires { EndsInTime series.now }
+    ensures { OnOk result (out.new.items ≡ out.old.items ++ series_text path.now series.now) }
 {
     push_target(out)?;
     out.extend_from_slice(path.text())?;
     push_datapoints(out)?;
-    push_points(out, points, window, values)?;
+    push_points(out, series)?;
     push_series_end(out)
 }
 
-/// Appends the points of a window, whose values are these.
-fn push_points(
-    out: &mut Vec<u8>,
-    points: &[(u32, Milli)],
-    window: Window,
-    values: &[Option<Milli>],
-) -> Result<(), AllocError>
-    requires window { IsWindow window }
-    requires values { Shows points.now window values.now }
-    ensures { OnOk result (out.new.items ≡ out.old.items ++ points_text points.now window.first window.count) }
+/// Appends the points of a series.
+fn push_points(out: &mut Vec<u8>, series: &Series) -> Result<(), AllocError>
+    requires { EndsInTime series.now }
+    ensures { OnOk result (out.new.items ≡ out.old.items ++ points_text series.now (length series.now.values)) }
 {
-    for i in 0..window.count {
-        push_next(out, points, window, values, i)?;
+    for i in 0..series.values.list().len() {
+        push_next(out, series, i)?;
     }
     Ok(())
 }
 
-/// Appends the i-th point of a window, and what stands before it.
-fn push_next(
-    out: &mut Vec<u8>,
-    points: &[(u32, Milli)],
-    window: Window,
-    values: &[Option<Milli>],
-    i: u32,
-) -> Result<(), AllocError>
-    requires window { IsWindow window }
-    requires values { Shows points.now window values.now }
-    requires within { i < window.count }
-    ensures { OnOk result (out.new.items ≡ out.old.items ++ next_text points.now window.first i) }
+/// Appends the i-th point of a series, and what stands before it.
+fn push_next(out: &mut Vec<u8>, series: &Series, i: usize) -> Result<(), AllocError>
+    requires ends { EndsInTime series.now }
+    requires within { i < length series.now.values }
+    ensures { OnOk result (out.new.items ≡ out.old.items ++ next_text series.now i) }
 {
-    let _ = points;
     push_separator(out, i)?;
-    push_point(out, values[i as usize], window.first + i * STEP_SECONDS)
+    push_point(out, series.values.list()[i], time_of(series, i))
+}
+
+/// The time of the i-th bucket of a series.
+fn time_of(series: &Series, i: usize) -> u32
+    requires ends { EndsInTime series.now }
+    requires within { i < length series.now.values }
+    ensures { result ≡ series.now.first + i * series.now.step }
+{
+    series.first + i as u32 * series.step
 }
 
 /// Appends what stands before the i-th point.
-fn push_separator(out: &mut Vec<u8>, i: u32) -> Result<(), AllocError>
+fn push_separator(out: &mut Vec<u8>, i: usize) -> Result<(), AllocError>
     ensures { OnOk result (out.new.items ≡ out.old.items ++ separator i) }
 {
     if i == 0 {

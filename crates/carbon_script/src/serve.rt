@@ -1,18 +1,23 @@
-ghost use Rattle.std.specs.Prelude.{◌≡◌, ◌≢◌, ◌<◌, ◌≤◌, ◌^◌, [], OnOk, IfOk, Err, length, IfSome, count_by};
+ghost use Rattle.std.specs.Prelude.{◌≡◌, ◌≢◌, ◌<◌, ◌≤◌, ◌^◌, [], OnOk, OnErr, IfOk, IfErr, Err, length, IfSome, count_by};
 ghost use Rattle.std.specs.Io.KnownBytes.{Appends, IsAtEnd};
 ghost use Rattle.line_frame.specs.Lines.{Whole};
 ghost use Rattle.outside_io.specs.Faults.{Rose};
-ghost use Rattle.carbon_model.specs.Script.{bad_command, is_drain};
+ghost use Rattle.carbon_model.specs.Script.{bad_command, drained_text, is_drain};
 ghost use Rattle.carbon_script.specs.SeenCommand.{seen_command, IsSound};
-ghost use Rattle.carbon_script.specs.Standing.{AppendsSome, Serves, ReadsOn, Reaches, ServesCommand, ServesFramed, IsHandedOut, GoesOn, Summarizes, Scripts, summary_of};
+ghost use Rattle.carbon_script.specs.Standing.{AppendsSome, Serves, ReadsOn, Reaches, ServesCommand, ServesFramed, IsHandedOut, GoesOn, Finishes, GoesLater, HasDiskCause, Scripts, summary_of};
+ghost use Rattle.carbon_script.specs.Ends.{HasEndCause, end_of, stop_of};
+ghost use Rattle.carbon_model.specs.Command.{Ask, DrainAll};
+ghost use Rattle.carbon_script.specs.Windows.{IsQuestion};
 
 use crate::Plain;
 use crate::command::Command;
+use crate::fault::Fault;
 use crate::parse::read_command;
-use crate::summary::{push_drains, push_puts, push_refusals};
+use crate::summary::{push_drained, push_drains, push_puts, push_refusals};
 use carbon_history::Entry;
+use carbon_model::Question;
 use line_frame::{Framed, Framer};
-use outside_io::{ReadEnd, Sink, Source, write_all};
+use outside_io::{Disk, ReadEnd, Sink, Source, WriteFault, write_all};
 use std::alloc::{AllocError, Global};
 
 /// The most bytes of a script.
@@ -30,6 +35,8 @@ pub enum ScriptEnd {
     ReadFault,
     /// A write failed.
     WriteFault,
+    /// The disk of this class failed.
+    DiskFault(u32),
     /// As many bytes as a script may have were taken.
     InputLimit,
     /// Memory ran out.
@@ -41,6 +48,7 @@ pub enum ScriptEnd {
 enum Stop {
     ReadFault,
     WriteFault,
+    DiskFault(u32),
     NoMemory,
 }
 
@@ -55,8 +63,8 @@ enum Reach {
 
 /// Runs a script: serves the lines of the input in order, and writes the summary at its end. What follows the last line feed is
 /// no line.
-pub fn script<S: Source, K: Sink>(
-    plain: &mut Plain,
+pub fn script<D: Disk, S: Source, K: Sink>(
+    plain: &mut Plain<D>,
     alloc: Global,
     input: &mut S,
     out: &mut K,
@@ -65,6 +73,8 @@ pub fn script<S: Source, K: Sink>(
     ensures at_end { result ≡ ScriptEnd.Done → IsAtEnd (S.left input.new) }
     ensures short { result ≡ ScriptEnd.Done → IfSome (S.left input.old) (λ bytes. length bytes < 2 ^ 40) }
     ensures limit { result ≡ ScriptEnd.InputLimit → IfSome (S.left input.old) (λ bytes. 2 ^ 40 ≤ length bytes) }
+    ensures disk_cause { HasEndCause result plain.old plain.new }
+    ensures later_disks { GoesLater plain.old plain.new }
     ensures read_cause { result ≡ ScriptEnd.ReadFault → Rose (S.read_faults input.old) (S.read_faults input.new) }
     ensures write_cause { result ≡ ScriptEnd.WriteFault → Rose (K.write_faults out.old) (K.write_faults out.new) }
     ensures later_read { S.read_faults input.old ≤ S.read_faults input.new }
@@ -75,15 +85,58 @@ pub fn script<S: Source, K: Sink>(
         return ScriptEnd::NoMemory;
     };
     match serve_input(plain, alloc, input, out, &mut buffer) {
-        Ok(Reach::End) => match write_summary(plain, alloc, out) {
+        Ok(Reach::End) => match finish(plain, alloc, out) {
             Ok(()) => ScriptEnd::Done,
-            Err(Stop::WriteFault) => ScriptEnd::WriteFault,
-            Err(_) => ScriptEnd::NoMemory,
+            Err(stop) => end_of(stop),
         },
         Ok(Reach::Limit) => ScriptEnd::InputLimit,
-        Err(Stop::ReadFault) => ScriptEnd::ReadFault,
-        Err(Stop::WriteFault) => ScriptEnd::WriteFault,
-        Err(Stop::NoMemory) => ScriptEnd::NoMemory,
+        Err(stop) => end_of(stop),
+    }
+}
+
+/// The end that a stop is.
+fn end_of(stop: Stop) -> ScriptEnd
+    ensures { result ≡ end_of stop }
+{
+    match stop {
+        Stop::ReadFault => ScriptEnd::ReadFault,
+        Stop::WriteFault => ScriptEnd::WriteFault,
+        Stop::DiskFault(class) => ScriptEnd::DiskFault(class),
+        Stop::NoMemory => ScriptEnd::NoMemory,
+    }
+}
+
+/// Drains all that is still pending, and writes the summary.
+#[tactic(auto, using(crate::proofs::StandingLemmas::appends_some_none, crate::proofs::StandingLemmas::appends_some_more, shard_core::proofs::ShardsLemmas::fewer_none, shard_core::proofs::ShardsLemmas::fewer_more))]
+fn finish<D: Disk, K: Sink>(plain: &mut Plain<D>, alloc: Global, out: &mut K) -> Result<(), Stop>
+    ensures finishes { OnOk result (Finishes plain.old (K.written out.old) plain.new (K.written out.new)) }
+    ensures later { K.write_faults out.old ≤ K.write_faults out.new }
+    ensures appended { AppendsSome (K.written out.old) (K.written out.new) }
+    ensures later_disks { GoesLater plain.old plain.new }
+    ensures disk_cause { IfErr result (λ stop. HasDiskCause stop plain.old plain.new) }
+    ensures cause { result ≡ Err Stop.WriteFault → Rose (K.write_faults out.old) (K.write_faults out.new) }
+    ensures writes { result ≢ Err Stop.ReadFault }
+{
+    match plain.drain_all() {
+        Ok(_) => {}
+        Err(fault) => return Err(stop_of(fault)),
+    }
+    let Ok(text) = summary(plain, alloc) else {
+        return Err(Stop::NoMemory);
+    };
+    match write_all(out, &text) {
+        Ok(()) => Ok(()),
+        Err(_) => Err(Stop::WriteFault),
+    }
+}
+
+/// The stop that a fault is.
+fn stop_of(fault: Fault) -> Stop
+    ensures { result ≡ stop_of fault }
+{
+    match fault {
+        Fault::Disk(class) => Stop::DiskFault(class),
+        Fault::NoMemory => Stop::NoMemory,
     }
 }
 
@@ -95,8 +148,8 @@ fn zeros(alloc: Global, count: usize) -> Result<Vec<u8>, AllocError>
 }
 
 /// Reads the input to its end, or to the most bytes that are taken, and serves its lines.
-fn serve_input<S: Source, K: Sink>(
-    plain: &mut Plain,
+fn serve_input<D: Disk, S: Source, K: Sink>(
+    plain: &mut Plain<D>,
     alloc: Global,
     input: &mut S,
     out: &mut K,
@@ -109,6 +162,8 @@ fn serve_input<S: Source, K: Sink>(
     ensures later_read { S.read_faults input.old ≤ S.read_faults input.new }
     ensures later_write { K.write_faults out.old ≤ K.write_faults out.new }
     ensures appended { AppendsSome (K.written out.old) (K.written out.new) }
+    ensures later_disks { GoesLater plain.old plain.new }
+    ensures disk_cause { IfErr result (λ stop. HasDiskCause stop plain.old plain.new) }
 {
     let mut framer = Framer::new(alloc);
     let mut taken = 0;
@@ -124,9 +179,9 @@ fn serve_input<S: Source, K: Sink>(
 }
 
 /// Reads once, and serves the lines that end in what came: so many bytes, or `None` at the input's end.
-#[tactic(auto, using(crate::proofs::StandingLemmas::appends_some_none, crate::proofs::StandingLemmas::appends_some_more))]
-fn serve_read<S: Source, K: Sink>(
-    plain: &mut Plain,
+#[tactic(auto, using(crate::proofs::StandingLemmas::appends_some_none, crate::proofs::StandingLemmas::appends_some_more, shard_core::proofs::ShardsLemmas::fewer_none, shard_core::proofs::ShardsLemmas::fewer_more))]
+fn serve_read<D: Disk, S: Source, K: Sink>(
+    plain: &mut Plain<D>,
     alloc: Global,
     framer: &mut Framer,
     input: &mut S,
@@ -140,6 +195,8 @@ fn serve_read<S: Source, K: Sink>(
     ensures later_read { S.read_faults input.old ≤ S.read_faults input.new }
     ensures later_write { K.write_faults out.old ≤ K.write_faults out.new }
     ensures appended { AppendsSome (K.written out.old) (K.written out.new) }
+    ensures later_disks { GoesLater plain.old plain.new }
+    ensures disk_cause { IfErr result (λ stop. HasDiskCause stop plain.old plain.new) }
 {
     match input.read(room) {
         ReadEnd::Got(count) => match serve_piece(plain, alloc, framer, &room[..count], out) {
@@ -152,9 +209,9 @@ fn serve_read<S: Source, K: Sink>(
 }
 
 /// Serves the lines that a piece of the input ends.
-#[tactic(auto, using(crate::proofs::StandingLemmas::appends_some_none, crate::proofs::StandingLemmas::appends_some_more))]
-fn serve_piece<K: Sink>(
-    plain: &mut Plain,
+#[tactic(auto, using(crate::proofs::StandingLemmas::appends_some_none, crate::proofs::StandingLemmas::appends_some_more, shard_core::proofs::ShardsLemmas::fewer_none, shard_core::proofs::ShardsLemmas::fewer_more))]
+fn serve_piece<D: Disk, K: Sink>(
+    plain: &mut Plain<D>,
     alloc: Global,
     framer: &mut Framer,
     piece: &[u8],
@@ -164,6 +221,8 @@ fn serve_piece<K: Sink>(
     ensures served { OnOk result (framer.new.waiting ≡ []) }
     ensures later { K.write_faults out.old ≤ K.write_faults out.new }
     ensures appended { AppendsSome (K.written out.old) (K.written out.new) }
+    ensures later_disks { GoesLater plain.old plain.new }
+    ensures disk_cause { IfErr result (λ stop. HasDiskCause stop plain.old plain.new) }
     ensures cause { result ≡ Err Stop.WriteFault → Rose (K.write_faults out.old) (K.write_faults out.new) }
     ensures writes { result ≢ Err Stop.ReadFault }
 {
@@ -174,8 +233,8 @@ fn serve_piece<K: Sink>(
 }
 
 /// Serves the lines that wait.
-fn serve_waiting<K: Sink>(
-    plain: &mut Plain,
+fn serve_waiting<D: Disk, K: Sink>(
+    plain: &mut Plain<D>,
     alloc: Global,
     framer: &mut Framer,
     out: &mut K,
@@ -184,6 +243,8 @@ fn serve_waiting<K: Sink>(
     ensures served { OnOk result (framer.new.waiting ≡ []) }
     ensures later { K.write_faults out.old ≤ K.write_faults out.new }
     ensures appended { AppendsSome (K.written out.old) (K.written out.new) }
+    ensures later_disks { GoesLater plain.old plain.new }
+    ensures disk_cause { IfErr result (λ stop. HasDiskCause stop plain.old plain.new) }
     ensures cause { result ≡ Err Stop.WriteFault → Rose (K.write_faults out.old) (K.write_faults out.new) }
     ensures writes { result ≢ Err Stop.ReadFault }
 {
@@ -197,8 +258,8 @@ fn serve_waiting<K: Sink>(
 }
 
 /// Serves the line that was handed out.
-fn serve_framed<K: Sink>(
-    plain: &mut Plain,
+fn serve_framed<D: Disk, K: Sink>(
+    plain: &mut Plain<D>,
     alloc: Global,
     framer: &Framer,
     framed: Framed,
@@ -208,6 +269,8 @@ fn serve_framed<K: Sink>(
     ensures serves { OnOk result (ServesFramed framed framer.now plain.old (K.written out.old) plain.new (K.written out.new)) }
     ensures later { K.write_faults out.old ≤ K.write_faults out.new }
     ensures appended { AppendsSome (K.written out.old) (K.written out.new) }
+    ensures later_disks { GoesLater plain.old plain.new }
+    ensures disk_cause { IfErr result (λ stop. HasDiskCause stop plain.old plain.new) }
     ensures cause { result ≡ Err Stop.WriteFault → Rose (K.write_faults out.old) (K.write_faults out.new) }
     ensures writes { result ≢ Err Stop.ReadFault }
 {
@@ -218,8 +281,8 @@ fn serve_framed<K: Sink>(
 }
 
 /// Serves a line.
-fn serve_line<K: Sink>(
-    plain: &mut Plain,
+fn serve_line<D: Disk, K: Sink>(
+    plain: &mut Plain<D>,
     alloc: Global,
     line: &[u8],
     out: &mut K,
@@ -228,6 +291,8 @@ fn serve_line<K: Sink>(
     ensures serves { OnOk result (Serves plain.old (Whole line.now) (K.written out.old) plain.new (K.written out.new)) }
     ensures later { K.write_faults out.old ≤ K.write_faults out.new }
     ensures appended { AppendsSome (K.written out.old) (K.written out.new) }
+    ensures later_disks { GoesLater plain.old plain.new }
+    ensures disk_cause { IfErr result (λ stop. HasDiskCause stop plain.old plain.new) }
     ensures cause { result ≡ Err Stop.WriteFault → Rose (K.write_faults out.old) (K.write_faults out.new) }
     ensures writes { result ≢ Err Stop.ReadFault }
 {
@@ -238,9 +303,9 @@ fn serve_line<K: Sink>(
 }
 
 /// Does what a line says, and writes its reply.
-#[tactic(auto, using(crate::proofs::StandingLemmas::appends_some_none, crate::proofs::StandingLemmas::appends_some_more))]
-fn serve_command<K: Sink>(
-    plain: &mut Plain,
+#[tactic(auto, using(crate::proofs::StandingLemmas::appends_some_none, crate::proofs::StandingLemmas::appends_some_more, shard_core::proofs::ShardsLemmas::fewer_none, shard_core::proofs::ShardsLemmas::fewer_more))]
+fn serve_command<D: Disk, K: Sink>(
+    plain: &mut Plain<D>,
     alloc: Global,
     command: Command,
     out: &mut K,
@@ -249,6 +314,8 @@ fn serve_command<K: Sink>(
     ensures serves { OnOk result (ServesCommand plain.old (seen_command command) (K.written out.old) plain.new (K.written out.new)) }
     ensures later { K.write_faults out.old ≤ K.write_faults out.new }
     ensures appended { AppendsSome (K.written out.old) (K.written out.new) }
+    ensures later_disks { GoesLater plain.old plain.new }
+    ensures disk_cause { IfErr result (λ stop. HasDiskCause stop plain.old plain.new) }
     ensures cause { result ≡ Err Stop.WriteFault → Rose (K.write_faults out.old) (K.write_faults out.new) }
     ensures writes { result ≢ Err Stop.ReadFault }
 {
@@ -269,56 +336,92 @@ fn serve_command<K: Sink>(
             plain.set_clock(moment);
             Ok(())
         }
-        Command::Ask(question) => match plain.ask(alloc, &question) {
-            Ok(text) => write_text(out, &text),
-            Err(_) => Err(Stop::NoMemory),
+        Command::Ask(question) => serve_ask(plain, alloc, &question, out),
+        Command::DrainAll => serve_drain(plain, alloc, out),
+        Command::Bad => match write_bad_command(out) {
+            Ok(()) => Ok(()),
+            Err(_) => Err(Stop::WriteFault),
         },
-        Command::Bad => write_bad_command(out),
     }
 }
 
-/// Writes a text in one piece.
-#[tactic(auto, using(crate::proofs::StandingLemmas::appends_some_none, crate::proofs::StandingLemmas::appends_some_more))]
-fn write_text<K: Sink>(out: &mut K, text: &[u8]) -> Result<(), Stop>
-    ensures written { OnOk result (Appends (K.written out.old) (K.written out.new) text.now) }
+/// Answers a question, and writes the answer in one piece.
+#[tactic(auto, using(crate::proofs::StandingLemmas::appends_some_none, crate::proofs::StandingLemmas::appends_some_more, shard_core::proofs::ShardsLemmas::fewer_none, shard_core::proofs::ShardsLemmas::fewer_more))]
+fn serve_ask<D: Disk, K: Sink>(
+    plain: &mut Plain<D>,
+    alloc: Global,
+    question: &Question,
+    out: &mut K,
+) -> Result<(), Stop>
+    requires { IsQuestion question.now }
+    ensures serves { OnOk result (ServesCommand plain.old (Ask question.now) (K.written out.old) plain.new (K.written out.new)) }
     ensures later { K.write_faults out.old ≤ K.write_faults out.new }
     ensures appended { AppendsSome (K.written out.old) (K.written out.new) }
+    ensures later_disks { GoesLater plain.old plain.new }
+    ensures disk_cause { IfErr result (λ stop. HasDiskCause stop plain.old plain.new) }
     ensures cause { result ≡ Err Stop.WriteFault → Rose (K.write_faults out.old) (K.write_faults out.new) }
     ensures writes { result ≢ Err Stop.ReadFault }
 {
-    match write_all(out, text) {
+    let text = match plain.ask(alloc, question) {
+        Ok(text) => text,
+        Err(fault) => return Err(stop_of(fault)),
+    };
+    match write_all(out, &text) {
         Ok(()) => Ok(()),
         Err(_) => Err(Stop::WriteFault),
     }
 }
 
-/// Writes the reply to a line that says nothing known.
-#[tactic(auto, unfolding(carbon_model::specs::Script::bad_command))]
-fn write_bad_command<K: Sink>(out: &mut K) -> Result<(), Stop>
-    ensures written { OnOk result (Appends (K.written out.old) (K.written out.new) bad_command) }
+/// Drains all that is pending, and writes how many metrics that were.
+#[tactic(auto, using(crate::proofs::StandingLemmas::appends_some_none, crate::proofs::StandingLemmas::appends_some_more, shard_core::proofs::ShardsLemmas::fewer_none, shard_core::proofs::ShardsLemmas::fewer_more))]
+fn serve_drain<D: Disk, K: Sink>(
+    plain: &mut Plain<D>,
+    alloc: Global,
+    out: &mut K,
+) -> Result<(), Stop>
+    ensures serves { OnOk result (ServesCommand plain.old DrainAll (K.written out.old) plain.new (K.written out.new)) }
     ensures later { K.write_faults out.old ≤ K.write_faults out.new }
     ensures appended { AppendsSome (K.written out.old) (K.written out.new) }
+    ensures later_disks { GoesLater plain.old plain.new }
+    ensures disk_cause { IfErr result (λ stop. HasDiskCause stop plain.old plain.new) }
     ensures cause { result ≡ Err Stop.WriteFault → Rose (K.write_faults out.old) (K.write_faults out.new) }
     ensures writes { result ≢ Err Stop.ReadFault }
 {
-    write_text(out, b"bad command\n")
-}
-
-/// Writes the summary.
-fn write_summary<K: Sink>(plain: &Plain, alloc: Global, out: &mut K) -> Result<(), Stop>
-    ensures written { OnOk result (Summarizes plain.now (K.written out.old) (K.written out.new)) }
-    ensures later { K.write_faults out.old ≤ K.write_faults out.new }
-    ensures appended { AppendsSome (K.written out.old) (K.written out.new) }
-    ensures cause { result ≡ Err Stop.WriteFault → Rose (K.write_faults out.old) (K.write_faults out.new) }
-    ensures writes { result ≢ Err Stop.ReadFault }
-{
-    match summary(plain, alloc) {
-        Ok(text) => write_text(out, &text),
-        Err(_) => Err(Stop::NoMemory),
+    let count = match plain.drain_all() {
+        Ok(count) => count,
+        Err(fault) => return Err(stop_of(fault)),
+    };
+    let Ok(text) = drained(alloc, count) else {
+        return Err(Stop::NoMemory);
+    };
+    match write_all(out, &text) {
+        Ok(()) => Ok(()),
+        Err(_) => Err(Stop::WriteFault),
     }
 }
 
-fn summary(plain: &Plain, alloc: Global) -> Result<Vec<u8>, AllocError>
+/// How many metrics were drained.
+fn drained(alloc: Global, count: usize) -> Result<Vec<u8>, AllocError>
+    ensures { IfOk result (λ text. text.items ≡ drained_text count) }
+{
+    let mut text = Vec::new(alloc);
+    push_drained(&mut text, count)?;
+    Ok(text)
+}
+
+/// Writes the reply to a line that says nothing known.
+#[tactic(auto, unfolding(carbon_model::specs::Script::bad_command))]
+fn write_bad_command<K: Sink>(out: &mut K) -> Result<(), WriteFault>
+    ensures written { OnOk result (Appends (K.written out.old) (K.written out.new) bad_command) }
+    ensures later { K.write_faults out.old ≤ K.write_faults out.new }
+    ensures appended { AppendsSome (K.written out.old) (K.written out.new) }
+    ensures cause { OnErr result (Rose (K.write_faults out.old) (K.write_faults out.new)) }
+{
+    write_all(out, b"bad command\n")
+}
+
+/// The summary.
+fn summary<D: Disk>(plain: &Plain<D>, alloc: Global) -> Result<Vec<u8>, AllocError>
     ensures { IfOk result (λ text. text.items ≡ summary_of plain.now) }
 {
     let mut text = Vec::new(alloc);

@@ -1,5 +1,5 @@
 ghost use Rattle.std.specs.Prelude.{◌≡◌, ◌++◌, OnOk, decimal};
-ghost use Rattle.carbon_model.specs.Script.{count_text, puts_text, refusals_text, stored_word, replaced_word, full_word, fields_word, path_word, value_word, time_word, long_word, drains_word};
+ghost use Rattle.carbon_model.specs.Script.{drained_text, drained_word, count_text, puts_text, refusals_text, stored_word, replaced_word, full_word, fields_word, path_word, value_word, time_word, long_word, drains_word};
 
 use carbon_model::Counts;
 use itoa::Buffer;
@@ -89,6 +89,21 @@ pub fn push_drains(out: &mut Vec<u8>, count: u64) -> Result<(), AllocError>
     ensures { OnOk result (out.new.items ≡ out.old.items ++ count_text drains_word count) }
 {
     push_count(out, b" drains ", count)
+}
+
+/// Appends how many metrics were drained, with a line end.
+pub fn push_drained(out: &mut Vec<u8>, count: usize) -> Result<(), AllocError>
+    ensures { OnOk result (out.new.items ≡ out.old.items ++ drained_text count) }
+{
+    push_drained_count(out, count as u64)?;
+    out.extend_from_slice(b"\n")
+}
+
+#[tactic(auto, unfolding(carbon_model::specs::Script::drained_word))]
+fn push_drained_count(out: &mut Vec<u8>, count: u64) -> Result<(), AllocError>
+    ensures { OnOk result (out.new.items ≡ out.old.items ++ count_text drained_word count) }
+{
+    push_count(out, b"drained ", count)
 }
 
 /// Appends a word and a number.

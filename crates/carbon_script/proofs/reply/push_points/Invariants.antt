@@ -3,4 +3,4 @@ use Rattle.carbon_model.specs.Answer.{points_text}
 use Rattle.carbon_script.proofs.reply.push_points.Given as goal
 
 abbrev pub invariant-loop-i : goal.invariant-loop-i
-invariant-loop-i l = l.out.items ≡ l.fn.out.items ++ points_text l.points l.window.first l.i
+invariant-loop-i l = l.out.items ≡ l.fn.out.items ++ points_text l.series l.i

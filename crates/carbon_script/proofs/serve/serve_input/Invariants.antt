@@ -1,5 +1,5 @@
 use Rattle.std.proofs.Common.{◌-◌, ◌≤◌, ◌^◌}
-use Rattle.carbon_script.specs.Standing.{AppendsSome, Reached}
+use Rattle.carbon_script.specs.Standing.{AppendsSome, GoesLater, Reached}
 use Rattle.carbon_script.proofs.serve.serve_input.Given as goal
 
 abbrev pub invariant-loop-taken : goal.invariant-loop-taken
@@ -9,6 +9,7 @@ invariant-loop-taken g l = record {
   later_read : g.S.Source.read_faults l.fn.input ≤ g.S.Source.read_faults l.input;
   later_write : g.K.Sink.write_faults l.fn.out ≤ g.K.Sink.write_faults l.out;
   appended : AppendsSome (g.K.Sink.written l.fn.out) (g.K.Sink.written l.out);
+  disks : GoesLater l.fn.plain l.plain;
 }
 
 abbrev pub decreases-loop-taken : goal.decreases-loop-taken

@@ -1,0 +1,48 @@
+use ring_archive::RingFault;
+use std::alloc::{AllocError, AllocFailed};
+
+/// Why a command was not done.
+#[derive(Clone, Copy, Debug, PartialEq, Eq)]
+pub enum Fault {
+    /// The disk of this class failed.
+    Disk(u32),
+    /// Memory ran out.
+    NoMemory,
+}
+
+impl Fault {
+    ghost use Rattle.std.specs.Prelude.{◌≡◌};
+    ghost use Rattle.carbon_script.specs.Faults.{fault_of};
+
+    /// A fault in a ring file of a class.
+    pub(crate) fn of(fault: RingFault, class: u32) -> Fault
+        ensures { result ≡ fault_of fault class }
+    {
+        match fault {
+            RingFault::DiskFault => Fault::Disk(class),
+            RingFault::NoMemory => Fault::NoMemory,
+        }
+    }
+}
+
+impl From<AllocError> for Fault {
+    ghost use Rattle.std.specs.Prelude.{◌≡◌};
+    ghost use Rattle.carbon_script.specs.declared.fault.Fault.TheVariants.{NoMemory};
+
+    ghost from_gives = { λ _ fault. fault ≡ NoMemory };
+
+    fn from(_refused: AllocError) -> Fault {
+        Fault::NoMemory
+    }
+}
+
+impl<T: Drop> From<AllocFailed<T>> for Fault {
+    ghost use Rattle.std.specs.Prelude.{◌≡◌};
+    ghost use Rattle.carbon_script.specs.declared.fault.Fault.TheVariants.{NoMemory};
+
+    ghost from_gives = { λ _ fault. fault ≡ NoMemory };
+
+    fn from(_refused: AllocFailed<T>) -> Fault {
+        Fault::NoMemory
+    }
+}

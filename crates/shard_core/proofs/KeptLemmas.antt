@@ -1,0 +1,132 @@
+-- After a drain the disk stands for what is kept then.
+use Rattle.std.proofs.Common.{◌≡◌, inl, inr, ◌∙◌, ℕ, ℤ, Bool, true, false, List, [], Option, Some, None, Result, Ok, Err, IfSome, IsSomeAnd, refl, sym, ap, subst, option_map}
+use Rattle.std.specs.Prelude.{option_and_then, unwrap_or}
+use Rattle.std.specs.Map.{lookup}
+use Rattle.std.proofs.lemmas.Option.{none-some}
+use Rattle.std.specs.Str.{bytes_eq}
+use Rattle.outside_io.specs.Image.{Image, WhereKnown}
+use Rattle.metric_path.specs.FileName.{file_name_of}
+use Rattle.metric_path.proofs.FileNameLemmas.{file_names_differ}
+use Rattle.ring_format.specs.Layout.{LayoutValue, layout_fault}
+use Rattle.ring_format.specs.declared.fault.HeadFault.{HeadFault}
+use Rattle.ring_archive.specs.Ring.{IsRingFile, ReadsAs, bare}
+use Rattle.archive_update.specs.Batch.{batch}
+use Rattle.carbon_model.specs.State.{Kept, default_layout, layout_of, rings_of}
+use Rattle.carbon_model.specs.RingFiles.{IsOfClass, SameKept, Stands, head_of, is_sound, kept_in, kept_on, kept_with}
+use Rattle.carbon_model.specs.Replay.{kept_after, with_drained}
+use Rattle.shard_core.specs.Shard.{HoldsKept, LayoutsByPath}
+use Rattle.shard_core.specs.Drained.{DrainsFile, ReadBefore}
+use Rattle.shard_core.proofs.FileLemmas.{ring_is_kept, ring_is_sound, same_text}
+
+same_some : (a b : LayoutValue) → Some a ≡ Some b → a ≡ b
+same_some a b e = ap (λ (o : Option LayoutValue). unwrap_or o a) e
+
+-- the file of a path, by what was there
+abbrev KeptFrom : Option (List ℕ) → Option Kept
+KeptFrom held = option_and_then kept_in held
+
+-- two kept metrics of one layout read alike
+same_from_head : (r : Result LayoutValue HeadFault) (file : List ℕ) (k : Kept) → SameKept (kept_with file r) (Some k) → ReadsAs (bare [] k.layout) file k.rings
+same_from_head (Err fault) file k same = absurd same
+same_from_head (Ok layout) file k same =
+    subst (λ (l : LayoutValue). ReadsAs (bare [] l) file k.rings) same.0 same.1
+
+reads_from_kept : (held : Option (List ℕ)) (k : Kept) → SameKept (KeptFrom held) (Some k) → IsSomeAnd held (λ file. ReadsAs (bare [] k.layout) file k.rings)
+reads_from_kept None k same = absurd same
+reads_from_kept (Some file) k same = same_from_head (head_of file) file k same
+
+-- what the file read as before the drain
+abbrev pub read_before : (fresh : Bool) (kept : Option Kept) (layout : LayoutValue) → Type 0
+read_before true kept layout = (kept ≡ None) × (layout ≡ default_layout)
+read_before false kept layout = option_map (λ k. k.layout) kept ≡ Some layout
+
+pub reads_kept : (fresh : Bool) (before : Image) (path : List ℕ) (kept : Option Kept) (layout : LayoutValue) → read_before fresh kept layout → SameKept (kept_on before path) kept
+    → (layout ≡ layout_of kept) × ReadBefore fresh before (file_name_of path) layout (rings_of kept)
+reads_kept true before path None layout known same = (known.1, λ i bucket. refl)
+reads_kept true before path (Some k) layout known same = absurd (none-some k (sym known.0))
+reads_kept false before path None layout known same = absurd (none-some layout known)
+reads_kept false before path (Some k) layout known same =
+    let l : layout ≡ k.layout = sym (same_some k.layout layout known) in
+    (l, subst (λ (m : LayoutValue). IsSomeAnd (before (file_name_of path)) (λ file. ReadsAs (bare [] m) file k.rings)) (sym l) (reads_from_kept (before (file_name_of path)) k same))
+
+-- what the drained file keeps
+drained_rings : (held : Option (List ℕ)) (kept : Option Kept) (layout : LayoutValue) (now : ℕ) (points : List (ℕ × ℤ)) → layout_fault layout.archives layout.factor ≡ None → layout ≡ layout_of kept
+    → IsSomeAnd held (IsRingFile layout) → IsSomeAnd held (λ file. ReadsAs (bare [] layout) file (batch layout now points (rings_of kept)))
+    → SameKept (KeptFrom held) (Some (kept_after kept now points)) × IfSome held (λ file. is_sound file ≡ true)
+drained_rings None kept layout now points lawful l ring reads = absurd ring
+drained_rings (Some file) kept layout now points lawful l ring reads = (
+  subst (λ (k : Option Kept). SameKept k (Some (kept_after kept now points))) (sym (ring_is_kept layout file lawful ring))
+      (l, λ i bucket. reads i bucket ∙ ap (λ (m : LayoutValue). batch m now points (rings_of kept) i bucket) l),
+  ring_is_sound layout file lawful ring,
+)
+
+drained_here : (fresh : Bool) (before after : Image) (kept : Option Kept) (path : List ℕ) (layout : LayoutValue) (now : ℕ) (points : List (ℕ × ℤ)) → layout_fault layout.archives layout.factor ≡ None
+    → read_before fresh kept layout → SameKept (kept_on before path) kept → DrainsFile fresh before after (file_name_of path) layout now points
+    → SameKept (kept_on after path) (Some (kept_after kept now points)) × IfSome (after (file_name_of path)) (λ file. is_sound file ≡ true)
+drained_here fresh before after kept path layout now points lawful known same drains =
+    let was = reads_kept fresh before path kept layout known same in
+    drained_rings (after (file_name_of path)) kept layout now points lawful was.0 drains.whole (drains.reads (rings_of kept) was.1)
+
+-- the disk after a drain
+stands_after : (fresh : Bool) (opening before after : Image) (kept : List ℕ → Option Kept) (class : ℕ) (path : List ℕ) (layout : LayoutValue) (now : ℕ) (points : List (ℕ × ℤ))
+    → layout_fault layout.archives layout.factor ≡ None → IsOfClass class path → read_before fresh (kept path) layout → Stands opening before kept class
+    → DrainsFile fresh before after (file_name_of path) layout now points → Stands opening after (with_drained kept path now points) class
+stands_after fresh opening before after kept class path layout now points lawful one known stands drains =
+    let here = drained_here fresh before after (kept path) path layout now points lawful known (stands.rings path one) drains in record {
+      rings = λ p of_class. elim (same_text p path) [
+        | inl same ↦ rw same.0 (subst (λ (q : List ℕ). SameKept (kept_on after q) (Some (kept_after (kept path) now points))) (sym same.1) here.0)
+        | inr other ↦ rw other.0
+            (subst (λ (held : Option (List ℕ)). SameKept (KeptFrom held) (kept p))
+            (sym (drains.others (file_name_of p) (λ e. other.1 (file_names_differ p path of_class.legal one.legal e)))) (stands.rings p of_class))
+      ];
+      sound = λ p of_class. elim (same_text p path) [
+        | inl same ↦ subst (λ (q : List ℕ). IfSome (after (file_name_of q)) (λ file. is_sound file ≡ true)) (sym same.1) here.1
+        | inr other ↦ subst (λ (held : Option (List ℕ)). IfSome held (λ file. is_sound file ≡ true))
+            (sym (drains.others (file_name_of p) (λ e. other.1 (file_names_differ p path of_class.legal one.legal e)))) (stands.sound p of_class)
+      ];
+      others = λ name far. drains.others name (λ e. far path one (sym e)) ∙ stands.others name far;
+    }
+
+-- one path has this layout now, and every other has what it had
+abbrev pub IndexedWith : LayoutsByPath → LayoutsByPath → List ℕ → LayoutValue → Type 0
+IndexedWith old new path layout =
+    (lookup (bytes_eq path) new ≡ Some layout) × ((other : List ℕ) → bytes_eq other path ≡ false → lookup (bytes_eq other) new ≡ lookup (bytes_eq other) old)
+
+index_after : (class : ℕ) (old new : LayoutsByPath) (kept : List ℕ → Option Kept) (path : List ℕ) (layout : LayoutValue) (now : ℕ) (points : List (ℕ × ℤ)) → layout ≡ layout_of (kept path)
+    → IndexedWith old new path layout → ((p : List ℕ) → IsOfClass class p → lookup (bytes_eq p) old ≡ option_map (λ k. k.layout) (kept p))
+    → (p : List ℕ) → IsOfClass class p → lookup (bytes_eq p) new ≡ option_map (λ k. k.layout) (with_drained kept path now points p)
+index_after class old new kept path layout now points l indexed index p of_class = elim (same_text p path) [
+  | inl same ↦ rw same.0 (subst (λ (q : List ℕ). lookup (bytes_eq q) new ≡ Some (layout_of (kept path))) (sym same.1) (indexed.0 ∙ ap (λ (m : LayoutValue). Some m) l))
+  | inr other ↦ rw other.0 (indexed.1 p other.0 ∙ index p of_class)
+]
+
+layout_known : (fresh : Bool) (kept : Option Kept) (layout : LayoutValue) → read_before fresh kept layout → layout ≡ layout_of kept
+layout_known true None layout known = known.1
+layout_known true (Some k) layout known = absurd (none-some k (sym known.0))
+layout_known false None layout known = absurd (none-some layout known)
+layout_known false (Some k) layout known = sym (same_some k.layout layout known)
+
+-- the layouts and the disk of a class after a drain
+pub holds_after : (fresh : Bool) (opening : Image) (class : ℕ) (layouts layouts' : LayoutsByPath) (known known' : Option Image) (kept : List ℕ → Option Kept) (path : List ℕ) (layout : LayoutValue) (now : ℕ) (points : List (ℕ × ℤ))
+    → layout_fault layout.archives layout.factor ≡ None → IsOfClass class path → read_before fresh (kept path) layout → IndexedWith layouts layouts' path layout
+    → WhereKnown known known' (λ before after. DrainsFile fresh before after (file_name_of path) layout now points)
+    → HoldsKept opening class layouts known kept → HoldsKept opening class layouts' known' (with_drained kept path now points)
+holds_after fresh opening class layouts layouts' None known' kept path layout now points lawful one was indexed drains holds = absurd holds.files
+holds_after fresh opening class layouts layouts' (Some before) None kept path layout now points lawful one was indexed drains holds = absurd drains
+holds_after fresh opening class layouts layouts' (Some before) (Some after) kept path layout now points lawful one was indexed drains holds = record {
+  index = index_after class layouts layouts' kept path layout now points (layout_known fresh (kept path) layout was) indexed holds.index;
+  files = stands_after fresh opening before after kept class path layout now points lawful one was holds.files drains;
+}
+
+no_layout : (kept : Option Kept) → None ≡ option_map (λ (k : Kept). k.layout) kept → kept ≡ None
+no_layout None e = refl
+no_layout (Some k) e = absurd (none-some k.layout e)
+
+-- what the layouts tell of a path: a metric without a layout has no file, and one with a layout has one of it
+pub was_fresh : (opening : Image) (class : ℕ) (layouts : LayoutsByPath) (known : Option Image) (kept : List ℕ → Option Kept) (path : List ℕ) → IsOfClass class path → None ≡ lookup (bytes_eq path) layouts
+    → HoldsKept opening class layouts known kept → read_before true (kept path) default_layout
+was_fresh opening class layouts known kept path one none holds = (no_layout (kept path) (none ∙ holds.index path one), refl)
+
+pub was_kept : (opening : Image) (class : ℕ) (layouts : LayoutsByPath) (known : Option Image) (kept : List ℕ → Option Kept) (path : List ℕ) (layout : LayoutValue) → IsOfClass class path
+    → Some layout ≡ lookup (bytes_eq path) layouts → HoldsKept opening class layouts known kept → read_before false (kept path) layout
+was_kept opening class layouts known kept path layout one found holds = sym (holds.index path one) ∙ sym found

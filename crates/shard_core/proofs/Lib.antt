@@ -1,0 +1,10 @@
+pub mod PendingLemmas
+pub mod DrainedLemmas
+pub mod FileLemmas
+pub mod KeptLemmas
+pub mod HeldLemmas
+pub mod PickLemmas
+pub mod ShownLemmas
+pub mod ShardsLemmas
+pub mod StartingLemmas
+pub mod OpeningLemmas

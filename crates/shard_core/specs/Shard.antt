@@ -1,0 +1,57 @@
+-- What a shard holds, and the state that it stands for.
+use Rattle.std.specs.Prelude.{◌≡◌, ℕ, ℤ, true, Some, None, All, List, Option, option_map, IfSome, IsSomeAnd}
+use Rattle.std.specs.Map.{lookup}
+use Rattle.std.specs.Str.{bytes_eq}
+use Rattle.outside_io.specs.Image.{Image}
+use Rattle.metric_path.specs.Path.{path_fault}
+use Rattle.metric_path.specs.Class.{class_of}
+use Rattle.metric_path.specs.FileName.{file_name_of}
+use Rattle.metric_line.specs.Moment.{is_moment}
+use Rattle.ring_format.specs.Layout.{LayoutValue, layout_fault}
+use Rattle.ring_archive.specs.Ring.{IsRingFile}
+use Rattle.carbon_model.specs.State.{Kept, Metrics, State}
+use Rattle.carbon_model.specs.RingFiles.{IsOfClass, Stands}
+use Rattle.carbon_model.specs.Replay.{drained, picked, with_drained}
+use Rattle.carbon_model.specs.Answer.{series_at}
+use Rattle.carbon_model.specs.declared.series.Series.{Series}
+
+-- the layouts of the metrics that have a file
+abbrev pub LayoutsByPath : Type 0
+LayoutsByPath = List (List ℕ × LayoutValue)
+
+-- pending metrics have legal paths of the class, and their points legal moments
+abbrev pub AreOfClass : ℕ → Metrics → Type 0
+AreOfClass class metrics =
+    All (λ metric. (path_fault metric.0 ≡ None) × ((class_of metric.0 ≡ class) × All (λ p. is_moment p.0 ≡ true) metric.1)) metrics
+
+-- each path of the class with a layout has a ring file of it, where the disk tells its image
+abbrev pub HasFiles : ℕ → LayoutsByPath → Option Image → Type 0
+HasFiles class layouts known =
+    IfSome known (λ image. (path : List ℕ) → path_fault path ≡ None → class_of path ≡ class → IfSome (lookup (bytes_eq path) layouts)
+    (λ layout. IsSomeAnd (image (file_name_of path)) (λ file. (layout_fault layout.archives layout.factor ≡ None) × IsRingFile layout file)))
+
+-- The layouts and the disk of a class stand for what is kept. A disk that does not tell its image stands for nothing.
+pub record HoldsKept (opening : Image) (class : ℕ) (layouts : LayoutsByPath) (known : Option Image) (kept : List ℕ → Option Kept) : Type 0 where
+  pub index : (path : List ℕ) → IsOfClass class path → lookup (bytes_eq path) layouts ≡ option_map (λ k. k.layout) (kept path)
+  pub files : IsSomeAnd known (λ now. Stands opening now kept class)
+
+-- a shard stands for its class's part of a state
+pub record Holds (opening : Image) (class : ℕ) (metrics : Metrics) (layouts : LayoutsByPath) (known : Option Image) (s : State) : Type 0 where
+  pub pending : metrics ≡ s.pending class
+  pub kept : HoldsKept opening class layouts known s.kept
+
+-- Whatever state the shard stood for, it picks this path, and stands for the state after its drain.
+abbrev pub Drains : ℕ → Metrics → LayoutsByPath → Option Image → List ℕ → ℕ → Metrics → LayoutsByPath → Option Image → Type 0
+Drains class metrics layouts known path now metrics' layouts' known' =
+    (class_of path ≡ class) × ((opening : Image) (s : State) → Holds opening class metrics layouts known s
+    → (picked (s.pending class) ≡ Some path) × Holds opening class metrics' layouts' known' (drained s path now))
+
+-- the same of what is kept alone
+abbrev pub DrainsKept : ℕ → LayoutsByPath → Option Image → List ℕ → ℕ → List (ℕ × ℤ) → LayoutsByPath → Option Image → Type 0
+DrainsKept class layouts known path now points layouts' known' =
+    (opening : Image) (kept : List ℕ → Option Kept) → HoldsKept opening class layouts known kept → HoldsKept opening class layouts' known' (with_drained kept path now points)
+
+-- what is shown of a path in whatever state the shard stands for
+abbrev pub Shows : ℕ → Metrics → LayoutsByPath → Option Image → List ℕ → ℕ → ℕ → ℕ → Option Series → Type 0
+Shows class metrics layouts known path now from until series =
+    (opening : Image) (s : State) → Holds opening class metrics layouts known s → series ≡ series_at s path now from until

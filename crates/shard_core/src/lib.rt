@@ -1,0 +1,20 @@
+//! One class of metrics over its disk: pending points in memory, drained points in ring files.
+#![tactic(auto)]
+
+mod draining;
+mod fault;
+mod layouts;
+mod opening;
+mod shard;
+mod shards;
+mod showing;
+mod starting;
+
+pub use fault::StartFault;
+pub use layouts::Layouts;
+pub use opening::Refusal;
+pub use shard::Shard;
+pub use shards::{CLASSES, Shards};
+
+#[cfg(test)]
+mod tests;
