@@ -590,3 +590,55 @@ fn a_disk_that_fails_in_a_drain_ends_the_run(rt: HostRuntime) -> Result<(), Fail
     assert_eq!(rt; out.bytes(), b"carbon: disk fault class 12\n".as_slice());
     Ok(())
 }
+
+// An empty ring file of two archives, of 10 points of a minute and 12 of five: average, where half of the values are known.
+fn two_archives(alloc: Global) -> Result<Vec<u8>, AllocError> {
+    let mut bytes = Vec::new(alloc);
+    for number in [1, 3600, 500_000, 2, 40, 60, 10, 160, 300, 12u32] {
+        bytes.extend_from_slice(&number.to_be_bytes())?;
+    }
+    bytes.resize(304, 0)?;
+    Ok(bytes)
+}
+
+#[test]
+fn drains_roll_up_into_a_coarser_archive(rt: HostRuntime) -> Result<(), Fail> {
+    let alloc = rt.alloc();
+    // the lines of the script, and what it writes before the summary; a question from 1699999080 is about the coarser archive
+    let table: [(&str, &str); 5] = [
+        (
+            "a.b 1 1700000100\na.b 2 1700000160\na.b 2 1700000220\n!clock 1700000280\n!drain\n\
+            !ask target=a.b&from=1699999080&until=1700000280\n",
+            "drained 1\n[{\"target\": \"a.b\", \"datapoints\": [[null, 1699999200], [null, 1699999500], [null, 1699999800], [1.666, 1700000100]]}]\n",
+        ),
+        (
+            "a.b -1 1700000100\na.b -2 1700000160\na.b -2 1700000220\n!clock 1700000280\n!drain\n\
+            !ask target=a.b&from=1699999080&until=1700000280\n",
+            "drained 1\n[{\"target\": \"a.b\", \"datapoints\": [[null, 1699999200], [null, 1699999500], [null, 1699999800], [-1.667, 1700000100]]}]\n",
+        ),
+        (
+            "a.b 1 1700000100\na.b 2 1700000160\n!clock 1700000280\n!drain\n!ask target=a.b&from=1699999080&until=1700000280\n",
+            "drained 1\n[{\"target\": \"a.b\", \"datapoints\": [[null, 1699999200], [null, 1699999500], [null, 1699999800], [null, 1700000100]]}]\n",
+        ),
+        (
+            "a.b 2 1700000700\na.b 1 1700000100\n!clock 1700000700\n!drain\n!ask target=a.b&from=1700000100&until=1700000700\n",
+            "drained 1\n[{\"target\": \"a.b\", \"datapoints\": [[null, 1700000160], [null, 1700000220], [null, 1700000280], [null, 1700000340], \
+            [null, 1700000400], [null, 1700000460], [null, 1700000520], [null, 1700000580], [null, 1700000640], [2.0, 1700000700]]}]\n",
+        ),
+        (
+            "!clock 1700000700\na.b 1 1700000700\n!drain\na.b 5 1700001300\n!drain\n!ask target=a.b&from=1700000640&until=1700000700\n\
+            !clock 1700001300\n!ask target=a.b&from=1700001240&until=1700001300\n",
+            "drained 1\ndrained 1\n[{\"target\": \"a.b\", \"datapoints\": [[null, 1700000700]]}]\n\
+            [{\"target\": \"a.b\", \"datapoints\": [[5.0, 1700001300]]}]\n",
+        ),
+    ];
+    for (input, text) in table {
+        let disks = disks_with(alloc, CLASS, "a/b.ring", two_archives(alloc)?)?;
+        let mut out = MemSink::new(alloc);
+        let source = source_of(alloc, input.as_bytes())?;
+        let report = run_over(alloc, "script", source, disks, &mut out)?;
+        assert_eq!(rt; report.status, 0);
+        assert!(rt; out.bytes().starts_with(text.as_bytes()));
+    }
+    Ok(())
+}
