@@ -4,3 +4,4 @@ pub mod SlotLemmas
 pub mod RangeLists
 pub mod HeldLemmas
 pub mod PickedLemmas
+pub mod StaleLemmas

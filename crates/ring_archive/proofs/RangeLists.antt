@@ -4,6 +4,7 @@ use Rattle.std.specs.Prelude.{filter}
 use Rattle.std.specs.List.{range_with_len}
 use Rattle.std.proofs.Math.ListN.{replicate}
 use Rattle.std.proofs.lemmas.List.{map-id}
+use Rattle.std.proofs.lemmas.List.Elements.{filter-append}
 use Rattle.std.proofs.lemmas.List.FromFn.{map-range_with_len_more, filter_of_map_range_with_len_more}
 
 -- two functions that agree on the range
@@ -29,14 +30,31 @@ pub map_more : {X : Type 0} (f : ℕ → X) (n : ℕ) → map f (range_with_len 
 map_more f n = map-range_with_len_more f 0 n n (omega arith)
 
 -- one more number is tested
-pub filter_more : (p : ℕ → Bool) (n : ℕ) → filter p (range_with_len 0 (n + 1)) ≡ filter p (range_with_len 0 n) ++ cond (p n) (n ∷ []) []
-filter_more p n =
-    ap (filter p) (sym (map-id (range_with_len 0 (n + 1))))
-    ∙ filter_of_map_range_with_len_more p (λ k. k) 0 n n (omega arith)
-    ∙ ap (λ (xs : List ℕ). filter p xs ++ cond (p n) (n ∷ []) []) (map-id (range_with_len 0 n))
+filter_more : (p : ℕ → Bool) (a n j : ℕ) → a + n ≡ j → filter p (range_with_len a (n + 1)) ≡ filter p (range_with_len a n) ++ cond (p j) (j ∷ []) []
+filter_more p a n j at =
+    ap (filter p) (sym (map-id (range_with_len a (n + 1))))
+    ∙ filter_of_map_range_with_len_more p (λ k. k) a n j at
+    ∙ ap (λ (xs : List ℕ). filter p xs ++ cond (p j) (j ∷ []) []) (map-id (range_with_len a n))
 
-pub filter_keeps : (p : ℕ → Bool) (n : ℕ) → p n ≡ true → filter p (range_with_len 0 (n + 1)) ≡ filter p (range_with_len 0 n) ++ n ∷ []
-filter_keeps p n passes = filter_more p n ∙ rw passes refl
+pub filter_keeps : (p : ℕ → Bool) (a n j : ℕ) → a + n ≡ j → p j ≡ true → filter p (range_with_len a (n + 1)) ≡ filter p (range_with_len a n) ++ j ∷ []
+filter_keeps p a n j at passes = filter_more p a n j at ∙ rw passes refl
 
-pub filter_passes : (p : ℕ → Bool) (n : ℕ) → p n ≡ false → filter p (range_with_len 0 (n + 1)) ≡ filter p (range_with_len 0 n)
-filter_passes p n fails = filter_more p n ∙ rw fails (append-nil (filter p (range_with_len 0 n)))
+pub filter_passes : (p : ℕ → Bool) (a n j : ℕ) → a + n ≡ j → p j ≡ false → filter p (range_with_len a (n + 1)) ≡ filter p (range_with_len a n)
+filter_passes p a n j at fails = filter_more p a n j at ∙ rw fails (append-nil (filter p (range_with_len a n)))
+
+-- no number passes
+pub filter_none : (p : ℕ → Bool) (a n : ℕ) → ((k : ℕ) → a ≤ k → k < a + n → p k ≡ false) → filter p (range_with_len a n) ≡ []
+filter_none p a zero fails = refl
+filter_none p a (suc n) fails =
+    rw (fails a (omega arith) (omega arith)) (filter_none p (a + 1) n (λ k l u. fails k (omega arith) (omega arith)))
+
+range_cut : (a m n : ℕ) → range_with_len a (m + n) ≡ range_with_len a m ++ range_with_len (a + m) n
+range_cut a zero n = ap₂ range_with_len (let e : a ≡ a + 0 = omega arith in e) (let e : 0 + n ≡ n = omega arith in e)
+range_cut a (suc m) n =
+    let more : suc m + n ≡ suc (m + n) = omega arith in
+    let further : (a + 1) + m ≡ a + suc m = omega arith in
+    rw more (ap (λ (xs : List ℕ). a ∷ xs) (range_cut (a + 1) m n ∙ ap (λ (b : ℕ). range_with_len (a + 1) m ++ range_with_len b n) further))
+
+-- the numbers of two ranges, the second behind the first
+pub filter_cut : (p : ℕ → Bool) (a m n : ℕ) → filter p (range_with_len a (m + n)) ≡ filter p (range_with_len a m) ++ filter p (range_with_len (a + m) n)
+filter_cut p a m n = ap (filter p) (range_cut a m n) ∙ filter-append p (range_with_len a m) (range_with_len (a + m) n)

@@ -1,10 +1,11 @@
 -- The cells of a ring as they are held in memory: those of neighbouring slots, from one on and round the ring's end.
-use Rattle.std.specs.Prelude.{◌≡◌, ℕ, ℤ, pos, ◌+◌, ◌*◌, ◌%◌, ◌==◌, ◌≤◌, Bool, List, length, take, drop, slice_get, unwrap_or, Option, None, IfSome, if◌then◌else◌}
+use Rattle.std.specs.Prelude.{◌≡◌, ℕ, ℤ, pos, ◌+◌, ◌*◌, ◌%◌, ◌==◌, ◌≤◌, Bool, List, length, take, drop, filter, slice_get, unwrap_or, Option, None, IfSome, if◌then◌else◌}
+use Rattle.std.specs.List.{range_with_len}
 use Rattle.ring_format.specs.declared.archive.Archive.{Archive}
 use Rattle.ring_format.specs.Cell.{cell_of}
 use Rattle.ring_format.specs.Patch.{Cells, cell_at}
 use Rattle.ring_archive.specs.declared.round.Round.{Round}
-use Rattle.ring_archive.specs.Ring.{stored_cell, value_for}
+use Rattle.ring_archive.specs.Ring.{is_laid, stored_cell, value_for}
 
 -- the ring is that of an archive among these, and has the first slot
 abbrev pub IsRoundOf : List Archive → Round → Type 0
@@ -21,6 +22,10 @@ file_cell fresh archives file place = if fresh then (0, pos 0) else stored_cell 
 -- the cell at a place of the memory
 unfoldable pub held_cell : List ℕ → ℕ → ℕ × ℤ
 held_cell bytes place = cell_of (take 12 (drop (12 * place) bytes))
+
+-- so many places of the memory from a first one on, of those whose cell is not zero, in order
+unfoldable pub held_slots : List ℕ → ℕ → ℕ → List ℕ
+held_slots bytes first count = filter (λ place. is_laid (held_cell bytes place)) (range_with_len first count)
 
 -- the memory holds the file's cells
 pub record HoldsSlots (fresh : Bool) (archives : List Archive) (file : List ℕ) (round : Round) (bytes : List ℕ) : Type 0 where

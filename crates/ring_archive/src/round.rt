@@ -126,7 +126,7 @@ fn zeros(alloc: Global, count: usize) -> Result<Vec<u8>, AllocError>
 
 // The cell at a place of the memory.
 #[tactic(auto, unfolding(crate::specs::Held::held_cell))]
-fn held_cell(bytes: &[u8], place: usize) -> (u32, Milli)
+pub(crate) fn held_cell(bytes: &[u8], place: usize) -> (u32, Milli)
     requires { 12 * place + 12 ≤ length bytes.now }
     ensures { result ≡ held_cell bytes.now place }
 {

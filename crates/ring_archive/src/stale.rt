@@ -1,20 +1,27 @@
 //! Slots that hold anything.
-ghost use Rattle.std.specs.Prelude.{◌≡◌, ◌*◌, ◌<◌, ◌≤◌, IfOk, IsErrOf, filter, length};
-ghost use Rattle.std.specs.List.{range_with_len};
+ghost use Rattle.std.specs.Prelude.{◌≡◌, ◌++◌, ◌-◌, ◌*◌, ◌==◌, ◌<◌, ◌≤◌, IfOk, IsErrOf, OnOk, filter, length};
+ghost use Rattle.std.specs.List.{list_all, list_any, range_with_len};
 ghost use Rattle.outside_io.specs.Faults.{Rose};
+ghost use Rattle.ring_format.specs.Head.{is_zero};
 ghost use Rattle.ring_archive.specs.Ring.{HoldsRing, UnderPatch, is_laid, stale_slots};
-ghost use Rattle.ring_archive.specs.Held.{cell_behind};
+ghost use Rattle.ring_archive.specs.Held.{cell_behind, held_slots};
 
 use crate::fault::RingFault;
-use crate::round::Round;
+use crate::round::{Round, held_cell};
 use crate::view::RingView;
-use fixed_num::Milli;
+use fixed_num::{CELL_BYTES, Milli};
 use outside_io::Disk;
 use ring_format::Patch;
 use std::alloc::{AllocError, Global};
 
+// How many cells are passed over at once where all of them are zero.
+const BLOCK_CELLS: u32 = 340;
+
 impl RingView<'_> {
-    /// The slots of an archive whose cell is not zero, in rising order. The disk is read once.
+    /// The slots of an archive whose cell is not zero, in rising order. This costs one read of the disk, or none
+    /// under a fresh patch, and time that grows with the archive's bytes: they are looked at in blocks, and a
+    /// block of zeros is passed over as a whole. Only where the patch has a cell in this archive is each slot
+    /// looked up in the patch.
     pub fn stale<D: Disk>(
         &self,
         alloc: Global,
@@ -52,6 +59,30 @@ fn laid_slots(
     requires held { length bytes.now ≡ 12 * round.points }
     ensures { IfOk result (λ slots. slots.items ≡ filter (λ slot. is_laid (cell_behind patch.now.cells round bytes.now slot)) (range_with_len 0 round.points)) }
 {
+    if has_cells(patch, round.archive) {
+        return patched_slots(alloc, patch, round, bytes);
+    }
+    held_slots(alloc, bytes, round.points)
+}
+
+// Whether a patch has a cell in an archive.
+fn has_cells(patch: &Patch, archive: u32) -> bool
+    ensures { result ≡ list_any (λ cell. cell.0.0 == archive) patch.now.cells }
+{
+    patch.cells().any(|(place, _)| place.0 == archive)
+}
+
+// The same slots, each of which is looked up in the patch.
+fn patched_slots(
+    alloc: Global,
+    patch: &Patch,
+    round: Round,
+    bytes: &[u8],
+) -> Result<Vec<u32>, AllocError>
+    requires slot { round.slot < round.points }
+    requires held { length bytes.now ≡ 12 * round.points }
+    ensures { IfOk result (λ slots. slots.items ≡ filter (λ slot. is_laid (cell_behind patch.now.cells round bytes.now slot)) (range_with_len 0 round.points)) }
+{
     let mut slots = Vec::new(alloc);
     for slot in 0..round.points {
         if is_laid(round.cell_behind(patch, bytes, slot)) {
@@ -59,6 +90,49 @@ fn laid_slots(
         }
     }
     Ok(slots)
+}
+
+// The slots whose cell in memory is not zero.
+fn held_slots(alloc: Global, bytes: &[u8], points: u32) -> Result<Vec<u32>, AllocError>
+    requires held { length bytes.now ≡ 12 * points }
+    ensures { IfOk result (λ slots. slots.items ≡ held_slots bytes.now 0 points) }
+{
+    let mut slots = Vec::new(alloc);
+    let mut end = 0;
+    while end < points {
+        let first = end;
+        end += (points - first).min(BLOCK_CELLS);
+        add_block(&mut slots, bytes, first, end)?;
+    }
+    Ok(slots)
+}
+
+// Adds the slots of a block whose cell in memory is not zero.
+fn add_block(slots: &mut Vec<u32>, bytes: &[u8], first: u32, end: u32) -> Result<(), AllocError>
+    requires order { first ≤ end }
+    requires held { 12 * end ≤ length bytes.now }
+    ensures { OnOk result (slots.new.items ≡ slots.old.items ++ held_slots bytes.now first (end - first)) }
+{
+    if is_zero(&bytes[CELL_BYTES * first as usize..CELL_BYTES * end as usize]) {
+        return Ok(());
+    }
+    for slot in first..end {
+        if is_laid(held_cell(bytes, slot as usize)) {
+            slots.push(slot)?;
+        }
+    }
+    Ok(())
+}
+
+// Whether each byte is zero. There is no early end, so that many bytes can be looked at together.
+fn is_zero(bytes: &[u8]) -> bool
+    ensures { result ≡ list_all is_zero bytes.now }
+{
+    let mut bits = 0;
+    for byte in bytes {
+        bits |= *byte;
+    }
+    bits == 0
 }
 
 // Whether a cell is not zero.

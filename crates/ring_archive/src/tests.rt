@@ -16,32 +16,32 @@ use std::test::Fail;
 type Held = (u32, u32, Milli);
 
 // Puts a cell into a slot of a file of one archive, behind its head of 28 bytes.
-fn put_cell(slot: u32, bucket: u32, value: Milli, file: &mut [u8; 148]) {
-    if slot < 10 {
-        let at = 28 + CELL_BYTES * slot as usize;
+fn put_cell(slot: u32, bucket: u32, value: Milli, file: &mut [u8])
+    ensures { length file.new ≡ length file.old }
+{
+    let at = 28 + CELL_BYTES * slot as usize;
+    if at + CELL_BYTES <= file.len() {
         let mut bytes = [0; CELL_BYTES];
         write_cell(bucket, value, &mut bytes);
         file[at..at + CELL_BYTES].copy_from_slice(&bytes);
     }
 }
 
-// A disk with one file of 10 points, which holds these cells.
+// A disk with one file of one archive, which holds these cells.
 fn disk_with(
     alloc: Global,
     name: &str,
     layout: Layout,
     cells: &[Held],
 ) -> Result<MemDisk, AllocError>
-    requires { file_size_of layout.archives ≤ 148 }
     ensures { IfOk result (λ disk. HoldsRing false (⟦<MemDisk as Disk>⟧.image disk) name.now layout.archives) }
 {
-    let mut file = [0; 148];
+    let mut file = vec![in alloc; 0; layout.file_size() as usize]?;
     for (slot, bucket, value) in cells {
         put_cell(*slot, *bucket, *value, &mut file);
     }
-    let bytes = Vec::from_slice(alloc, &file)?;
     let mut disk = MemDisk::new(alloc, 0);
-    disk.put_file(name, bytes)?;
+    disk.put_file(name, file)?;
     Ok(disk)
 }
 
@@ -53,7 +53,6 @@ fn counted_disk_with(
     cells: &[Held],
     failing: u32,
 ) -> Result<CountedDisk, AllocError>
-    requires { file_size_of layout.archives ≤ 148 }
     ensures { IfOk result (λ disk. HoldsRing false (⟦<CountedDisk as Disk>⟧.image disk) name.now layout.archives) }
 {
     let disk = disk_with(alloc, name, layout, cells)?;
@@ -126,7 +125,6 @@ fn buckets_are_looked_up(rt: HostRuntime) -> Result<(), Fail> {
     let Ok(layout) = Layout::new(&archives, Method::Average, 500_000) else {
         panic!(rt; "the layout is lawful")
     };
-    assert!(rt; layout.file_size() <= 148);
     assert!(rt; layout.archive_count() > 0);
     for (stored, laid, bucket, wanted) in cases {
         let mut disk = disk_with(rt.alloc(), "a", layout, stored)?;
@@ -245,7 +243,6 @@ fn many_buckets_are_looked_up(rt: HostRuntime) -> Result<(), Fail> {
     let Ok(layout) = Layout::new(&archives, Method::Average, 500_000) else {
         panic!(rt; "the layout is lawful")
     };
-    assert!(rt; layout.file_size() <= 148);
     assert!(rt; layout.archive_count() > 0);
     assert!(rt; layout.archive(0).step == 60);
     for (stored, laid, first, wanted, reads) in cases {
@@ -274,7 +271,6 @@ fn a_failed_read_is_told(rt: HostRuntime) -> Result<(), Fail> {
     let Ok(layout) = Layout::new(&archives, Method::Average, 500_000) else {
         panic!(rt; "the layout is lawful")
     };
-    assert!(rt; layout.file_size() <= 148);
     assert!(rt; layout.archive_count() > 0);
     assert!(rt; layout.archive(0).step == 60);
     let path = MetricPath::new(rt.alloc(), b"a")?;
@@ -314,7 +310,6 @@ fn slots_that_hold_anything_are_found(rt: HostRuntime) -> Result<(), Fail> {
     let Ok(layout) = Layout::new(&archives, Method::Average, 500_000) else {
         panic!(rt; "the layout is lawful")
     };
-    assert!(rt; layout.file_size() <= 148);
     assert!(rt; layout.archive_count() > 0);
     for (stored, laid, wanted) in cases {
         let mut disk = counted_disk_with(rt.alloc(), "a", layout, stored, 0)?;
@@ -326,6 +321,57 @@ fn slots_that_hold_anything_are_found(rt: HostRuntime) -> Result<(), Fail> {
         };
         assert_eq!(rt; slots.as_slice(), wanted);
         assert_eq!(rt; disk.reads, 1);
+    }
+    Ok(())
+}
+
+// A file of 700 points: cells are passed over in blocks of 340, of which the last has 20.
+#[test]
+fn slots_are_found_over_blocks(rt: HostRuntime) -> Result<(), Fail> {
+    let edges: &[Held] = &[
+        (0, 60, 1),
+        (339, 60, 1),
+        (340, 60, 1),
+        (679, 60, 1),
+        (680, 60, 1),
+        (699, 60, 1),
+    ];
+    // what the file holds, what the patch lays over it, and the slots
+    let cases: [(&[Held], &[Held], &[u32]); 12] = [
+        (&[], &[], &[]),
+        // the first, a middle and the last slot of a block, by the first byte or the last one of their cells
+        (&[(340, 0x0100_0000, 0)], &[], &[340]),
+        (&[(500, 0, 1)], &[], &[500]),
+        (&[(679, 0, 1)], &[], &[679]),
+        // those of the archive, and of the last block
+        (&[(0, 0x0100_0000, 0)], &[], &[0]),
+        (&[(680, 0x0100_0000, 0)], &[], &[680]),
+        (&[(699, 0, 1)], &[], &[699]),
+        // neighbours in two blocks, and all of these
+        (&[(339, 60, 1), (340, 120, 2)], &[], &[339, 340]),
+        (edges, &[], &[0, 339, 340, 679, 680, 699]),
+        // the patch lays something where all is zero, or zero over an old cell
+        (&[], &[(500, 600, 1)], &[500]),
+        (&[(339, 60, 1), (699, 60, 1)], &[(339, 0, 0)], &[699]),
+        (&[(339, 60, 1)], &[(0, 0, 0), (699, 0, 7)], &[339, 699]),
+    ];
+    let archives = [Archive {
+        step: 60,
+        points: 700,
+    }];
+    let Ok(layout) = Layout::new(&archives, Method::Average, 500_000) else {
+        panic!(rt; "the layout is lawful")
+    };
+    assert!(rt; layout.archive_count() > 0);
+    for (stored, laid, wanted) in cases {
+        let mut disk = disk_with(rt.alloc(), "a", layout, stored)?;
+        let path = MetricPath::new(rt.alloc(), b"a")?;
+        let patch = patch_with(rt.alloc(), path, layout, false, laid)?;
+        let view = RingView::new("a", layout);
+        let Ok(slots) = view.stale(rt.alloc(), &mut disk, &patch, 0) else {
+            panic!(rt; "the disk is read")
+        };
+        assert_eq!(rt; slots.as_slice(), wanted);
     }
     Ok(())
 }
