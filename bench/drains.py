@@ -3,9 +3,11 @@
 
 Usage: bench/drains.py
 
-Each script puts its points, drains them all and ends. What is printed: seconds of the whole script, points per second to disk, and files
-created per second where they are new; the lines are read in these seconds too. Nothing is checked beyond the summary, and nothing timed
-here is a test. The last two lines are of 10,000 metrics with 100 points each whose files have three archives. Run ./carbon once to build the program.
+Each script puts its points, drains them all and ends. What is printed: seconds of the whole script, points per second to disk, files
+created per second where they are new, reads and writes of files for each point, as the kernel counts them (those of the input are
+taken off; making and opening files is not in them), and the bytes for each metric that the files take on the disk and that they span. The lines are read in
+these seconds too. Nothing is checked beyond the summary, and nothing timed here is a test. The last rows are of files of three archives: by
+a rule file, and made empty beforehand. Run ./carbon once to build the program.
 """
 import os
 import struct
@@ -52,32 +54,71 @@ def make_files(folder, metrics):
             file.truncate(offset)
 
 
+SCHEMAS = b"[all]\npattern = .*\nretentions = 60s:1d,5m:30d,1h:5y\n"
+
+
+def counted_calls(pid):
+    """Reads and writes of a process that has ended and is not yet waited for."""
+    with open("/proc/%d/io" % pid) as file:
+        numbers = dict(line.split(": ") for line in file)
+    return int(numbers["syscr"]) + int(numbers["syscw"])
+
+
 def run(text, folder, metrics):
-    start = time.perf_counter()
-    done = subprocess.run([PROGRAM, "script"], input=text, stdout=subprocess.PIPE, cwd=folder, check=True)
-    seconds = time.perf_counter() - start
-    if not done.stdout.startswith(b"drained %d\n" % metrics):
-        sys.exit("unexpected output: %r" % done.stdout[:200])
-    return seconds
+    """Seconds, and reads and writes beside those of the input."""
+    with tempfile.TemporaryFile() as input, tempfile.TemporaryFile() as output:
+        input.write(text)
+        input.seek(0)
+        start = time.perf_counter()
+        process = subprocess.Popen([PROGRAM, "script"], stdin=input, stdout=output, cwd=folder)
+        os.waitid(os.P_PID, process.pid, os.WEXITED | os.WNOWAIT)
+        seconds = time.perf_counter() - start
+        calls = counted_calls(process.pid) - len(text) // 65536 - 2
+        output.seek(0)
+        said = output.read()
+        if process.wait() != 0 or not said.startswith(b"drained %d\n" % metrics):
+            sys.exit("unexpected output: %r" % said[:200])
+    return seconds, calls
+
+
+def sizes(folder):
+    """Bytes that the ring files take on the disk, and that they span."""
+    taken = spanned = 0
+    for place, _, names in os.walk(os.path.join(folder, "data")):
+        for name in names:
+            found = os.stat(os.path.join(place, name))
+            taken += found.st_blocks * 512
+            spanned += found.st_size
+    return taken, spanned
+
+
+def report(name, metrics, points, folder, is_new):
+    text = script(metrics, points, NOW - 30 - 60 * points)
+    seconds, calls = run(text, folder, metrics)
+    taken, spanned = sizes(folder)
+    created = "%.0f" % (metrics / seconds) if is_new else ""
+    print("%-58s %8.2f %10.0f %8s %8.3f %10.0f %10.0f" % (
+        name, seconds, metrics * points / seconds, created, calls / (metrics * points), taken / metrics, spanned / metrics))
 
 
 def main():
-    print("%-48s %8s %12s %12s" % ("drain", "seconds", "points/s", "new files/s"))
+    print("%-58s %8s %10s %8s %8s %10s %10s" % ("drain", "seconds", "points/s", "files/s", "calls/pt", "taken/m", "spanned/m"))
     for metrics, points in [(10_000, 1), (100, 1000), (10_000, 100)]:
-        text = script(metrics, points, NOW - 30 - 60 * points)
         with tempfile.TemporaryDirectory() as folder:
             for files in ["new", "there"]:
-                seconds = run(text, folder, metrics)
-                created = "%12.0f" % (metrics / seconds) if files == "new" else ""
-                name = "%d metrics, %d points each, %s" % (metrics, points, files)
-                print("%-48s %8.2f %12.0f %12s" % (name, seconds, metrics * points / seconds, created))
-    metrics, points = 10_000, 100
-    text = script(metrics, points, NOW - 30 - 60 * points)
+                report("%d metrics, %d points each, %s" % (metrics, points, files), metrics, points, folder, files == "new")
+    for metrics, points in [(10_000, 1), (10_000, 100)]:
+        with tempfile.TemporaryDirectory() as folder:
+            os.mkdir(os.path.join(folder, "conf"))
+            with open(os.path.join(folder, "conf", "storage-schemas.conf"), "wb") as file:
+                file.write(SCHEMAS)
+            for files in ["new", "there"]:
+                name = "60s:1d,5m:30d,1h:5y, %d metrics, %d points, %s" % (metrics, points, files)
+                report(name, metrics, points, folder, files == "new")
     with tempfile.TemporaryDirectory() as folder:
-        make_files(folder, metrics)
-        for name in ["60s:1d,5m:30d,1h:5y, empty files", "the same again"]:
-            seconds = run(text, folder, metrics)
-            print("%-48s %8.2f %12.0f" % (name, seconds, metrics * points / seconds))
+        make_files(folder, 10_000)
+        for files in ["empty files", "the same again"]:
+            report("60s:1d,5m:30d,1h:5y, 10000 metrics, 100 points, %s" % files, 10_000, 100, folder, False)
 
 
 if __name__ == "__main__":

@@ -9,7 +9,7 @@ use Rattle.series_fetch.specs.declared.range.Window.TheVariants.{Empty, Range}
 use Rattle.series_fetch.specs.Window.{window}
 use Rattle.series_fetch.specs.Shown.{shown}
 use Rattle.carbon_model.specs.declared.series.Series.{Series}
-use Rattle.carbon_model.specs.State.{Kept, State, layout_of, points_in, rings_of}
+use Rattle.carbon_model.specs.State.{Kept, State, no_rings, points_in}
 
 -- ---- the series
 
@@ -19,16 +19,15 @@ series_in layout rings points Empty = None
 series_in layout rings points (Range i first end) =
     Some (record { first = first; step = step_of layout.archives i; values = shown layout rings points (Range i first end) })
 
--- what is shown of a metric that is kept so and has these pending points: nothing where it has neither
-abbrev pub series_of : Option Kept → List (ℕ × ℤ) → ℕ → ℕ → ℕ → Option Series
-series_of None [] now from until = None
-series_of None (p ∷ ps) now from until =
-    series_in (layout_of None) (rings_of None) (p ∷ ps) (window (layout_of None) now from until)
-series_of (Some kept) points now from until = series_in kept.layout kept.rings points (window kept.layout now from until)
+-- what is shown of a metric that is kept so and has these pending points, or else this layout: nothing where it has neither file nor points
+abbrev pub series_of : LayoutValue → Option Kept → List (ℕ × ℤ) → ℕ → ℕ → ℕ → Option Series
+series_of given None [] now from until = None
+series_of given None (p ∷ ps) now from until = series_in given no_rings (p ∷ ps) (window given now from until)
+series_of given (Some kept) points now from until = series_in kept.layout kept.rings points (window kept.layout now from until)
 
 -- what a state shows of a path
 abbrev pub series_at : State → List ℕ → ℕ → ℕ → ℕ → Option Series
-series_at s path now from until = series_of (s.kept path) (points_in s path) now from until
+series_at s path now from until = series_of (s.rules path) (s.kept path) (points_in s path) now from until
 
 -- all its buckets, and the end of the last, fit 32 bits
 abbrev pub EndsInTime : Series → Type 0

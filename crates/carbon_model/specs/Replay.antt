@@ -9,7 +9,8 @@ use Rattle.metric_path.specs.Class.{class_of}
 use Rattle.point_cache.specs.Points.{has_time}
 use Rattle.point_cache.specs.Pending.{with_put}
 use Rattle.archive_update.specs.Batch.{batch}
-use Rattle.carbon_model.specs.State.{Kept, Metrics, State, layout_of, points_in, rings_of, with_pending}
+use Rattle.ring_format.specs.Layout.{LayoutValue}
+use Rattle.carbon_model.specs.State.{Kept, Metrics, State, layout_or, points_in, rings_of, with_pending}
 
 -- the metric that is drained next: the first with pending points
 abbrev pub picked : Metrics → Option (List ℕ)
@@ -26,19 +27,20 @@ IsLegal s (Drain pass path now) = picked (s.pending (class_of path)) ≡ Some pa
 IsLegal s (Ask pass number try now) = Unit {0}
 IsLegal s (Fault pass class) = Unit {0}
 
--- what is kept of a metric once its points are drained into its archives, or into empty ones where it had none
-abbrev pub kept_after : Option Kept → ℕ → List (ℕ × ℤ) → Kept
-kept_after kept now points = record { layout = layout_of kept; rings = batch (layout_of kept) now points (rings_of kept) }
+-- what is kept of a metric once its points are drained into its archives, or into empty ones of the layout that it is given where it had none
+abbrev pub kept_after : LayoutValue → Option Kept → ℕ → List (ℕ × ℤ) → Kept
+kept_after given kept now points = record { layout = layout_or given kept; rings = batch (layout_or given kept) now points (rings_of kept) }
 
 -- the same of all paths, of which this one is drained
-abbrev pub with_drained : (List ℕ → Option Kept) → List ℕ → ℕ → List (ℕ × ℤ) → List ℕ → Option Kept
-with_drained kept path now points = λ p. if bytes_eq p path then Some (kept_after (kept path) now points) else kept p
+abbrev pub with_drained : (List ℕ → Option Kept) → List ℕ → LayoutValue → ℕ → List (ℕ × ℤ) → List ℕ → Option Kept
+with_drained kept path given now points = λ p. if bytes_eq p path then Some (kept_after given (kept path) now points) else kept p
 
 -- the state after the points of a path are drained: none of it are pending, and its archives have the batch of them
 abbrev pub drained : State → List ℕ → ℕ → State
 drained s path now = record {
   pending = λ k. if k == class_of path then remove_entry (bytes_eq path) (s.pending k) else s.pending k;
-  kept = with_drained s.kept path now (points_in s path);
+  kept = with_drained s.kept path (s.rules path) now (points_in s path);
+  rules = s.rules;
 }
 
 -- a put changes the pending points of its path alone; a question and a fault change nothing

@@ -55,6 +55,6 @@ pub record Stands (opening now : Image) (kept : List ℕ → Option Kept) (class
   pub sound : (path : List ℕ) → IsOfClass class path → IfSome (now (file_name_of path)) (λ file. is_sound file ≡ true)
   pub others : (name : List ℕ) → ((path : List ℕ) → IsOfClass class path → file_name_of path ≢ name) → now name ≡ opening name
 
--- the state that the disks show, one for each class: nothing is pending
-abbrev pub opening_state : (ℕ → Image) → State
-opening_state images = record { pending = λ class. []; kept = λ path. kept_on (images (class_of path)) path }
+-- the state that the disks show, one for each class, under the rules of the run: nothing is pending
+abbrev pub opening_state : (List ℕ → LayoutValue) → (ℕ → Image) → State
+opening_state rules images = record { pending = λ class. []; kept = λ path. kept_on (images (class_of path)) path; rules = rules }

@@ -3,6 +3,7 @@ use Rattle.std.specs.Prelude.{◌≡◌, ℕ, zero, suc, ◌+◌, ◌-◌, ◌==
 use Rattle.line_frame.specs.Lines.{Line, lines}
 use Rattle.line_frame.specs.Machine.{Runs}
 use Rattle.metric_line.specs.Point.{Point}
+use Rattle.ring_format.specs.Layout.{LayoutValue}
 use Rattle.carbon_history.specs.declared.entry.Entry.{Entry}
 use Rattle.carbon_history.specs.declared.entry.Entry.TheVariants as entry
 use Rattle.carbon_history.specs.declared.entry.PutEnd.{PutEnd}
@@ -27,9 +28,9 @@ pub record Machine : Type 0 where
 abbrev pub first_clock : ℕ
 first_clock = 1700000000
 
--- where a script over disks with these images begins
-abbrev pub opening : (ℕ → Image) → Machine
-opening images = record { state = opening_state images; clock = first_clock; counts = no_counts; entries = [] }
+-- where a script under these rules begins over disks with these images
+abbrev pub opening : (List ℕ → LayoutValue) → (ℕ → Image) → Machine
+opening rules images = record { state = opening_state rules images; clock = first_clock; counts = no_counts; entries = [] }
 
 -- the number of a question in a pass, and 0 of anything else
 abbrev pub ask_number : ℕ → Entry → ℕ

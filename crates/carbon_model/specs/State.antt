@@ -1,8 +1,7 @@
 -- What carbon holds, apart from how it is held.
-use Rattle.std.specs.Prelude.{ℕ, ℤ, ◌∷◌, ◌==◌, List, [], Option, Some, None, if◌then◌else◌}
+use Rattle.std.specs.Prelude.{ℕ, ℤ, ◌==◌, List, Option, Some, None, if◌then◌else◌}
 use Rattle.metric_path.specs.Class.{class_of}
 use Rattle.point_cache.specs.Pending.{points_of}
-use Rattle.ring_format.specs.declared.archive.Method.TheVariants.{Average}
 use Rattle.ring_format.specs.Layout.{LayoutValue}
 use Rattle.ring_archive.specs.Ring.{Rings}
 
@@ -20,10 +19,12 @@ pub record State : Type 0 where
   pub pending : ℕ → Metrics
   -- of each path, what is kept
   pub kept : List ℕ → Option Kept
+  -- the layout that the rules of the run give each path
+  pub rules : List ℕ → LayoutValue
 
 -- the state with these metrics in a class, and all else as it is
 abbrev pub with_pending : State → ℕ → Metrics → State
-with_pending s class metrics = record { pending = λ k. if k == class then metrics else s.pending k; kept = s.kept }
+with_pending s class metrics = record { pending = λ k. if k == class then metrics else s.pending k; kept = s.kept; rules = s.rules }
 
 -- the pending points of a path
 abbrev pub points_in : State → List ℕ → List (ℕ × ℤ)
@@ -35,15 +36,16 @@ points_in s path = points_of (s.pending (class_of path)) path
 abbrev pub no_rings : Rings
 no_rings = λ i bucket. None
 
--- the layout of a metric that has no file: 10,080 points of 60 seconds each, a week
-unfoldable pub default_layout : LayoutValue
-default_layout = record { archives = record { step = 60; points = 10080 } ∷ []; method = Average; factor = 500000 }
+-- the layout that is kept of a path, and else the one that it is given
+abbrev pub layout_or : LayoutValue → Option Kept → LayoutValue
+layout_or given None = given
+layout_or given (Some kept) = kept.layout
 
--- the layout and the archives of a path
-abbrev pub layout_of : Option Kept → LayoutValue
-layout_of None = default_layout
-layout_of (Some kept) = kept.layout
+-- the layout of a path: a metric that was drained keeps its own, and the rules give any other its layout
+abbrev pub layout_of : State → List ℕ → LayoutValue
+layout_of s path = layout_or (s.rules path) (s.kept path)
 
+-- the archives that are kept of a path
 abbrev pub rings_of : Option Kept → Rings
 rings_of None = no_rings
 rings_of (Some kept) = kept.rings

@@ -13,6 +13,7 @@ use Rattle.carbon_history.specs.declared.entry.Entry.{Entry}
 use Rattle.carbon_history.specs.declared.entry.Entry.TheVariants as entry
 use Rattle.carbon_history.specs.declared.entry.PutEnd.TheVariants.{Stored, Replaced, Full}
 use Rattle.carbon_model.specs.State.{Metrics, State, with_pending}
+use Rattle.ring_format.specs.Layout.{LayoutValue}
 use Rattle.carbon_model.specs.RingFiles.{opening_state}
 use Rattle.carbon_model.specs.Replay.{IsLegal, IsLegalHistory, after, drained, picked, replay}
 use Rattle.carbon_model.specs.Command.{Command, Metric, Refused, Long, Clock, Ask, DrainAll, Bad, command_of}
@@ -172,11 +173,11 @@ follows_runs start (line ∷ others) m last said runs follows =
     follows_runs start others runs.0 last runs.2 runs.3.1.0 (follows_does start m (command_of line m.clock) runs.0 runs.1 runs.3.0 follows)
 
 -- the run of a script over disks settles
-pub run_settles : (images : ℕ → Image) (input : List ℕ) (end : Machine) (text : List ℕ) (history : List Entry) → ScriptRun (opening images) input end text → history ≡ end.entries
-    → Settles (opening_state images) history end.state
-run_settles images input end text history run same =
-    let start = opening_state images in
-    let last = follows_runs start _ (opening images) run.0 run.1 run.2.0 (record { replayed = refl; legal = tt; classes = λ k. tt }) in
+pub run_settles : (rules : List ℕ → LayoutValue) (images : ℕ → Image) (input : List ℕ) (end : Machine) (text : List ℕ) (history : List Entry) → ScriptRun (opening rules images) input end text → history ≡ end.entries
+    → Settles (opening_state rules images) history end.state
+run_settles rules images input end text history run same =
+    let start = opening_state rules images in
+    let last = follows_runs start _ (opening rules images) run.0 run.1 run.2.0 (record { replayed = refl; legal = tt; classes = λ k. tt }) in
     let cleared = all_cleared start 16 run.0 refl last in
     let done : Cleared start 16 end = subst (Cleared start 16) (sym run.2.1) cleared in
     subst (λ (entries : List Entry). Settles start entries end.state) (sym same) (record {

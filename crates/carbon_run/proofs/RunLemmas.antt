@@ -1,5 +1,5 @@
 -- From shards to disks.
-use Rattle.std.proofs.Common.{◌≡◌, ◌⊎◌, inl, inr, ◌∙◌, ℕ, zero, suc, ◌<◌, ◌≤◌, List, [], ◌∷◌, map, Option, Some, None, IfSome, IsSomeAnd, option_map, refl, sym, ap, subst, arith}
+use Rattle.std.proofs.Common.{◌≡◌, ◌⊎◌, inl, inr, ◌∙◌, ℕ, zero, suc, ◌<◌, ◌≤◌, List, [], ◌∷◌, length, map, Option, Some, None, IfSome, IsSomeAnd, option_map, refl, sym, ap, subst, arith}
 use Rattle.std.specs.Prelude.{slice_get}
 use Rattle.std.specs.Option.{option_map_or}
 use Rattle.std.specs.Io.KnownBytes.{Appends}
@@ -11,13 +11,12 @@ use Rattle.carbon_model.specs.RingFiles.{Stands}
 use Rattle.std.specs.Prelude.{string_bytes}
 use Rattle.outside_io.proofs.Known.{Appends-more}
 use Rattle.carbon_script.specs.Standing.{AppendsSome}
-use Rattle.carbon_run.specs.Texts.{EndsWith, damaged_line}
-use Rattle.carbon_run.specs.Runs.{Tells}
-use Rattle.shard_core.specs.Opened.{FirstDamaged}
-use Rattle.shard_core.specs.StartFaults.{IsDamagedFile}
+use Rattle.carbon_run.specs.Texts.{EndsWith, damaged_line, disk_fault_line}
+use Rattle.carbon_run.specs.Runs.{AreSound, Tells, TellsDamage, TellsDiskFault}
+use Rattle.shard_core.specs.StartFaults.{IsDamagedFile, IsDiskFault}
 use Rattle.shard_core.specs.declared.fault.StartFault.{StartFault}
 use Rattle.shard_core.specs.declared.fault.StartFault.TheVariants.{Damaged, DiskFault, NoMemory}
-use Rattle.shard_core.specs.Shards.{DisksStand, FailedAt, HoldsAll, disk_faults, faults_at}
+use Rattle.shard_core.specs.Shards.{DisksStand, FailedAt, HoldsAll, TellsImages, disk_faults, faults_at}
 use Rattle.shard_core.specs.View.{StandsFor}
 use Rattle.shard_core.specs.declared.shard.Shard.{Shard}
 use Rattle.shard_core.proofs.ShardsLemmas.{AreInOrder}
@@ -59,17 +58,55 @@ pub failed_rose : {D : Type 0} {d : Ghosts D} (a b : List (Shard D d)) (k : ℕ)
 unfolding FailedAt
 failed_rose a b k failed = failed
 
-pub if_some_more : (o : Option (List ℕ)) (P Q : List ℕ → Type 0) → IfSome o P → ((bytes : List ℕ) → P bytes → Q bytes) → IfSome o Q
+pub if_some_more : {X : Type 0} (o : Option X) (P Q : X → Type 0) → IfSome o P → ((x : X) → P x → Q x) → IfSome o Q
 if_some_more None P Q holds more = tt
-if_some_more (Some bytes) P Q holds more = more bytes holds
+if_some_more (Some x) P Q holds more = more x holds
 
 not_both : (status n m : ℕ) → (status ≡ n) ⊎ (status ≡ m) → (status ≡ n → ⊥) → (status ≡ m → ⊥) → ⊥
 not_both status n m (inl e) a b = a e
 not_both status n m (inr e) a b = b e
 
 -- the damage that a refusal tells
-pub damage_told : (fault : StartFault) (class status : ℕ) (before after : Option (List ℕ)) (images : ℕ → Image) → class < 16 → Tells fault class status before after → status ≡ 4 → IsDamagedFile fault (Some (images class)) class
-    → (c : ℕ) × (name : List ℕ) × ((c < 16) × (FirstDamaged c (images c) name × Appends before after (damaged_line name)))
-damage_told (Damaged name) class status before after images few told four damaged = (class, string_bytes name, (few, (damaged, told.1 four)))
-damage_told DiskFault class status before after images few told four damaged = absurd (not_both status 5 7 told.0 (λ e. omega (arith, e, four)) (λ e. omega (arith, e, four)))
-damage_told NoMemory class status before after images few told four damaged = absurd (not_both status 8 7 told.0 (λ e. omega (arith, e, four)) (λ e. omega (arith, e, four)))
+pub damage_told : {D : Type 0} (image : D → Option Image) (disks : List D) (fault : StartFault) (class status : ℕ) (before after : Option (List ℕ)) → class < 16 → Tells fault class status before after → status ≡ 4
+    → AreSound image disks class → ((images : ℕ → Image) → TellsImages image disks images → IsDamagedFile fault (Some (images class)) class) → TellsDamage image disks before after
+damage_told image disks (Damaged name) class status before after few told four sound damaged = (class, string_bytes name, (few, (told.1 four, (sound, damaged))))
+damage_told image disks DiskFault class status before after few told four sound damaged = absurd (not_both status 5 7 told.0 (λ e. omega (arith, e, four)) (λ e. omega (arith, e, four)))
+damage_told image disks NoMemory class status before after few told four sound damaged = absurd (not_both status 8 7 told.0 (λ e. omega (arith, e, four)) (λ e. omega (arith, e, four)))
+
+line_ends : (a b : Option (List ℕ)) (line : List ℕ) → Appends a b line → EndsWith a b line
+line_ends a b line wrote = ([], wrote)
+
+-- the failed disk that a refusal tells
+pub fault_told : {D : Type 0} (image : D → Option Image) (faults : D → ℕ) (disks disks' : List D) (fault : StartFault) (class status : ℕ) (before after : Option (List ℕ)) → class < 16 → Tells fault class status before after → status ≡ 5
+    → AreSound image disks class → (IsDiskFault fault → Rose (disk_faults faults disks class) (disk_faults faults disks' class)) → TellsDiskFault image faults disks disks' before after
+fault_told image faults disks disks' (Damaged name) class status before after few told five sound cause = absurd (not_both status 4 7 told.0 (λ e. omega (arith, e, five)) (λ e. omega (arith, e, five)))
+fault_told image faults disks disks' DiskFault class status before after few told five sound cause = (class, (few, (cause tt, (sound, line_ends before after (disk_fault_line class) (told.1 five)))))
+fault_told image faults disks disks' NoMemory class status before after few told five sound cause = absurd (not_both status 8 7 told.0 (λ e. omega (arith, e, five)) (λ e. omega (arith, e, five)))
+
+-- a refusal is told by one of these statuses
+pub refusal_statuses : (fault : StartFault) (class status : ℕ) (before after : Option (List ℕ)) → Tells fault class status before after → (status ≡ 0) ⊎ ((status ≡ 6) ⊎ (status ≡ 10)) → ⊥
+refusal_statuses (Damaged name) class status before after told other = omega (arith, told.0, other)
+refusal_statuses DiskFault class status before after told other = omega (arith, told.0, other)
+refusal_statuses NoMemory class status before after told other = omega (arith, told.0, other)
+
+-- ---- a class of which a disk failed
+
+below_or : (k n : ℕ) → (k < n) ⊎ (n ≤ k)
+below_or k zero = inr (omega arith)
+below_or zero (suc n) = inl (omega arith)
+below_or (suc k) (suc n) = elim (below_or k n) [
+  | inl less ↦ inl (omega (arith, less))
+  | inr more ↦ inr (omega (arith, more))
+]
+
+none_failed : {D : Type 0} {d : Ghosts D} (shards : List (Shard D d)) (k : ℕ) → length shards ≤ k → faults_at shards k ≡ 0
+none_failed [] k beyond = refl
+none_failed (s ∷ ss) zero beyond = absurd (omega (arith, beyond))
+none_failed (s ∷ ss) (suc k) beyond = none_failed ss k (omega (arith, beyond))
+
+-- it is a class
+pub failed_class : {D : Type 0} {d : Ghosts D} (old new : List (Shard D d)) (k : ℕ) → length new ≡ 16 → Rose (faults_at old k) (faults_at new k) → k < 16
+failed_class old new k many rose = elim (below_or k 16) [
+  | inl few ↦ few
+  | inr beyond ↦ absurd (omega (arith, none_failed new k (omega (arith, many, beyond)), rose))
+]

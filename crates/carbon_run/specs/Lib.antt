@@ -1,3 +1,4 @@
 pub mod Words
+pub mod Conf
 pub mod Texts
 pub mod Runs

@@ -1,5 +1,5 @@
 -- What a run over disks comes to.
-use Rattle.std.specs.Prelude.{◌≡◌, ◌<◌, ◌⊎◌, ℕ, List, [], Option, IfSome, string_bytes}
+use Rattle.std.specs.Prelude.{◌≡◌, ◌<◌, ◌⊎◌, ℕ, List, [], Option, IfSome, Ok, Err, string_bytes}
 use Rattle.outside_io.specs.declared.disk.Disk.{Ghosts}
 use Rattle.shard_core.specs.declared.shard.Shard.{Shard}
 use Rattle.shard_core.specs.declared.opening.Refusal.{Refusal}
@@ -13,9 +13,18 @@ use Rattle.carbon_history.specs.declared.entry.Entry.{Entry}
 use Rattle.carbon_model.specs.State.{State}
 use Rattle.carbon_model.specs.Replay.{IsLegalHistory, replay}
 use Rattle.carbon_model.specs.Script.{Machine, ScriptRun, opening}
-use Rattle.shard_core.specs.Opened.{FirstDamaged}
+use Rattle.ring_format.specs.Layout.{LayoutValue}
+use Rattle.schema_rules.specs.LayoutBy.{layout_by}
+use Rattle.schema_rules.specs.RulesOf.{RulesValue}
+use Rattle.schema_rules.specs.declared.fault.RuleFile.{RuleFile}
+use Rattle.schema_rules.specs.declared.fault.RuleCause.{RuleCause}
+use Rattle.schema_rules.specs.declared.fault.RuleFault.TheVariants.{Fault}
+use Rattle.shard_core.specs.Opened.{FirstDamaged, IsSoundDisk}
 use Rattle.shard_core.specs.Shards.{DisksStand, HoldsAll, TellsImages, disk_faults, faults_at}
-use Rattle.carbon_run.specs.Texts.{EndsWith, damaged_line, disk_fault_line, no_memory_line}
+use Rattle.carbon_run.specs.Conf.{rules_in}
+use Rattle.carbon_run.specs.declared.conf.ConfFault.{ConfFault}
+use Rattle.carbon_run.specs.declared.conf.ConfFault.TheVariants as conf
+use Rattle.carbon_run.specs.Texts.{EndsWith, conf_fault_line, damaged_line, disk_fault_line, no_memory_line, rule_fault_line}
 
 -- From the first state each entry of the history may come where it stands, all of them lead to the last state, and nothing is pending there.
 pub record Settles (first : State) (history : List Entry) (last : State) : Type 0 where
@@ -23,33 +32,64 @@ pub record Settles (first : State) (history : List Entry) (last : State) : Type 
   pub legal : IsLegalHistory first history
   pub none_pending : (class : ℕ) → class < 16 → last.pending class ≡ []
 
--- The script of all the bytes of the input, over disks that hold these images: what was written is its text, the history is that of its end
--- and settles what the disks show, and each disk alone stands for the state there.
-abbrev pub Scripted : {D : Type 0} → (D → Option Image) → List D → Option (List ℕ) → Option (List ℕ) → List D → List Entry → Option (List ℕ) → Type 0
-Scripted image disks left before disks' history after =
+-- The script of all the bytes of the input under these rules, over disks that hold these images: what was written is its text, the history is
+-- that of its end and settles what the disks show, and each disk alone stands for the state there.
+abbrev pub ScriptedUnder : {D : Type 0} → (D → Option Image) → RulesValue → List D → Option (List ℕ) → Option (List ℕ) → List D → List Entry → Option (List ℕ) → Type 0
+ScriptedUnder image rules disks left before disks' history after =
     (images : ℕ → Image) → TellsImages image disks images → IfSome left (λ bytes. (end : Machine) × (text : List ℕ)
-    × (ScriptRun (opening images) bytes end text × ((history ≡ end.entries) × (Settles (opening_state images) history end.state × (Appends before after text × DisksStand image images disks' end.state)))))
+    × (ScriptRun (opening (layout_by rules) images) bytes end text
+    × ((history ≡ end.entries) × (Settles (opening_state (layout_by rules) images) history end.state × (Appends before after text × DisksStand image images disks' end.state)))))
 
--- the first damaged file of a class was told
+-- the same under the rules that the two rule files of a folder give
+abbrev pub Scripted : {D : Type 0} → (D → Option Image) → Option Image → List D → Option (List ℕ) → Option (List ℕ) → List D → List Entry → Option (List ℕ) → Type 0
+Scripted image conf disks left before disks' history after =
+    IfSome conf (λ folder. (rules : RulesValue) × ((rules_in folder ≡ Ok rules) × ScriptedUnder image rules disks left before disks' history after))
+
+-- ---- refusals
+
+-- both rule files of a folder are read
+abbrev pub IsReadable : Image → Type 0
+IsReadable folder = (rules : RulesValue) × (rules_in folder ≡ Ok rules)
+
+-- the first fault of the rule files of a folder was told, and nothing else
+abbrev pub TellsRules : Option Image → Option (List ℕ) → Option (List ℕ) → Type 0
+TellsRules conf before after =
+    IfSome conf (λ folder. (file : RuleFile) × (cause : RuleCause) × ((rules_in folder ≡ Err (Fault file cause)) × Appends before after (rule_fault_line file cause)))
+
+-- no class below this number has a damaged file, whatever the disks tell
+abbrev pub AreSound : {D : Type 0} → (D → Option Image) → List D → ℕ → Type 0
+AreSound image disks count = (images : ℕ → Image) → TellsImages image disks images → (k : ℕ) → k < count → IsSoundDisk k (images k)
+
+-- the first damaged file of a class was told, the least class that has one, and nothing else
 abbrev pub TellsDamage : {D : Type 0} → (D → Option Image) → List D → Option (List ℕ) → Option (List ℕ) → Type 0
 TellsDamage image disks before after =
-    (images : ℕ → Image) → TellsImages image disks images → (class : ℕ) × (name : List ℕ) × ((class < 16) × (FirstDamaged class (images class) name × Appends before after (damaged_line name)))
+    (class : ℕ) × (name : List ℕ) × ((class < 16) × (Appends before after (damaged_line name)
+    × (AreSound image disks class × ((images : ℕ → Image) → TellsImages image disks images → FirstDamaged class (images class) name))))
 
--- a call of a class's disk failed, and that was told last
-abbrev pub TellsDiskFault : {D : Type 0} → (D → ℕ) → List D → List D → Option (List ℕ) → Option (List ℕ) → Type 0
-TellsDiskFault faults disks disks' before after =
-    (class : ℕ) × (Rose (disk_faults faults disks class) (disk_faults faults disks' class) × EndsWith before after (disk_fault_line class))
+-- a call of a class's disk failed, of which no class before it has a damaged file, and that was told last
+abbrev pub TellsDiskFault : {D : Type 0} → (D → Option Image) → (D → ℕ) → List D → List D → Option (List ℕ) → Option (List ℕ) → Type 0
+TellsDiskFault image faults disks disks' before after =
+    (class : ℕ) × ((class < 16) × (Rose (disk_faults faults disks class) (disk_faults faults disks' class) × (AreSound image disks class × EndsWith before after (disk_fault_line class))))
+
+-- the disks tell what they told
+abbrev pub TellAsBefore : {D : Type 0} → (D → Option Image) → List D → List D → Type 0
+TellAsBefore image disks disks' = (images : ℕ → Image) → TellsImages image disks images → TellsImages image disks' images
+
+-- a call on the folder of the rule files failed, and that alone was told
+abbrev pub TellsConfFault : ℕ → ℕ → Option (List ℕ) → Option (List ℕ) → Type 0
+TellsConfFault faults faults' before after = Rose faults faults' × Appends before after conf_fault_line
 
 -- ---- the same over shards that have started
 
 abbrev pub ScriptedFrom : {D : Type 0} {d : Ghosts D} → List (Shard D d) → Option (List ℕ) → Option (List ℕ) → List D → List Entry → Option (List ℕ) → Type 0
 ScriptedFrom {D} {d} shards left before disks' history after =
-    (images : ℕ → Image) → HoldsAll images shards (opening_state images) → IfSome left (λ bytes. (end : Machine) × (text : List ℕ)
-    × (ScriptRun (opening images) bytes end text × ((history ≡ end.entries) × (Settles (opening_state images) history end.state × (Appends before after text × DisksStand (λ disk. d.image disk) images disks' end.state)))))
+    (rules : List ℕ → LayoutValue) (images : ℕ → Image) → HoldsAll images shards (opening_state rules images) → IfSome left (λ bytes. (end : Machine) × (text : List ℕ)
+    × (ScriptRun (opening rules images) bytes end text
+    × ((history ≡ end.entries) × (Settles (opening_state rules images) history end.state × (Appends before after text × DisksStand (λ disk. d.image disk) images disks' end.state)))))
 
 abbrev pub ShardFailed : {D : Type 0} {d : Ghosts D} → List (Shard D d) → List D → Option (List ℕ) → Option (List ℕ) → Type 0
 ShardFailed {D} {d} shards disks' before after =
-    (class : ℕ) × (Rose (faults_at shards class) (disk_faults (λ disk. d.faults disk) disks' class) × EndsWith before after (disk_fault_line class))
+    (class : ℕ) × ((class < 16) × (Rose (faults_at shards class) (disk_faults (λ disk. d.faults disk) disks' class) × EndsWith before after (disk_fault_line class)))
 
 -- why the shards did not start was told, by the status and the line
 abbrev pub Tells : StartFault → ℕ → ℕ → Option (List ℕ) → Option (List ℕ) → Type 0
@@ -59,3 +99,9 @@ Tells NoMemory class status before after = ((status ≡ 8) ⊎ (status ≡ 7)) �
 
 abbrev pub TellsRefusal : Refusal → ℕ → Option (List ℕ) → Option (List ℕ) → Type 0
 TellsRefusal refusal status before after = Tells refusal.fault refusal.class status before after
+
+-- why there are no rules was told, by the status and the line
+abbrev pub TellsConf : ConfFault → ℕ → Option (List ℕ) → Option (List ℕ) → Type 0
+TellsConf (conf.Refused file cause) status before after = ((status ≡ 3) ⊎ (status ≡ 7)) × (status ≡ 3 → Appends before after (rule_fault_line file cause))
+TellsConf conf.DiskFault status before after = ((status ≡ 5) ⊎ (status ≡ 7)) × (status ≡ 5 → Appends before after conf_fault_line)
+TellsConf conf.NoMemory status before after = ((status ≡ 8) ⊎ (status ≡ 7)) × (status ≡ 8 → Appends before after no_memory_line)

@@ -1,6 +1,10 @@
 -- The last line of a run that failed, and what is written before it.
 use Rattle.std.specs.Prelude.{ℕ, List, ◌++◌, Option, codes, decimal}
 use Rattle.std.specs.Io.KnownBytes.{Appends}
+use Rattle.schema_rules.specs.declared.fault.RuleFile.{RuleFile}
+use Rattle.schema_rules.specs.declared.fault.RuleCause.{RuleCause}
+use Rattle.schema_rules.specs.declared.fault.RuleCause.TheVariants.{TooLong, Line, BadPattern, BadRetention, BadLayout, BadFactor, BadMethod}
+use Rattle.carbon_run.specs.Conf.{rule_file_name}
 
 unfoldable pub usage_line : List ℕ
 usage_line = codes "carbon: usage\n"
@@ -27,6 +31,58 @@ disk_fault_word = codes "carbon: disk fault class "
 -- the line of a failed disk, by its class
 abbrev pub disk_fault_line : ℕ → List ℕ
 disk_fault_line class = disk_fault_word ++ (decimal class ++ codes "\n")
+
+unfoldable pub conf_fault_line : List ℕ
+conf_fault_line = codes "carbon: disk fault conf\n"
+
+-- ---- a refused rule file
+
+unfoldable pub carbon_word : List ℕ
+carbon_word = codes "carbon: "
+
+unfoldable pub too_long_word : List ℕ
+too_long_word = codes " too long"
+
+unfoldable pub line_word : List ℕ
+line_word = codes " line "
+
+unfoldable pub section_word : List ℕ
+section_word = codes " section "
+
+-- what is bad in a section
+unfoldable pub bad_pattern : List ℕ
+bad_pattern = codes "bad pattern"
+
+unfoldable pub bad_retentions : List ℕ
+bad_retentions = codes "bad retentions"
+
+unfoldable pub bad_layout : List ℕ
+bad_layout = codes "bad layout"
+
+unfoldable pub bad_factor : List ℕ
+bad_factor = codes "bad xFilesFactor"
+
+unfoldable pub bad_method : List ℕ
+bad_method = codes "bad aggregationMethod"
+
+abbrev pub section_text : ℕ → List ℕ → List ℕ
+section_text number what = section_word ++ (decimal number ++ (codes ": " ++ what))
+
+-- what stands behind the file's name
+unfoldable pub cause_text : RuleCause → List ℕ
+cause_text TooLong = too_long_word
+cause_text (Line number) = line_word ++ decimal number
+cause_text (BadPattern number) = section_text number bad_pattern
+cause_text (BadRetention number) = section_text number bad_retentions
+cause_text (BadLayout number fault) = section_text number bad_layout
+cause_text (BadFactor number) = section_text number bad_factor
+cause_text (BadMethod number) = section_text number bad_method
+
+-- the line of a refused rule file, by its name and the cause
+abbrev pub rule_fault_line : RuleFile → RuleCause → List ℕ
+rule_fault_line file cause = carbon_word ++ (rule_file_name file ++ (cause_text cause ++ codes "\n"))
+
+-- ---- a line behind others
 
 -- what was written ends with this line
 abbrev pub EndsWith : Option (List ℕ) → Option (List ℕ) → List ℕ → Type 0

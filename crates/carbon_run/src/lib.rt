@@ -1,7 +1,11 @@
 //! The top call of carbon.
 #![tactic(auto)]
 
+mod conf;
 mod report;
+mod rule_line;
+#[cfg(test)]
+mod rule_tests;
 mod scripts;
 mod telling;
 #[cfg(test)]

@@ -1,5 +1,8 @@
+ghost use Rattle.std.specs.Prelude.{◌≡◌, []};
+
 use carbon_history::History;
 use outside_io::Disk;
+use std::alloc::Global;
 
 /// What a run came to.
 #[derive(Drop)]
@@ -10,4 +13,21 @@ pub struct Report<D: Disk> {
     pub history: History,
     /// The disks that the run was given, one for each class.
     pub disks: Vec<D>,
+}
+
+impl<D: Disk> Report<D> {
+    ghost use Rattle.std.specs.Prelude.{◌≡◌, []};
+
+    // The report of a run that ended before its command.
+    pub(crate) fn without_command(alloc: Global, status: u8, disks: Vec<D>) -> Report<D>
+        ensures status { result.status ≡ status }
+        ensures history { result.history ≡ [] }
+        ensures disks { result.disks ≡ disks }
+    {
+        Report {
+            status,
+            history: History::empty(alloc),
+            disks,
+        }
+    }
 }

@@ -1,34 +1,37 @@
-ghost use Rattle.std.specs.Prelude.{◌≡◌, ◌<◌, ◌≤◌, ◌^◌, ◌⊎◌, ℕ, IfSome, length, vec_len};
+ghost use Rattle.std.specs.Prelude.{◌≡◌, ◌<◌, ◌≤◌, ◌^◌, ◌⊎◌, ℕ, [], IfSome, length, vec_len};
 ghost use Rattle.outside_io.specs.Image.{Image};
 ghost use Rattle.carbon_model.specs.State.{State};
 ghost use Rattle.shard_core.specs.Shards.{DisksStand, HoldsAll, disk_faults, faults_at};
 ghost use Rattle.std.specs.Io.KnownBytes.{Appends, IsAtEnd};
 ghost use Rattle.outside_io.specs.Faults.{Rose};
 ghost use Rattle.carbon_run.specs.Texts.{EndsWith, read_fault_line, no_memory_line, limit_line};
-ghost use Rattle.carbon_run.specs.Runs.{Scripted, ScriptedFrom, ShardFailed, TellsDamage, TellsDiskFault, TellsRefusal};
+ghost use Rattle.carbon_run.specs.Runs.{AreSound, ScriptedFrom, ScriptedUnder, ShardFailed, TellAsBefore, TellsDamage, TellsDiskFault, TellsRefusal};
 
 use crate::Report;
 use crate::telling::{tell_damaged, tell_disk_fault, tell_limit, tell_no_memory, tell_read_fault};
-use carbon_history::History;
 use carbon_script::{Plain, ScriptEnd, script};
 use outside_io::{Disk, Sink, Source};
+use schema_rules::Rules;
 use shard_core::{Refusal, Shards, StartFault};
 use std::alloc::Global;
 
-/// Runs the script of the input over the disks.
+/// Runs the script of the input over the disks, under the rules.
 pub(crate) fn run_script<D: Disk, S: Source, K: Sink>(
     alloc: Global,
     disks: Vec<D>,
+    rules: &Rules,
     input: &mut S,
     out: &mut K,
 ) -> Report<D>
     requires { vec_len disks ≡ 16 }
-    ensures script { result.status ≡ 0 → Scripted (λ disk. D.image disk) disks.items (S.left input.old) (K.written out.old) result.disks.items result.history (K.written out.new) }
+    ensures script { result.status ≡ 0 → ScriptedUnder (λ disk. D.image disk) rules.now disks.items (S.left input.old) (K.written out.old) result.disks.items result.history (K.written out.new) }
     ensures whole_input { result.status ≡ 0 → IsAtEnd (S.left input.new) }
     ensures statuses { (result.status ≡ 0) ⊎ ((result.status ≡ 4) ⊎ ((result.status ≡ 5) ⊎ ((result.status ≡ 6) ⊎ ((result.status ≡ 7) ⊎ ((result.status ≡ 8) ⊎ (result.status ≡ 10)))))) }
     ensures all { vec_len result.disks ≡ 16 }
     ensures damage { result.status ≡ 4 → TellsDamage (λ disk. D.image disk) disks.items (K.written out.old) (K.written out.new) }
-    ensures disk_fault { result.status ≡ 5 → TellsDiskFault (λ disk. D.faults disk) disks.items result.disks.items (K.written out.old) (K.written out.new) }
+    ensures sound { (result.status ≡ 0) ⊎ ((result.status ≡ 6) ⊎ (result.status ≡ 10)) → AreSound (λ disk. D.image disk) disks.items 16 }
+    ensures refused { result.status ≡ 4 → (result.history ≡ []) × TellAsBefore (λ disk. D.image disk) disks.items result.disks.items }
+    ensures disk_fault { result.status ≡ 5 → TellsDiskFault (λ disk. D.image disk) (λ disk. D.faults disk) disks.items result.disks.items (K.written out.old) (K.written out.new) }
     ensures read_cause { result.status ≡ 6 → Rose (S.read_faults input.old) (S.read_faults input.new) }
     ensures read_text { result.status ≡ 6 → EndsWith (K.written out.old) (K.written out.new) read_fault_line }
     ensures write_cause { result.status ≡ 7 → Rose (K.write_faults out.old) (K.write_faults out.new) }
@@ -37,15 +40,11 @@ pub(crate) fn run_script<D: Disk, S: Source, K: Sink>(
     ensures limit { result.status ≡ 10 → IfSome (S.left input.old) (λ bytes. 2 ^ 40 ≤ length bytes) }
     ensures limit_text { result.status ≡ 10 → EndsWith (K.written out.old) (K.written out.new) limit_line }
 {
-    match Shards::start(alloc, disks) {
+    match Shards::start(alloc, disks, rules) {
         Ok(shards) => run_shards(alloc, shards, input, out),
         Err((disks, refusal)) => {
             let status = tell_refusal(&refusal, out);
-            Report {
-                status,
-                history: History::empty(alloc),
-                disks,
-            }
+            Report::without_command(alloc, status, disks)
         }
     }
 }

@@ -1,10 +1,12 @@
 ghost use Rattle.std.specs.Prelude.{◌≡◌, ◌≢◌, ◌≤◌, ◌⊎◌, OnOk, OnErr};
 ghost use Rattle.std.specs.Io.KnownBytes.{Appends};
 ghost use Rattle.outside_io.specs.Faults.{Rose};
-ghost use Rattle.carbon_run.specs.Texts.{usage_line, read_fault_line, no_memory_line, limit_line, damaged_line, damaged_word, disk_fault_line, disk_fault_word};
+ghost use Rattle.carbon_run.specs.Texts.{usage_line, read_fault_line, no_memory_line, limit_line, damaged_line, damaged_word, disk_fault_line, disk_fault_word, conf_fault_line, rule_fault_line};
 
+use crate::rule_line::RuleLine;
 use itoa::Buffer;
 use outside_io::{Sink, WriteFault, write_all};
+use schema_rules::{RuleCause, RuleFile};
 
 /// Writes the fault line of a status. The answer is that status, or 7 where the line could not be written.
 fn tell<K: Sink>(out: &mut K, status: u8, line: &[u8]) -> u8
@@ -129,4 +131,26 @@ fn write_disk_fault_word<K: Sink>(out: &mut K) -> Result<(), WriteFault>
     ensures later { K.write_faults out.old ≤ K.write_faults out.new }
 {
     write_all(out, b"carbon: disk fault class ")
+}
+
+/// Tells that the disk of the configuration failed: status 5, or 7 where that could not be written.
+#[tactic(auto, unfolding(crate::specs::Texts::conf_fault_line))]
+pub(crate) fn tell_conf_fault<K: Sink>(out: &mut K) -> u8
+    ensures status { (result ≡ 5) ⊎ (result ≡ 7) }
+    ensures line { result ≡ 5 → Appends (K.written out.old) (K.written out.new) conf_fault_line }
+    ensures cause { result ≡ 7 → Rose (K.write_faults out.old) (K.write_faults out.new) }
+    ensures later { K.write_faults out.old ≤ K.write_faults out.new }
+{
+    tell(out, 5, b"carbon: disk fault conf\n")
+}
+
+/// Tells why a rule file is refused: status 3, or 7 where that could not be written.
+pub(crate) fn tell_rule_fault<K: Sink>(out: &mut K, file: RuleFile, cause: RuleCause) -> u8
+    ensures status { (result ≡ 3) ⊎ (result ≡ 7) }
+    ensures line { result ≡ 3 → Appends (K.written out.old) (K.written out.new) (rule_fault_line file cause) }
+    ensures cause { result ≡ 7 → Rose (K.write_faults out.old) (K.write_faults out.new) }
+    ensures later { K.write_faults out.old ≤ K.write_faults out.new }
+{
+    let line = RuleLine::of(file, cause);
+    tell(out, 3, line.text())
 }

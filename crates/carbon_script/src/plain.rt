@@ -32,9 +32,10 @@ pub struct Plain<D: Disk> {
 }
 
 impl<D: Disk> Plain<D> {
-    ghost use Rattle.std.specs.Prelude.{◌≡◌, ◌≤◌, ◌<◌, ◌-◌, ◌++◌, ◌∷◌, ℕ, [], length, true, IfOk, IfErr, OnOk, OnErr};
+    ghost use Rattle.std.specs.Prelude.{◌≡◌, ◌≤◌, ◌<◌, ◌-◌, ◌++◌, ◌∷◌, ℕ, List, [], length, true, IfOk, IfErr, OnOk, OnErr};
     ghost use Rattle.outside_io.specs.Image.{Image};
     ghost use Rattle.metric_line.specs.Seen.{seen};
+    ghost use Rattle.ring_format.specs.Layout.{LayoutValue};
     ghost use Rattle.carbon_model.specs.RingFiles.{opening_state};
     ghost use Rattle.carbon_model.specs.Script.{Machine, all_drained, class_drains, opening, with_entries};
     ghost use Rattle.carbon_model.specs.Answer.{answer_text};
@@ -47,7 +48,7 @@ impl<D: Disk> Plain<D> {
 
     /// Nothing counted and nothing entered, over these shards.
     pub fn new(alloc: Global, shards: Shards<D>) -> Plain<D>
-        ensures means { (images : ℕ → Image) → HoldsAll images shards.items.items (opening_state images) → Means images result (opening images) }
+        ensures means { (rules : List ℕ → LayoutValue) (images : ℕ → Image) → HoldsAll images shards.items.items (opening_state rules images) → Means images result (opening rules images) }
         ensures shards { result.shards ≡ shards }
     {
         Plain {

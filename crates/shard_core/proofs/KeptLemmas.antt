@@ -11,7 +11,7 @@ use Rattle.ring_format.specs.Layout.{LayoutValue, layout_fault}
 use Rattle.ring_format.specs.declared.fault.HeadFault.{HeadFault}
 use Rattle.ring_archive.specs.Ring.{IsRingFile, ReadsAs, bare}
 use Rattle.archive_update.specs.Batch.{batch}
-use Rattle.carbon_model.specs.State.{Kept, default_layout, layout_of, rings_of}
+use Rattle.carbon_model.specs.State.{Kept, layout_or, rings_of}
 use Rattle.carbon_model.specs.RingFiles.{IsOfClass, SameKept, Stands, head_of, is_sound, kept_in, kept_on, kept_with}
 use Rattle.carbon_model.specs.Replay.{kept_after, with_drained}
 use Rattle.shard_core.specs.Shard.{HoldsKept, LayoutsByPath}
@@ -36,45 +36,45 @@ reads_from_kept None k same = absurd same
 reads_from_kept (Some file) k same = same_from_head (head_of file) file k same
 
 -- what the file read as before the drain
-abbrev pub read_before : (fresh : Bool) (kept : Option Kept) (layout : LayoutValue) → Type 0
-read_before true kept layout = (kept ≡ None) × (layout ≡ default_layout)
-read_before false kept layout = option_map (λ k. k.layout) kept ≡ Some layout
+abbrev pub read_before : (fresh : Bool) (given : LayoutValue) (kept : Option Kept) (layout : LayoutValue) → Type 0
+read_before true given kept layout = (kept ≡ None) × (layout ≡ given)
+read_before false given kept layout = option_map (λ k. k.layout) kept ≡ Some layout
 
-pub reads_kept : (fresh : Bool) (before : Image) (path : List ℕ) (kept : Option Kept) (layout : LayoutValue) → read_before fresh kept layout → SameKept (kept_on before path) kept
-    → (layout ≡ layout_of kept) × ReadBefore fresh before (file_name_of path) layout (rings_of kept)
-reads_kept true before path None layout known same = (known.1, λ i bucket. refl)
-reads_kept true before path (Some k) layout known same = absurd (none-some k (sym known.0))
-reads_kept false before path None layout known same = absurd (none-some layout known)
-reads_kept false before path (Some k) layout known same =
+pub reads_kept : (fresh : Bool) (given : LayoutValue) (before : Image) (path : List ℕ) (kept : Option Kept) (layout : LayoutValue) → read_before fresh given kept layout → SameKept (kept_on before path) kept
+    → (layout ≡ layout_or given kept) × ReadBefore fresh before (file_name_of path) layout (rings_of kept)
+reads_kept true given before path None layout known same = (known.1, λ i bucket. refl)
+reads_kept true given before path (Some k) layout known same = absurd (none-some k (sym known.0))
+reads_kept false given before path None layout known same = absurd (none-some layout known)
+reads_kept false given before path (Some k) layout known same =
     let l : layout ≡ k.layout = sym (same_some k.layout layout known) in
     (l, subst (λ (m : LayoutValue). IsSomeAnd (before (file_name_of path)) (λ file. ReadsAs (bare [] m) file k.rings)) (sym l) (reads_from_kept (before (file_name_of path)) k same))
 
 -- what the drained file keeps
-drained_rings : (held : Option (List ℕ)) (kept : Option Kept) (layout : LayoutValue) (now : ℕ) (points : List (ℕ × ℤ)) → layout_fault layout.archives layout.factor ≡ None → layout ≡ layout_of kept
+drained_rings : (held : Option (List ℕ)) (given : LayoutValue) (kept : Option Kept) (layout : LayoutValue) (now : ℕ) (points : List (ℕ × ℤ)) → layout_fault layout.archives layout.factor ≡ None → layout ≡ layout_or given kept
     → IsSomeAnd held (IsRingFile layout) → IsSomeAnd held (λ file. ReadsAs (bare [] layout) file (batch layout now points (rings_of kept)))
-    → SameKept (KeptFrom held) (Some (kept_after kept now points)) × IfSome held (λ file. is_sound file ≡ true)
-drained_rings None kept layout now points lawful l ring reads = absurd ring
-drained_rings (Some file) kept layout now points lawful l ring reads = (
-  subst (λ (k : Option Kept). SameKept k (Some (kept_after kept now points))) (sym (ring_is_kept layout file lawful ring))
+    → SameKept (KeptFrom held) (Some (kept_after given kept now points)) × IfSome held (λ file. is_sound file ≡ true)
+drained_rings None given kept layout now points lawful l ring reads = absurd ring
+drained_rings (Some file) given kept layout now points lawful l ring reads = (
+  subst (λ (k : Option Kept). SameKept k (Some (kept_after given kept now points))) (sym (ring_is_kept layout file lawful ring))
       (l, λ i bucket. reads i bucket ∙ ap (λ (m : LayoutValue). batch m now points (rings_of kept) i bucket) l),
   ring_is_sound layout file lawful ring,
 )
 
-drained_here : (fresh : Bool) (before after : Image) (kept : Option Kept) (path : List ℕ) (layout : LayoutValue) (now : ℕ) (points : List (ℕ × ℤ)) → layout_fault layout.archives layout.factor ≡ None
-    → read_before fresh kept layout → SameKept (kept_on before path) kept → DrainsFile fresh before after (file_name_of path) layout now points
-    → SameKept (kept_on after path) (Some (kept_after kept now points)) × IfSome (after (file_name_of path)) (λ file. is_sound file ≡ true)
-drained_here fresh before after kept path layout now points lawful known same drains =
-    let was = reads_kept fresh before path kept layout known same in
-    drained_rings (after (file_name_of path)) kept layout now points lawful was.0 drains.whole (drains.reads (rings_of kept) was.1)
+drained_here : (fresh : Bool) (given : LayoutValue) (before after : Image) (kept : Option Kept) (path : List ℕ) (layout : LayoutValue) (now : ℕ) (points : List (ℕ × ℤ)) → layout_fault layout.archives layout.factor ≡ None
+    → read_before fresh given kept layout → SameKept (kept_on before path) kept → DrainsFile fresh before after (file_name_of path) layout now points
+    → SameKept (kept_on after path) (Some (kept_after given kept now points)) × IfSome (after (file_name_of path)) (λ file. is_sound file ≡ true)
+drained_here fresh given before after kept path layout now points lawful known same drains =
+    let was = reads_kept fresh given before path kept layout known same in
+    drained_rings (after (file_name_of path)) given kept layout now points lawful was.0 drains.whole (drains.reads (rings_of kept) was.1)
 
 -- the disk after a drain
-stands_after : (fresh : Bool) (opening before after : Image) (kept : List ℕ → Option Kept) (class : ℕ) (path : List ℕ) (layout : LayoutValue) (now : ℕ) (points : List (ℕ × ℤ))
-    → layout_fault layout.archives layout.factor ≡ None → IsOfClass class path → read_before fresh (kept path) layout → Stands opening before kept class
-    → DrainsFile fresh before after (file_name_of path) layout now points → Stands opening after (with_drained kept path now points) class
-stands_after fresh opening before after kept class path layout now points lawful one known stands drains =
-    let here = drained_here fresh before after (kept path) path layout now points lawful known (stands.rings path one) drains in record {
+stands_after : (fresh : Bool) (given : LayoutValue) (opening before after : Image) (kept : List ℕ → Option Kept) (class : ℕ) (path : List ℕ) (layout : LayoutValue) (now : ℕ) (points : List (ℕ × ℤ))
+    → layout_fault layout.archives layout.factor ≡ None → IsOfClass class path → read_before fresh given (kept path) layout → Stands opening before kept class
+    → DrainsFile fresh before after (file_name_of path) layout now points → Stands opening after (with_drained kept path given now points) class
+stands_after fresh given opening before after kept class path layout now points lawful one known stands drains =
+    let here = drained_here fresh given before after (kept path) path layout now points lawful known (stands.rings path one) drains in record {
       rings = λ p of_class. elim (same_text p path) [
-        | inl same ↦ rw same.0 (subst (λ (q : List ℕ). SameKept (kept_on after q) (Some (kept_after (kept path) now points))) (sym same.1) here.0)
+        | inl same ↦ rw same.0 (subst (λ (q : List ℕ). SameKept (kept_on after q) (Some (kept_after given (kept path) now points))) (sym same.1) here.0)
         | inr other ↦ rw other.0
             (subst (λ (held : Option (List ℕ)). SameKept (KeptFrom held) (kept p))
             (sym (drains.others (file_name_of p) (λ e. other.1 (file_names_differ p path of_class.legal one.legal e)))) (stands.rings p of_class))
@@ -92,30 +92,30 @@ abbrev pub IndexedWith : LayoutsByPath → LayoutsByPath → List ℕ → Layout
 IndexedWith old new path layout =
     (lookup (bytes_eq path) new ≡ Some layout) × ((other : List ℕ) → bytes_eq other path ≡ false → lookup (bytes_eq other) new ≡ lookup (bytes_eq other) old)
 
-index_after : (class : ℕ) (old new : LayoutsByPath) (kept : List ℕ → Option Kept) (path : List ℕ) (layout : LayoutValue) (now : ℕ) (points : List (ℕ × ℤ)) → layout ≡ layout_of (kept path)
+index_after : (class : ℕ) (given : LayoutValue) (old new : LayoutsByPath) (kept : List ℕ → Option Kept) (path : List ℕ) (layout : LayoutValue) (now : ℕ) (points : List (ℕ × ℤ)) → layout ≡ layout_or given (kept path)
     → IndexedWith old new path layout → ((p : List ℕ) → IsOfClass class p → lookup (bytes_eq p) old ≡ option_map (λ k. k.layout) (kept p))
-    → (p : List ℕ) → IsOfClass class p → lookup (bytes_eq p) new ≡ option_map (λ k. k.layout) (with_drained kept path now points p)
-index_after class old new kept path layout now points l indexed index p of_class = elim (same_text p path) [
-  | inl same ↦ rw same.0 (subst (λ (q : List ℕ). lookup (bytes_eq q) new ≡ Some (layout_of (kept path))) (sym same.1) (indexed.0 ∙ ap (λ (m : LayoutValue). Some m) l))
+    → (p : List ℕ) → IsOfClass class p → lookup (bytes_eq p) new ≡ option_map (λ k. k.layout) (with_drained kept path given now points p)
+index_after class given old new kept path layout now points l indexed index p of_class = elim (same_text p path) [
+  | inl same ↦ rw same.0 (subst (λ (q : List ℕ). lookup (bytes_eq q) new ≡ Some (layout_or given (kept path))) (sym same.1) (indexed.0 ∙ ap (λ (m : LayoutValue). Some m) l))
   | inr other ↦ rw other.0 (indexed.1 p other.0 ∙ index p of_class)
 ]
 
-layout_known : (fresh : Bool) (kept : Option Kept) (layout : LayoutValue) → read_before fresh kept layout → layout ≡ layout_of kept
-layout_known true None layout known = known.1
-layout_known true (Some k) layout known = absurd (none-some k (sym known.0))
-layout_known false None layout known = absurd (none-some layout known)
-layout_known false (Some k) layout known = sym (same_some k.layout layout known)
+layout_known : (fresh : Bool) (given : LayoutValue) (kept : Option Kept) (layout : LayoutValue) → read_before fresh given kept layout → layout ≡ layout_or given kept
+layout_known true given None layout known = known.1
+layout_known true given (Some k) layout known = absurd (none-some k (sym known.0))
+layout_known false given None layout known = absurd (none-some layout known)
+layout_known false given (Some k) layout known = sym (same_some k.layout layout known)
 
 -- the layouts and the disk of a class after a drain
-pub holds_after : (fresh : Bool) (opening : Image) (class : ℕ) (layouts layouts' : LayoutsByPath) (known known' : Option Image) (kept : List ℕ → Option Kept) (path : List ℕ) (layout : LayoutValue) (now : ℕ) (points : List (ℕ × ℤ))
-    → layout_fault layout.archives layout.factor ≡ None → IsOfClass class path → read_before fresh (kept path) layout → IndexedWith layouts layouts' path layout
+pub holds_after : (fresh : Bool) (given : LayoutValue) (opening : Image) (class : ℕ) (layouts layouts' : LayoutsByPath) (known known' : Option Image) (kept : List ℕ → Option Kept) (path : List ℕ) (layout : LayoutValue) (now : ℕ) (points : List (ℕ × ℤ))
+    → layout_fault layout.archives layout.factor ≡ None → IsOfClass class path → read_before fresh given (kept path) layout → IndexedWith layouts layouts' path layout
     → WhereKnown known known' (λ before after. DrainsFile fresh before after (file_name_of path) layout now points)
-    → HoldsKept opening class layouts known kept → HoldsKept opening class layouts' known' (with_drained kept path now points)
-holds_after fresh opening class layouts layouts' None known' kept path layout now points lawful one was indexed drains holds = absurd holds.files
-holds_after fresh opening class layouts layouts' (Some before) None kept path layout now points lawful one was indexed drains holds = absurd drains
-holds_after fresh opening class layouts layouts' (Some before) (Some after) kept path layout now points lawful one was indexed drains holds = record {
-  index = index_after class layouts layouts' kept path layout now points (layout_known fresh (kept path) layout was) indexed holds.index;
-  files = stands_after fresh opening before after kept class path layout now points lawful one was holds.files drains;
+    → HoldsKept opening class layouts known kept → HoldsKept opening class layouts' known' (with_drained kept path given now points)
+holds_after fresh given opening class layouts layouts' None known' kept path layout now points lawful one was indexed drains holds = absurd holds.files
+holds_after fresh given opening class layouts layouts' (Some before) None kept path layout now points lawful one was indexed drains holds = absurd drains
+holds_after fresh given opening class layouts layouts' (Some before) (Some after) kept path layout now points lawful one was indexed drains holds = record {
+  index = index_after class given layouts layouts' kept path layout now points (layout_known fresh given (kept path) layout was) indexed holds.index;
+  files = stands_after fresh given opening before after kept class path layout now points lawful one was holds.files drains;
 }
 
 no_layout : (kept : Option Kept) → None ≡ option_map (λ (k : Kept). k.layout) kept → kept ≡ None
@@ -123,10 +123,10 @@ no_layout None e = refl
 no_layout (Some k) e = absurd (none-some k.layout e)
 
 -- what the layouts tell of a path: a metric without a layout has no file, and one with a layout has one of it
-pub was_fresh : (opening : Image) (class : ℕ) (layouts : LayoutsByPath) (known : Option Image) (kept : List ℕ → Option Kept) (path : List ℕ) → IsOfClass class path → None ≡ lookup (bytes_eq path) layouts
-    → HoldsKept opening class layouts known kept → read_before true (kept path) default_layout
-was_fresh opening class layouts known kept path one none holds = (no_layout (kept path) (none ∙ holds.index path one), refl)
+pub was_fresh : (given : LayoutValue) (opening : Image) (class : ℕ) (layouts : LayoutsByPath) (known : Option Image) (kept : List ℕ → Option Kept) (path : List ℕ) → IsOfClass class path → None ≡ lookup (bytes_eq path) layouts
+    → HoldsKept opening class layouts known kept → read_before true given (kept path) given
+was_fresh given opening class layouts known kept path one none holds = (no_layout (kept path) (none ∙ holds.index path one), refl)
 
-pub was_kept : (opening : Image) (class : ℕ) (layouts : LayoutsByPath) (known : Option Image) (kept : List ℕ → Option Kept) (path : List ℕ) (layout : LayoutValue) → IsOfClass class path
-    → Some layout ≡ lookup (bytes_eq path) layouts → HoldsKept opening class layouts known kept → read_before false (kept path) layout
-was_kept opening class layouts known kept path layout one found holds = sym (holds.index path one) ∙ sym found
+pub was_kept : (given : LayoutValue) (opening : Image) (class : ℕ) (layouts : LayoutsByPath) (known : Option Image) (kept : List ℕ → Option Kept) (path : List ℕ) (layout : LayoutValue) → IsOfClass class path
+    → Some layout ≡ lookup (bytes_eq path) layouts → HoldsKept opening class layouts known kept → read_before false given (kept path) layout
+was_kept given opening class layouts known kept path layout one found holds = sym (holds.index path one) ∙ sym found

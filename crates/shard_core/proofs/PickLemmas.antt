@@ -14,6 +14,9 @@ use Rattle.carbon_model.specs.Replay.{drained, picked, with_drained}
 use Rattle.std.proofs.lemmas.List.Elements.{All-head}
 use Rattle.metric_path.specs.Path.{path_fault}
 use Rattle.metric_line.specs.Moment.{is_moment}
+use Rattle.ring_format.specs.Layout.{LayoutValue}
+use Rattle.schema_rules.specs.LayoutBy.{layout_by}
+use Rattle.schema_rules.specs.RulesOf.{RulesValue}
 use Rattle.shard_core.specs.Shard.{AreOfClass, Drains, DrainsKept, HoldsKept, LayoutsByPath}
 
 itself : (path : List ℕ) → bytes_eq path path ≡ true
@@ -45,9 +48,9 @@ pending_after class metrics rest path points now s first one held =
     rw (one, same_number class) (sym first.gone ∙ ap (λ (ms : Metrics). remove_entry (bytes_eq path) ms) held)
 
 -- the first metric is drained
-pub drains_first : (class : ℕ) (metrics : Metrics) (layouts layouts' : LayoutsByPath) (known known' : Option Image) (path : List ℕ) (points : List (ℕ × ℤ)) (now : ℕ) → slice_get metrics 0 ≡ Some (path, points) → class_of path ≡ class
-    → DrainsKept class layouts known path now points layouts' known' → Drains class metrics layouts known path now (remove metrics 0) layouts' known'
-drains_first class metrics layouts layouts' known known' path points now e one drains =
+pub drains_first : (class : ℕ) (rules : RulesValue) (metrics : Metrics) (layouts layouts' : LayoutsByPath) (known known' : Option Image) (path : List ℕ) (points : List (ℕ × ℤ)) (now : ℕ) → slice_get metrics 0 ≡ Some (path, points) → class_of path ≡ class
+    → DrainsKept class layouts known path (layout_by rules path) now points layouts' known' → Drains class rules metrics layouts known path now (remove metrics 0) layouts' known'
+drains_first class rules metrics layouts layouts' known known' path points now e one drains =
     let first = first_of metrics path points e in (
       one,
       λ opening s holds.
@@ -55,7 +58,9 @@ drains_first class metrics layouts layouts' known known' path points now e one d
             ap picked (sym holds.pending) ∙ first.pick,
             record {
               pending = pending_after class metrics (remove metrics 0) path points now s first one holds.pending;
-              kept = subst (λ (ps : List (ℕ × ℤ)). HoldsKept opening class layouts' known' (with_drained s.kept path now ps)) its (drains opening s.kept holds.kept);
+              kept = subst (λ (given : LayoutValue). HoldsKept opening class layouts' known' (with_drained s.kept path given now (points_in s path))) (sym (holds.rules path))
+                  (subst (λ (ps : List (ℕ × ℤ)). HoldsKept opening class layouts' known' (with_drained s.kept path (layout_by rules path) now ps)) its (drains opening s.kept holds.kept));
+              rules = holds.rules;
             },
           ),
     )

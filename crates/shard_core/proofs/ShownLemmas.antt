@@ -16,6 +16,7 @@ use Rattle.carbon_model.specs.State.{Kept, Metrics, State, no_rings, points_in, 
 use Rattle.carbon_model.specs.RingFiles.{IsOfClass}
 use Rattle.carbon_model.specs.Answer.{series_in, series_of}
 use Rattle.carbon_model.specs.declared.series.Series.{Series}
+use Rattle.schema_rules.specs.RulesOf.{RulesValue}
 use Rattle.shard_core.specs.Drained.{ShowsFile}
 use Rattle.shard_core.specs.Shard.{Holds, LayoutsByPath, Shows}
 use Rattle.shard_core.proofs.KeptLemmas.{read_before, reads_kept}
@@ -54,23 +55,23 @@ shown_file false (Some image) name path layout points i first end step values s 
 -- ---- what a state shows
 
 -- a question about a metric that is kept, or has pending points
-series_by : (fresh : Bool) (kept : Option Kept) (layout : LayoutValue) (points : List (ℕ × ℤ)) (now from until : ℕ) (series : Option Series) → read_before fresh kept layout → (fresh ≡ true → points ≡ [] → ⊥)
-    → series ≡ series_in layout (rings_of kept) points (window layout now from until) → series ≡ series_of kept points now from until
-series_by true None layout [] now from until series known some e = absurd (some refl refl)
-series_by true None layout (p ∷ ps) now from until series known some e = e ∙ ap (λ (l : LayoutValue). series_in l no_rings (p ∷ ps) (window l now from until)) known.1
-series_by true (Some k) layout points now from until series known some e = absurd (none-some k (sym known.0))
-series_by false None layout points now from until series known some e = absurd (none-some layout known)
-series_by false (Some k) layout points now from until series known some e =
+series_by : (fresh : Bool) (given : LayoutValue) (kept : Option Kept) (layout : LayoutValue) (points : List (ℕ × ℤ)) (now from until : ℕ) (series : Option Series) → read_before fresh given kept layout → (fresh ≡ true → points ≡ [] → ⊥)
+    → series ≡ series_in layout (rings_of kept) points (window layout now from until) → series ≡ series_of given kept points now from until
+series_by true given None layout [] now from until series known some e = absurd (some refl refl)
+series_by true given None layout (p ∷ ps) now from until series known some e = e ∙ ap (λ (l : LayoutValue). series_in l no_rings (p ∷ ps) (window l now from until)) known.1
+series_by true given (Some k) layout points now from until series known some e = absurd (none-some k (sym known.0))
+series_by false given None layout points now from until series known some e = absurd (none-some layout known)
+series_by false given (Some k) layout points now from until series known some e =
     e ∙ ap (λ (l : LayoutValue). series_in l k.rings points (window l now from until)) (sym (ap (λ (o : Option LayoutValue). unwrap_or o k.layout) known))
 
 -- from what the file shows to what the state does
-pub shows_from : (fresh : Bool) (class : ℕ) (metrics : Metrics) (layouts : LayoutsByPath) (known : Option Image) (path : List ℕ) (layout : LayoutValue) (points : List (ℕ × ℤ)) (now from until : ℕ) (series : Option Series)
-    → ((opening : Image) (s : State) → Holds opening class metrics layouts known s → read_before fresh (s.kept path) layout) → (fresh ≡ true → points ≡ [] → ⊥) → IsOfClass class path → points ≡ points_of metrics path
-    → ShowsFile fresh known (file_name_of path) layout points (window layout now from until) series → Shows class metrics layouts known path now from until series
-shows_from fresh class metrics layouts None path layout points now from until series was some one held shows opening s holds = absurd holds.kept.files
-shows_from fresh class metrics layouts (Some image) path layout points now from until series was some one held shows opening s holds =
+pub shows_from : (fresh : Bool) (class : ℕ) (rules : RulesValue) (metrics : Metrics) (layouts : LayoutsByPath) (known : Option Image) (path : List ℕ) (layout : LayoutValue) (points : List (ℕ × ℤ)) (now from until : ℕ) (series : Option Series)
+    → ((opening : Image) (s : State) → Holds opening class rules metrics layouts known s → read_before fresh (s.rules path) (s.kept path) layout) → (fresh ≡ true → points ≡ [] → ⊥) → IsOfClass class path → points ≡ points_of metrics path
+    → ShowsFile fresh known (file_name_of path) layout points (window layout now from until) series → Shows class rules metrics layouts known path now from until series
+shows_from fresh class rules metrics layouts None path layout points now from until series was some one held shows opening s holds = absurd holds.kept.files
+shows_from fresh class rules metrics layouts (Some image) path layout points now from until series was some one held shows opening s holds =
     let known = was opening s holds in
-    let reads = reads_kept fresh image path (s.kept path) layout known (holds.kept.files.rings path one) in
+    let reads = reads_kept fresh (s.rules path) image path (s.kept path) layout known (holds.kept.files.rings path one) in
     let its : points ≡ points_in s path = held ∙ ap (λ (ms : Metrics). points_of ms path) (holds.pending ∙ ap s.pending (sym one.here)) in
-    series_by fresh (s.kept path) layout points now from until series known some (shows (rings_of (s.kept path)) reads.1)
-    ∙ ap (λ (ps : List (ℕ × ℤ)). series_of (s.kept path) ps now from until) its
+    series_by fresh (s.rules path) (s.kept path) layout points now from until series known some (shows (rings_of (s.kept path)) reads.1)
+    ∙ ap (λ (ps : List (ℕ × ℤ)). series_of (s.rules path) (s.kept path) ps now from until) its

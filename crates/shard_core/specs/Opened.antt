@@ -1,5 +1,5 @@
 -- What a shard finds when it starts.
-use Rattle.std.specs.Prelude.{◌≡◌, ℕ, true, false, List, Option, IsSomeAnd, Some}
+use Rattle.std.specs.Prelude.{◌≡◌, ℕ, true, false, List, Option, IfSome, IsSomeAnd, Some}
 use Rattle.std.specs.Ordering.{nat_cmp, is_le}
 use Rattle.std.specs.Cmp.Lexicographic.{slice_cmp}
 use Rattle.outside_io.specs.Image.{Image}
@@ -19,6 +19,10 @@ pub record FirstDamaged (class : ℕ) (image : Image) (name : List ℕ) : Type 0
   pub named : file_name_of path ≡ name
   pub damaged : IsDamaged image path
   pub first : (other : List ℕ) → IsOfClass class other → IsDamaged image other → is_le (slice_cmp nat_cmp name (file_name_of other)) ≡ true
+
+-- no file of the class is damaged
+abbrev pub IsSoundDisk : ℕ → Image → Type 0
+IsSoundDisk class image = (path : List ℕ) → IsOfClass class path → IfSome (image (file_name_of path)) (λ file. is_sound file ≡ true)
 
 -- the layouts and the disk stand for what the disk shows
 abbrev pub Opens : ℕ → Image → LayoutsByPath → Type 0

@@ -1,33 +1,35 @@
 -- What the starts of single shards make of the disks of all classes.
-use Rattle.std.specs.Prelude.{◌≡◌, ◌≤◌, ℕ, List, [], ◌∷◌, ◌++◌, length, map, Option, IfSome, IsSomeAnd, slice_get}
+use Rattle.std.specs.Prelude.{◌≡◌, ◌<◌, ◌≤◌, ℕ, List, [], ◌∷◌, ◌++◌, length, map, Option, IfSome, IsSomeAnd, slice_get}
 use Rattle.outside_io.specs.Image.{Image}
 use Rattle.outside_io.specs.Faults.{Rose}
 use Rattle.outside_io.specs.declared.disk.Disk.{Ghosts}
-use Rattle.shard_core.specs.Opened.{Opens}
+use Rattle.schema_rules.specs.RulesOf.{RulesValue}
+use Rattle.shard_core.specs.Opened.{IsSoundDisk, Opens}
 use Rattle.shard_core.specs.StartFaults.{IsDamagedFile, IsDiskFault}
 use Rattle.shard_core.specs.Shards.{disk_faults}
 use Rattle.shard_core.specs.declared.fault.StartFault.{StartFault}
 use Rattle.shard_core.specs.declared.shard.Shard.{Shard}
 
--- the shard of a class started from this disk
-pub record StartedFrom {D : Type 0} {d : Ghosts D} (class : ℕ) (disk : D) (shard : Shard D d) : Type 0 where
+-- the shard of a class started from this disk, under these rules
+pub record StartedFrom {D : Type 0} {d : Ghosts D} (class : ℕ) (rules : RulesValue) (disk : D) (shard : Shard D d) : Type 0 where
   pub here : shard.class ≡ class
+  pub given : shard.given ≡ rules
   pub empty : shard.cache ≡ []
   pub same : d.image shard.disk ≡ d.image disk
   pub opens : IfSome (d.image disk) (λ image. Opens class image shard.layouts)
   pub later : d.faults disk ≤ d.faults shard.disk
 
 -- each shard started from the disk of its place
-abbrev pub AreStarted : {D : Type 0} {d : Ghosts D} → List D → List (Shard D d) → Type 0
-AreStarted disks shards = (k : ℕ) → IfSome (slice_get shards k) (λ shard. IsSomeAnd (slice_get disks k) (λ disk. StartedFrom k disk shard))
+abbrev pub AreStarted : {D : Type 0} {d : Ghosts D} → RulesValue → List D → List (Shard D d) → Type 0
+AreStarted rules disks shards = (k : ℕ) → IfSome (slice_get shards k) (λ shard. IsSomeAnd (slice_get disks k) (λ disk. StartedFrom k rules disk shard))
 
 -- the first disk is that of the next shard
-pub record StartsNext {D : Type 0} {d : Ghosts D} (disks : List D) (shards shards' : List (Shard D d)) (disks' : List D) : Type 0 where
+pub record StartsNext {D : Type 0} {d : Ghosts D} (rules : RulesValue) (disks : List D) (shards shards' : List (Shard D d)) (disks' : List D) : Type 0 where
   pub disk : D
   pub shard : Shard D d
   pub taken : disks ≡ disk ∷ disks'
   pub more : shards' ≡ shards ++ shard ∷ []
-  pub started : StartedFrom (length shards) disk shard
+  pub started : StartedFrom (length shards) rules disk shard
 
 -- the next shard did not start, and the first disk is back
 pub record RefusesNext {D : Type 0} {d : Ghosts D} (fault : StartFault) (disks : List D) (shards shards' : List (Shard D d)) (disks' : List D) : Type 0 where
@@ -41,9 +43,10 @@ pub record RefusesNext {D : Type 0} {d : Ghosts D} (fault : StartFault) (disks :
   pub damaged : IsDamagedFile fault (d.image disk) (length shards)
   pub cause : IsDiskFault fault → Rose (d.faults disk) (d.faults back)
 
--- Of the disks of all classes, that of this one did not start: each tells what it told, and the count of failed calls of its own rose where
--- it failed.
+-- Of the disks of all classes, that of this one did not start, and those of the classes before it are sound: each tells what it told, and the
+-- count of failed calls of its own rose where it failed.
 pub record HandsBack {D : Type 0} (image : D → Option Image) (faults : D → ℕ) (fault : StartFault) (disks : List D) (class : ℕ) (back : List D) : Type 0 where
   pub same : map image back ≡ map image disks
   pub damaged : IsSomeAnd (slice_get disks class) (λ disk. IsDamagedFile fault (image disk) class)
+  pub below : (k : ℕ) → k < class → IfSome (slice_get disks k) (λ disk. IfSome (image disk) (IsSoundDisk k))
   pub cause : IsDiskFault fault → Rose (disk_faults faults disks class) (disk_faults faults back class)

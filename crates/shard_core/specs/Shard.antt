@@ -12,12 +12,19 @@ use Rattle.ring_archive.specs.Ring.{IsRingFile}
 use Rattle.carbon_model.specs.State.{Kept, Metrics, State}
 use Rattle.carbon_model.specs.RingFiles.{IsOfClass, Stands}
 use Rattle.carbon_model.specs.Replay.{drained, picked, with_drained}
+use Rattle.schema_rules.specs.LayoutBy.{layout_by}
+use Rattle.schema_rules.specs.RulesOf.{RulesValue}
 use Rattle.carbon_model.specs.Answer.{series_at}
 use Rattle.carbon_model.specs.declared.series.Series.{Series}
 
 -- the layouts of the metrics that have a file
 abbrev pub LayoutsByPath : Type 0
 LayoutsByPath = List (List ℕ × LayoutValue)
+
+-- these are layouts that the rules give
+abbrev pub AreGiven : RulesValue → LayoutsByPath → Type 0
+AreGiven rules layouts =
+    (path : List ℕ) → IfSome (lookup (bytes_eq path) layouts) (λ layout. (layout ≡ layout_by rules path) × (layout_fault layout.archives layout.factor ≡ None))
 
 -- pending metrics have legal paths of the class, and their points legal moments
 abbrev pub AreOfClass : ℕ → Metrics → Type 0
@@ -36,22 +43,23 @@ pub record HoldsKept (opening : Image) (class : ℕ) (layouts : LayoutsByPath) (
   pub files : IsSomeAnd known (λ now. Stands opening now kept class)
 
 -- a shard stands for its class's part of a state
-pub record Holds (opening : Image) (class : ℕ) (metrics : Metrics) (layouts : LayoutsByPath) (known : Option Image) (s : State) : Type 0 where
+pub record Holds (opening : Image) (class : ℕ) (given : RulesValue) (metrics : Metrics) (layouts : LayoutsByPath) (known : Option Image) (s : State) : Type 0 where
   pub pending : metrics ≡ s.pending class
   pub kept : HoldsKept opening class layouts known s.kept
+  pub rules : (path : List ℕ) → s.rules path ≡ layout_by given path
 
 -- Whatever state the shard stood for, it picks this path, and stands for the state after its drain.
-abbrev pub Drains : ℕ → Metrics → LayoutsByPath → Option Image → List ℕ → ℕ → Metrics → LayoutsByPath → Option Image → Type 0
-Drains class metrics layouts known path now metrics' layouts' known' =
-    (class_of path ≡ class) × ((opening : Image) (s : State) → Holds opening class metrics layouts known s
-    → (picked (s.pending class) ≡ Some path) × Holds opening class metrics' layouts' known' (drained s path now))
+abbrev pub Drains : ℕ → RulesValue → Metrics → LayoutsByPath → Option Image → List ℕ → ℕ → Metrics → LayoutsByPath → Option Image → Type 0
+Drains class rules metrics layouts known path now metrics' layouts' known' =
+    (class_of path ≡ class) × ((opening : Image) (s : State) → Holds opening class rules metrics layouts known s
+    → (picked (s.pending class) ≡ Some path) × Holds opening class rules metrics' layouts' known' (drained s path now))
 
--- the same of what is kept alone
-abbrev pub DrainsKept : ℕ → LayoutsByPath → Option Image → List ℕ → ℕ → List (ℕ × ℤ) → LayoutsByPath → Option Image → Type 0
-DrainsKept class layouts known path now points layouts' known' =
-    (opening : Image) (kept : List ℕ → Option Kept) → HoldsKept opening class layouts known kept → HoldsKept opening class layouts' known' (with_drained kept path now points)
+-- the same of what is kept alone, where the path is given this layout
+abbrev pub DrainsKept : ℕ → LayoutsByPath → Option Image → List ℕ → LayoutValue → ℕ → List (ℕ × ℤ) → LayoutsByPath → Option Image → Type 0
+DrainsKept class layouts known path given now points layouts' known' =
+    (opening : Image) (kept : List ℕ → Option Kept) → HoldsKept opening class layouts known kept → HoldsKept opening class layouts' known' (with_drained kept path given now points)
 
 -- what is shown of a path in whatever state the shard stands for
-abbrev pub Shows : ℕ → Metrics → LayoutsByPath → Option Image → List ℕ → ℕ → ℕ → ℕ → Option Series → Type 0
-Shows class metrics layouts known path now from until series =
-    (opening : Image) (s : State) → Holds opening class metrics layouts known s → series ≡ series_at s path now from until
+abbrev pub Shows : ℕ → RulesValue → Metrics → LayoutsByPath → Option Image → List ℕ → ℕ → ℕ → ℕ → Option Series → Type 0
+Shows class rules metrics layouts known path now from until series =
+    (opening : Image) (s : State) → Holds opening class rules metrics layouts known s → series ≡ series_at s path now from until

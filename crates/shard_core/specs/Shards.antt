@@ -19,14 +19,14 @@ use Rattle.shard_core.specs.declared.shard.Shard.{Shard}
 abbrev pub HoldsAll : {D : Type 0} {d : Ghosts D} → (ℕ → Image) → List (Shard D d) → State → Type 0
 HoldsAll opening shards s = (k : ℕ) → IfSome (slice_get shards k) (λ shard. StandsFor (opening k) shard s)
 
--- what a put makes of the state: how it ended is as the state says
+-- what a put makes of the state: how it ended is as the state says; want of memory, which no replacement meets, changes nothing
 abbrev pub PutsInto : Put → State → List ℕ → ℕ → ℤ → (State → Type 0) → Type 0
 PutsInto Stored s path time value holds =
     (has_time (points_in s path) time ≡ false) × holds (with_pending s (class_of path) (with_put (s.pending (class_of path)) path time value))
 PutsInto Replaced s path time value holds =
     (has_time (points_in s path) time ≡ true) × holds (with_pending s (class_of path) (with_put (s.pending (class_of path)) path time value))
 PutsInto Full s path time value holds = ⊥
-PutsInto NoMemory s path time value holds = Unit {0}
+PutsInto NoMemory s path time value holds = (has_time (points_in s path) time ≡ false) × holds s
 
 -- what a drain makes of the state: the metric is the one that the class picks, and is none only where nothing is pending
 abbrev pub DrainsNext : Option (List ℕ) → State → ℕ → ℕ → (State → Type 0) → Type 0

@@ -7,4 +7,4 @@ use Rattle.shard_core.specs.declared.shard.Shard.{Shard}
 
 -- the shard stands for its class's part of a state
 abbrev pub StandsFor : {D : Type 0} {d : Ghosts D} → Image → Shard D d → State → Type 0
-StandsFor {D} {d} opening shard s = Holds opening shard.class shard.cache shard.layouts (d.image shard.disk) s
+StandsFor {D} {d} opening shard s = Holds opening shard.class shard.given shard.cache shard.layouts (d.image shard.disk) s

@@ -3,6 +3,7 @@
 
 mod draining;
 mod fault;
+mod given;
 mod layouts;
 mod opening;
 mod shard;
@@ -11,10 +12,15 @@ mod showing;
 mod starting;
 
 pub use fault::StartFault;
+pub use given::GivenLayouts;
 pub use layouts::Layouts;
 pub use opening::Refusal;
 pub use shard::Shard;
 pub use shards::{CLASSES, Shards};
 
+#[cfg(test)]
+mod counted_disk;
+#[cfg(test)]
+mod drain_tests;
 #[cfg(test)]
 mod tests;

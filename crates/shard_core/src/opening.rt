@@ -1,11 +1,14 @@
 //! Starting all shards, and giving their disks back.
 ghost use Rattle.std.specs.Prelude.{◌≡◌, ◌≤◌, ◌<◌, ◌+◌, ◌++◌, IfErr, IfOk, OnOk, map, vec_len, vec_capacity};
-ghost use Rattle.shard_core.specs.Opening.{AreStarted, HandsBack, RefusesNext, StartsNext};
+ghost use Rattle.outside_io.specs.Faults.{Rose};
+ghost use Rattle.shard_core.specs.Opening.{AreStarted, HandsBack, RefusesNext, StartedFrom, StartsNext};
+ghost use Rattle.shard_core.specs.StartFaults.{IsDamagedFile, IsDiskFault};
 
 use crate::fault::StartFault;
 use crate::shard::Shard;
 use crate::shards::{CLASSES, Shards};
 use outside_io::Disk;
+use schema_rules::Rules;
 use std::alloc::Global;
 
 /// Why the shards did not start.
@@ -23,22 +26,30 @@ impl<D: Disk> Shards<D> {
     ghost use Rattle.outside_io.specs.Faults.{Rose};
     ghost use Rattle.carbon_model.specs.RingFiles.{opening_state};
     ghost use Rattle.shard_core.specs.Shards.{HoldsAll, TellsImages, disk_faults, faults_at};
+    ghost use Rattle.schema_rules.specs.LayoutBy.{layout_by};
+    ghost use Rattle.shard_core.specs.Opened.{IsSoundDisk};
     ghost use Rattle.shard_core.specs.StartFaults.{IsDamagedFile, IsDiskFault};
 
-    /// The shards of all classes over their disks, in order of class, with nothing pending. The first class whose start is refused ends it, and the
+    /// The shards of all classes over their disks, in order of class, under the rules, with nothing pending. The first class whose start is refused ends it, and the
     /// refusal hands all disks back, in order.
-    pub fn start(alloc: Global, disks: Vec<D>) -> Result<Shards<D>, (Vec<D>, Refusal)>
+    pub fn start(
+        alloc: Global,
+        disks: Vec<D>,
+        rules: &Rules,
+    ) -> Result<Shards<D>, (Vec<D>, Refusal)>
         requires { vec_len disks ≡ 16 }
-        ensures opens { IfOk result (λ shards. (images : ℕ → Image) → TellsImages (λ disk. D.image disk) disks.items images → HoldsAll images shards.items.items (opening_state images)) }
+        ensures opens { IfOk result (λ shards. (images : ℕ → Image) → TellsImages (λ disk. D.image disk) disks.items images → HoldsAll images shards.items.items (opening_state (layout_by rules.now) images)) }
+        ensures sound { IfOk result (λ _. (images : ℕ → Image) → TellsImages (λ disk. D.image disk) disks.items images → (k : ℕ) → k < 16 → IsSoundDisk k (images k)) }
         ensures later { IfOk result (λ shards. (k : ℕ) → disk_faults (λ disk. D.faults disk) disks.items k ≤ faults_at shards.items.items k) }
         ensures back { IfErr result (λ refusal. vec_len refusal.0 ≡ 16) }
         ensures same { IfErr result (λ refusal. (images : ℕ → Image) → TellsImages (λ disk. D.image disk) disks.items images → TellsImages (λ disk. D.image disk) refusal.0.items images) }
         ensures damaged { IfErr result (λ refusal. (images : ℕ → Image) → TellsImages (λ disk. D.image disk) disks.items images → IsDamagedFile refusal.1.fault (Some (images refusal.1.class)) refusal.1.class) }
+        ensures below { IfErr result (λ refusal. (images : ℕ → Image) → TellsImages (λ disk. D.image disk) disks.items images → (k : ℕ) → k < refusal.1.class → IsSoundDisk k (images k)) }
         ensures cause { IfErr result (λ refusal. IsDiskFault refusal.1.fault → Rose (disk_faults (λ disk. D.faults disk) disks.items refusal.1.class) (disk_faults (λ disk. D.faults disk) refusal.0.items refusal.1.class)) }
         ensures class { IfErr result (λ refusal. refusal.1.class < 16) }
     {
         match Vec::with_capacity(alloc, CLASSES) {
-            Ok(items) => start_each(alloc, items, disks),
+            Ok(items) => start_each(alloc, items, disks, rules),
             Err(_) => Err((
                 disks,
                 Refusal {
@@ -63,18 +74,19 @@ fn start_each<D: Disk>(
     alloc: Global,
     items: Vec<Shard<D>>,
     disks: Vec<D>,
+    rules: &Rules,
 ) -> Result<Shards<D>, (Vec<D>, Refusal)>
     requires none { vec_len items ≡ 0 }
     requires room { 16 ≤ vec_capacity items }
     requires all { vec_len disks ≡ 16 }
-    ensures opens { IfOk result (λ shards. AreStarted disks.items shards.items.items) }
+    ensures opens { IfOk result (λ shards. AreStarted rules.now disks.items shards.items.items) }
     ensures refused { IfErr result (λ refusal. HandsBack (λ disk. D.image disk) (λ disk. D.faults disk) refusal.1.fault disks.items refusal.1.class refusal.0.items) }
     ensures class { IfErr result (λ refusal. refusal.1.class < 16) }
 {
     let mut items = items;
     let mut disks = disks;
     for class in 0..CLASSES as u32 {
-        match start_next(alloc, &mut items, &mut disks) {
+        match start_next(alloc, &mut items, &mut disks, rules) {
             Ok(()) => {}
             Err(fault) => return Err((hand_back(items, disks), Refusal { class, fault })),
         }
@@ -87,17 +99,18 @@ fn start_next<D: Disk>(
     alloc: Global,
     items: &mut Vec<Shard<D>>,
     disks: &mut Vec<D>,
+    rules: &Rules,
 ) -> Result<(), StartFault>
     requires class { vec_len items.old < 16 }
     requires room { 16 ≤ vec_capacity items.old }
     requires next { 0 < vec_len disks.old }
-    ensures starts { OnOk result (StartsNext disks.old.items items.old.items items.new.items disks.new.items) }
+    ensures starts { OnOk result (StartsNext rules.now disks.old.items items.old.items items.new.items disks.new.items) }
     ensures refused { IfErr result (λ fault. RefusesNext fault disks.old.items items.old.items items.new.items disks.new.items) }
     ensures room { vec_capacity items.old ≤ vec_capacity items.new }
     ensures disk_room { vec_capacity disks.old ≤ vec_capacity disks.new }
 {
     let disk = disks.remove(0);
-    match Shard::start(alloc, items.len() as u32, disk) {
+    match start_one(alloc, items.len() as u32, disk, rules) {
         Ok(shard) => match items.push(shard) {
             Ok(()) => Ok(()),
             Err(_) => unreachable!(),
@@ -106,6 +119,25 @@ fn start_next<D: Disk>(
             Ok(()) => Err(fault),
             Err(_) => unreachable!(),
         },
+    }
+}
+
+// Starts the shard of a class, which shares the rules with others.
+fn start_one<D: Disk>(
+    alloc: Global,
+    class: u32,
+    disk: D,
+    rules: &Rules,
+) -> Result<Shard<D>, (D, StartFault)>
+    requires { class < 16 }
+    ensures started { IfOk result (StartedFrom class rules.now disk) }
+    ensures damaged { IfErr result (λ refusal. IsDamagedFile refusal.1 (D.image disk) class) }
+    ensures back { IfErr result (λ refusal. D.image refusal.0 ≡ D.image disk) }
+    ensures cause { IfErr result (λ refusal. IsDiskFault refusal.1 → Rose (D.faults disk) (D.faults refusal.0)) }
+{
+    match rules.share() {
+        Ok(rules) => Shard::start(alloc, class, disk, rules),
+        Err(_) => Err((disk, StartFault::NoMemory)),
     }
 }
 

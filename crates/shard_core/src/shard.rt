@@ -5,7 +5,8 @@ ghost use Rattle.shard_core.specs.Shard.{AreOfClass, HasFiles};
 
 use crate::draining::drain_file;
 use crate::fault::StartFault;
-use crate::layouts::{Layouts, default_layout};
+use crate::given::GivenLayouts;
+use crate::layouts::Layouts;
 use crate::showing::show_file;
 use crate::starting::read_layouts;
 use carbon_model::Series;
@@ -15,15 +16,17 @@ use metric_path::MetricPath;
 use outside_io::Disk;
 use point_cache::{PointCache, Put};
 use ring_archive::RingFault;
+use schema_rules::Rules;
 use std::alloc::Global;
 
-/// One class of metrics over its disk: the points that are pending, and which metrics have a ring file.
+/// One class of metrics over its disk: the points that are pending, which metrics have a ring file, and the layouts that the rules give the others.
 #[derive(Drop)]
 pub struct Shard<D: Disk> {
     class: u32,
     disk: D,
     cache: PointCache,
     layouts: Layouts,
+    given: GivenLayouts,
     alloc: Global,
     ghost metrics: { AreOfClass class cache } by { Prim.hlevel props },
     ghost files: { HasFiles class layouts (D.image disk) } by { Prim.hlevel props },
@@ -40,6 +43,7 @@ impl<D: Disk> Shard<D> {
     ghost use Rattle.point_cache.specs.Points.{IsRising};
     ghost use Rattle.point_cache.specs.Pending.{Puts};
     ghost use Rattle.shard_core.specs.Shard.{Drains, DrainsKept, Shows};
+    ghost use Rattle.schema_rules.specs.LayoutBy.{layout_by};
     ghost use Rattle.carbon_model.specs.Answer.{EndsInTime};
     ghost use Rattle.shard_core.specs.Opened.{Opens};
     ghost use Rattle.shard_core.specs.View.{StandsFor};
@@ -47,11 +51,17 @@ impl<D: Disk> Shard<D> {
     ghost use Rattle.carbon_model.specs.State.{State};
     ghost use Rattle.shard_core.specs.StartFaults.{IsDamagedFile, IsDiskFault};
 
-    /// The shard of a class over its disk, with nothing pending. Each file of the class is looked up, and its head is read: a head of zero counts
+    /// The shard of a class over its disk, under the rules, with nothing pending. Each file of the class is looked up, and its head is read: a head of zero counts
     /// as no file. A file of any other name, or of a path of another class, is left alone. The refusal hands the disk back.
-    pub fn start(alloc: Global, class: u32, disk: D) -> Result<Shard<D>, (D, StartFault)>
+    pub fn start(
+        alloc: Global,
+        class: u32,
+        disk: D,
+        rules: Rules,
+    ) -> Result<Shard<D>, (D, StartFault)>
         requires { class < 16 }
         ensures empty { IfOk result (λ shard. (shard.class ≡ class) × (shard.cache ≡ [])) }
+        ensures given { IfOk result (λ shard. shard.given ≡ rules) }
         ensures same { IfOk result (λ shard. D.image shard.disk ≡ D.image disk) }
         ensures opens { IfOk result (λ shard. IfSome (D.image disk) (λ image. Opens class image shard.layouts)) }
         ensures damaged { IfErr result (λ refusal. IsDamagedFile refusal.1 (D.image disk) class) }
@@ -67,30 +77,37 @@ impl<D: Disk> Shard<D> {
                 disk,
                 cache: PointCache::new(alloc),
                 layouts,
+                given: GivenLayouts::new(alloc, rules),
                 alloc,
             }),
             Err(fault) => Err((disk, fault)),
         }
     }
 
-    /// Puts a point of a metric line, whose path is of this class.
+    /// Puts a point of a metric line, whose path is of this class. The layout of a metric is settled at its first stored point: it is that of
+    /// its file, or else what the rules give it. The disk stays as it is.
     pub fn put(&mut self, datum: &Datum) -> Put
         requires { class_of datum.now.path ≡ self.old.class }
         ensures put { Puts self.old.cache self.new.cache datum.now.path datum.now.time datum.now.value result }
-        ensures others { (self.new.class ≡ self.old.class) × ((self.new.layouts ≡ self.old.layouts) × (self.new.disk ≡ self.old.disk)) }
+        ensures others { (self.new.class ≡ self.old.class) × ((self.new.given ≡ self.old.given) × ((self.new.layouts ≡ self.old.layouts) × (self.new.disk ≡ self.old.disk))) }
     {
         let _ = datum.path.text();
-        self.cache.put(&datum.path, datum.time, datum.value)
+        let metrics = self.cache.metrics();
+        let put = self.cache.put(&datum.path, datum.time, datum.value);
+        if self.cache.metrics() > metrics {
+            self.given.settle(self.alloc, &datum.path, &self.layouts);
+        }
+        put
     }
 
     /// Drains the metric that got its first pending point before all others, at the moment `now`: its points go into its ring file, which is
     /// created where it has none. `None` where nothing is pending. After an error nothing is said of what the metric's file holds, and its
     /// points are no longer pending.
     pub fn drain_whole(&mut self, now: u32) -> Result<Option<MetricPath>, RingFault>
-        ensures drains { IfOk result (λ picked. IfSome picked (λ path. Drains self.old.class self.old.cache self.old.layouts (D.image self.old.disk) path now self.new.cache self.new.layouts (D.image self.new.disk))) }
+        ensures drains { IfOk result (λ picked. IfSome picked (λ path. Drains self.old.class self.old.given self.old.cache self.old.layouts (D.image self.old.disk) path now self.new.cache self.new.layouts (D.image self.new.disk))) }
         ensures idle { IfOk result (λ picked. picked ≡ None → (self.old.cache ≡ []) × (self.new ≡ self.old)) }
         ensures fewer { IfOk result (λ picked. IfSome picked (λ path. length self.new.cache < length self.old.cache)) }
-        ensures class { self.new.class ≡ self.old.class }
+        ensures class { (self.new.class ≡ self.old.class) × (self.new.given ≡ self.old.given) }
         ensures later { D.faults self.old.disk ≤ D.faults self.new.disk }
         ensures cause { IsErrOf result RingFault.DiskFault → Rose (D.faults self.old.disk) (D.faults self.new.disk) }
     {
@@ -115,8 +132,8 @@ impl<D: Disk> Shard<D> {
         requires here { class_of path.now ≡ self.old.class }
         requires rising { IsRising points.now }
         requires moments { All (λ p. is_moment p.0 ≡ true) points.now }
-        ensures drains { OnOk result (DrainsKept self.old.class self.old.layouts (D.image self.old.disk) path.now now points.now self.new.layouts (D.image self.new.disk)) }
-        ensures others { (self.new.class ≡ self.old.class) × (self.new.cache ≡ self.old.cache) }
+        ensures drains { OnOk result (DrainsKept self.old.class self.old.layouts (D.image self.old.disk) path.now (layout_by self.old.given path.now) now points.now self.new.layouts (D.image self.new.disk)) }
+        ensures others { (self.new.class ≡ self.old.class) × ((self.new.given ≡ self.old.given) × (self.new.cache ≡ self.old.cache)) }
         ensures later { D.faults self.old.disk ≤ D.faults self.new.disk }
         ensures cause { IsErrOf result RingFault.DiskFault → Rose (D.faults self.old.disk) (D.faults self.new.disk) }
     {
@@ -146,23 +163,17 @@ impl<D: Disk> Shard<D> {
         requires none { lookup (bytes_eq path.now) self.old.layouts ≡ None }
         requires rising { IsRising points.now }
         requires moments { All (λ p. is_moment p.0 ≡ true) points.now }
-        ensures drains { OnOk result (DrainsKept self.old.class self.old.layouts (D.image self.old.disk) path.now now points.now self.new.layouts (D.image self.new.disk)) }
-        ensures others { (self.new.class ≡ self.old.class) × (self.new.cache ≡ self.old.cache) }
+        ensures drains { OnOk result (DrainsKept self.old.class self.old.layouts (D.image self.old.disk) path.now (layout_by self.old.given path.now) now points.now self.new.layouts (D.image self.new.disk)) }
+        ensures others { (self.new.class ≡ self.old.class) × ((self.new.given ≡ self.old.given) × (self.new.cache ≡ self.old.cache)) }
         ensures later { D.faults self.old.disk ≤ D.faults self.new.disk }
         ensures cause { IsErrOf result RingFault.DiskFault → Rose (D.faults self.old.disk) (D.faults self.new.disk) }
     {
-        let layout = default_layout();
-        let Ok(copy) = path.copy() else {
-            return Err(RingFault::NoMemory);
-        };
-        match drain_file(self.alloc, &mut self.disk, path, layout, true, points, now) {
-            Ok(()) => {}
-            Err(fault) => return Err(fault),
-        }
-        match self.layouts.insert(copy, layout) {
-            Ok(()) => Ok(()),
-            Err(_) => Err(RingFault::NoMemory),
-        }
+        let layout = self.given.layout_of(self.alloc, path)?;
+        let copy = path.copy()?;
+        drain_file(self.alloc, &mut self.disk, path, layout, true, points, now)?;
+        self.layouts.insert(copy, layout)?;
+        self.given.forget(path);
+        Ok(())
     }
 
     /// What is shown at the moment `now` of a metric of this class from a moment until another, all in seconds since the Unix epoch: pending
@@ -176,9 +187,9 @@ impl<D: Disk> Shard<D> {
         requires here { class_of path.now ≡ self.old.class }
         requires order { ends.0 ≤ ends.1 }
         requires now { now ≤ 4_000_000_000 }
-        ensures shows { IfOk result (Shows self.old.class self.old.cache self.old.layouts (D.image self.old.disk) path.now now ends.0 ends.1) }
+        ensures shows { IfOk result (Shows self.old.class self.old.given self.old.cache self.old.layouts (D.image self.old.disk) path.now now ends.0 ends.1) }
         ensures fits { IfOk result (λ series. IfSome series EndsInTime) }
-        ensures others { (self.new.class ≡ self.old.class) × ((self.new.cache ≡ self.old.cache) × (self.new.layouts ≡ self.old.layouts)) }
+        ensures others { (self.new.class ≡ self.old.class) × ((self.new.given ≡ self.old.given) × ((self.new.cache ≡ self.old.cache) × (self.new.layouts ≡ self.old.layouts))) }
         ensures stands { (opening : Image) (s : State) → StandsFor opening self.old s → StandsFor opening self.new s }
         ensures image { D.image self.new.disk ≡ D.image self.old.disk }
         ensures later { D.faults self.old.disk ≤ D.faults self.new.disk }
@@ -198,16 +209,19 @@ impl<D: Disk> Shard<D> {
                 now,
             ),
             None if points.is_empty() => Ok(None),
-            None => show_file(
-                self.alloc,
-                &mut self.disk,
-                path,
-                default_layout(),
-                true,
-                points,
-                ends,
-                now,
-            ),
+            None => {
+                let layout = self.given.layout_of(self.alloc, path)?;
+                show_file(
+                    self.alloc,
+                    &mut self.disk,
+                    path,
+                    layout,
+                    true,
+                    points,
+                    ends,
+                    now,
+                )
+            }
         }
     }
 

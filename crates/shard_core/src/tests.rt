@@ -5,6 +5,7 @@ ghost use Rattle.metric_path.specs.Class.{class_of};
 use super::*;
 use metric_path::MetricPath;
 use outside_io::{Disk, DiskFailed, MemDisk, NamesFault};
+use schema_rules::{RuleFault, Rules};
 use std::alloc::{AllocError, Global};
 use std::test::Fail;
 
@@ -45,11 +46,16 @@ fn bytes_in(alloc: Global, disk: &mut MemDisk, name: &str) -> Result<Vec<u8>, Al
     Ok(bytes)
 }
 
+// The rules of files that are not there.
+fn no_rules(alloc: Global) -> Result<Rules, RuleFault> {
+    Rules::read(alloc, b"", b"")
+}
+
 // What the start of class 12 finds of a path on a disk.
-fn found(alloc: Global, disk: MemDisk, path: &MetricPath) -> &'static str
+fn found(alloc: Global, disk: MemDisk, rules: Rules, path: &MetricPath) -> &'static str
     requires { class_of path.now ≡ 12 }
 {
-    match Shard::start(alloc, 12, disk) {
+    match Shard::start(alloc, 12, disk, rules) {
         Ok(mut shard) => match shard.show(path, (999_999_400, 999_999_999), 1_000_000_000) {
             Ok(Some(_)) => "ring",
             Ok(None) => "none",
@@ -122,14 +128,14 @@ fn heads_of_files(rt: HostRuntime) -> Result<(), Fail> {
     for (what, numbers, size, want) in cases {
         let mut disk = MemDisk::new(alloc, 0);
         disk.put_file("a/b.ring", file_of(alloc, numbers, size)?)?;
-        assert_eq!(rt; found(alloc, disk, &path), want, "{what}");
+        assert_eq!(rt; found(alloc, disk, no_rules(alloc)?, &path), want, "{what}");
     }
     Ok(())
 }
 
 // The damaged file that the start of class 12 tells.
-fn damaged_name(alloc: Global, disk: MemDisk) -> Option<String> {
-    match Shard::start(alloc, 12, disk) {
+fn damaged_name(alloc: Global, disk: MemDisk, rules: Rules) -> Option<String> {
+    match Shard::start(alloc, 12, disk, rules) {
         Ok(_) => None,
         Err(refusal) => {
             let (_, fault) = refusal;
@@ -177,7 +183,7 @@ fn the_first_damaged_name_is_told(rt: HostRuntime) -> Result<(), Fail> {
     ];
     for (files, want) in cases {
         let disk = disk_with(alloc, files)?;
-        let Some(name) = damaged_name(alloc, disk) else {
+        let Some(name) = damaged_name(alloc, disk, no_rules(alloc)?) else {
             panic!(rt; "{want} is damaged")
         };
         assert_eq!(rt; name.as_str(), want);
@@ -196,7 +202,7 @@ fn other_files_are_left_alone(rt: HostRuntime) -> Result<(), Fail> {
         ("a/b.ring", SOUND, 148),
     ];
     let disk = disk_with(alloc, &files)?;
-    let Ok(shard) = Shard::start(alloc, 12, disk) else {
+    let Ok(shard) = Shard::start(alloc, 12, disk, no_rules(alloc)?) else {
         panic!(rt; "no file of the class is damaged")
     };
     let mut disk = shard.finish();
@@ -299,7 +305,7 @@ fn a_failed_call_is_counted(rt: HostRuntime) -> Result<(), Fail> {
             call,
             faults: 0,
         };
-        match Shard::start(alloc, 12, disk) {
+        match Shard::start(alloc, 12, disk, no_rules(alloc)?) {
             Ok(shard) => assert_eq!(rt; shard.finish().faults(), want),
             Err(refusal) => {
                 let (disk, fault) = refusal;
@@ -352,7 +358,7 @@ fn the_first_class_that_is_refused(rt: HostRuntime) -> Result<(), Fail> {
     for (damaged, class, want) in cases {
         let disks = sixteen_disks(alloc, damaged)?;
         assert!(rt; disks.len() == CLASSES);
-        let Err(refused) = Shards::start(alloc, disks) else {
+        let Err(refused) = Shards::start(alloc, disks, &no_rules(alloc)?) else {
             panic!(rt; "{want} is damaged")
         };
         let (disks, refusal) = refused;
@@ -372,7 +378,7 @@ fn the_disks_come_back_in_order(rt: HostRuntime) -> Result<(), Fail> {
     let alloc = rt.alloc();
     let disks = sixteen_disks(alloc, &[("x.txt", DAMAGED, 148)])?;
     assert!(rt; disks.len() == CLASSES);
-    let Ok(shards) = Shards::start(alloc, disks) else {
+    let Ok(shards) = Shards::start(alloc, disks, &no_rules(alloc)?) else {
         panic!(rt; "no file is damaged")
     };
     let disks = shards.finish();

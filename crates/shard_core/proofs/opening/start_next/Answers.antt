@@ -9,11 +9,5 @@ returns-in-Ok-push-clause-starts g c = record {
   shard = c.in-Ok.shard;
   taken = first_taken c.args.disks.now.items c.remove-disk.new.self.items c.remove-disk.result (omega (arith, c.args.disks.now.ok.0, c.requires.next)) c.remove-disk.ensures.value c.remove-disk.ensures.items;
   more = c.in-Ok-push.ensures.items;
-  started = subst (λ (class : ℕ). StartedFrom class c.remove-disk.result c.in-Ok.shard) {x = c.len.result} {y = length c.args.items.now.items} (omega (arith, c.len.ensures, c.args.items.now.ok.0)) (record {
-    here = c.in-Ok.ensures.empty.0;
-    empty = c.in-Ok.ensures.empty.1;
-    same = c.in-Ok.ensures.same;
-    opens = c.in-Ok.ensures.opens;
-    later = c.in-Ok.ensures.later;
-  });
+  started = subst (λ (class : ℕ). StartedFrom class c.args.rules.now c.remove-disk.result c.in-Ok.shard) {x = c.len.result} {y = length c.args.items.now.items} (omega (arith, c.len.ensures, c.args.items.now.ok.0)) c.in-Ok.ensures.started;
 }

@@ -7,11 +7,11 @@ returns-clause-put g c opening s holds =
     let within = below _ _ c.args.self.now.all c.class.ensures.few in
     let there = at_place c.args.self.now.items.items c.class.result c.index_mut.result.now _ within c.index_mut.ensures.value in
     puts_into c.put.result c.args.self.now.items.items opening c.class.result c.index_mut.result.now c.put.new.self s c.args.datum.now.path c.args.datum.now.time c.args.datum.now.value
-    within c.args.self.now.classes there (sym c.class.ensures.value) c.put.ensures.others.0 c.put.ensures.others.1.0 c.put.ensures.others.1.1 c.put.ensures.put holds
+    within c.args.self.now.classes there (sym c.class.ensures.value) c.put.ensures.others.0 c.put.ensures.others.1.0 c.put.ensures.others.1.1.0 c.put.ensures.others.1.1.1 c.put.ensures.put holds
 
 pub returns-clause-later : goal.returns-clause-later
 returns-clause-later g c =
     let within = below _ _ c.args.self.now.all c.class.ensures.few in
     let there = at_place c.args.self.now.items.items c.class.result c.index_mut.result.now _ within c.index_mut.ensures.value in
     fewer_with c.args.self.now.items.items c.class.result c.index_mut.result.now c.put.new.self there within
-    (subst (λ disk. g.D.Disk.faults c.index_mut.result.now.disk ≤ g.D.Disk.faults disk) (sym c.put.ensures.others.1.1) (omega arith))
+    (subst (λ disk. g.D.Disk.faults c.index_mut.result.now.disk ≤ g.D.Disk.faults disk) (sym c.put.ensures.others.1.1.1) (omega arith))

@@ -1,0 +1,131 @@
+//! Reading the two rule files from the folder of the configuration.
+ghost use Rattle.std.specs.Prelude.{◌≡◌, ◌≤◌, Ok, IfOk, IfErr, IfSome, IsErrOf, length};
+ghost use Rattle.outside_io.specs.Faults.{Rose};
+ghost use Rattle.schema_rules.specs.RulesOf.{rules_result};
+ghost use Rattle.outside_io.specs.Image.{IsWithinFile, ReadsFile};
+ghost use Rattle.carbon_run.specs.Conf.{Answers, IsOfReading, IsRefused, ReadsFront, rule_file_name, rules_in};
+
+use outside_io::{Disk, DiskFailed};
+use schema_rules::{RuleCause, RuleFault, RuleFile, Rules};
+use std::alloc::{AllocError, Global};
+use thiserror::Error;
+
+// One byte more than a rule file may have.
+const FRONT_BYTES: u64 = 1_048_577;
+
+/// Why there are no rules.
+#[derive(Clone, Copy, Debug, PartialEq, Eq, Error)]
+pub(crate) enum ConfFault {
+    /// The disk of the configuration failed.
+    #[error("the disk of the configuration failed")]
+    DiskFault,
+    /// A rule file is refused.
+    #[error("a rule file is refused")]
+    Refused(RuleFile, RuleCause),
+    /// There was no memory.
+    #[error("there was no memory")]
+    NoMemory,
+}
+
+/// Reads `storage-schemas.conf` and `storage-aggregation.conf`, of which an absent one counts as empty. Both are read before
+/// either is judged.
+pub(crate) fn read_rules<D: Disk>(alloc: Global, conf: &mut D) -> Result<Rules, ConfFault>
+    ensures rules { IfOk result (λ rules. IfSome (D.image conf.old) (λ image. rules_in image ≡ Ok rules)) }
+    ensures refused { IfErr result (λ fault. IfSome (D.image conf.old) (IsRefused fault)) }
+    ensures kept { D.image conf.new ≡ D.image conf.old }
+    ensures later { D.faults conf.old ≤ D.faults conf.new }
+    ensures cause { IsErrOf result ConfFault.DiskFault → Rose (D.faults conf.old) (D.faults conf.new) }
+{
+    let schemas = match read_front(alloc, conf, RuleFile::Schemas) {
+        Ok(schemas) => schemas,
+        Err(fault) => return Err(fault),
+    };
+    let aggregations = match read_front(alloc, conf, RuleFile::Aggregations) {
+        Ok(aggregations) => aggregations,
+        Err(fault) => return Err(fault),
+    };
+    match rules_of(alloc, schemas.as_slice(), aggregations.as_slice()) {
+        Ok(rules) => return Ok(rules),
+        Err(fault) => return Err(fault),
+    }
+}
+
+// The rules of two files of these bytes.
+fn rules_of(alloc: Global, schemas: &[u8], aggregations: &[u8]) -> Result<Rules, ConfFault>
+    ensures rules { IfOk result (λ rules. rules_result schemas.now aggregations.now ≡ Ok rules) }
+    ensures fault { IfErr result (Answers (rules_result schemas.now aggregations.now)) }
+{
+    match Rules::read(alloc, schemas, aggregations) {
+        Ok(rules) => return Ok(rules),
+        Err(RuleFault::Fault(file, cause)) => return Err(ConfFault::Refused(file, cause)),
+        Err(RuleFault::NoMemory) => return Err(ConfFault::NoMemory),
+    }
+}
+
+// The bytes of a rule file as far as they tell its rules, none where it is not there. Of a file that is too long no more is
+// read than tells that it is.
+fn read_front<D: Disk>(alloc: Global, conf: &mut D, file: RuleFile) -> Result<Vec<u8>, ConfFault>
+    ensures bytes { IfOk result (λ bytes. ReadsFront (D.image conf.old) (rule_file_name file) bytes.items) }
+    ensures fault { IfErr result IsOfReading }
+    ensures kept { D.image conf.new ≡ D.image conf.old }
+    ensures later { D.faults conf.old ≤ D.faults conf.new }
+    ensures cause { IsErrOf result ConfFault.DiskFault → Rose (D.faults conf.old) (D.faults conf.new) }
+{
+    let name = name_of(file);
+    let size = match conf.length(name) {
+        Ok(Some(size)) => size,
+        Ok(None) => return Ok(Vec::new(alloc)),
+        Err(DiskFailed) => return Err(ConfFault::DiskFault),
+    };
+    if size == 0 {
+        return Ok(Vec::new(alloc));
+    }
+    match read_bytes(alloc, conf, name, size.min(FRONT_BYTES) as usize) {
+        Ok(bytes) => return Ok(bytes),
+        Err(fault) => return Err(fault),
+    }
+}
+
+// So many bytes from the front of a file.
+fn read_bytes<D: Disk>(
+    alloc: Global,
+    conf: &mut D,
+    name: &str,
+    count: usize,
+) -> Result<Vec<u8>, ConfFault>
+    requires { IsWithinFile (D.image conf.old) name.now 0 count }
+    ensures bytes { IfOk result (λ bytes. ReadsFile (D.image conf.old) name.now 0 bytes.items) }
+    ensures count { IfOk result (λ bytes. length bytes.items ≡ count) }
+    ensures fault { IfErr result IsOfReading }
+    ensures kept { D.image conf.new ≡ D.image conf.old }
+    ensures later { D.faults conf.old ≤ D.faults conf.new }
+    ensures cause { IsErrOf result ConfFault.DiskFault → Rose (D.faults conf.old) (D.faults conf.new) }
+{
+    let mut bytes = match zeros(alloc, count) {
+        Ok(bytes) => bytes,
+        Err(_) => return Err(ConfFault::NoMemory),
+    };
+    match conf.read_at(name, 0, &mut bytes) {
+        Ok(()) => return Ok(bytes),
+        Err(DiskFailed) => return Err(ConfFault::DiskFault),
+    }
+}
+
+// So many zero bytes.
+fn zeros(alloc: Global, count: usize) -> Result<Vec<u8>, AllocError>
+    ensures { IfOk result (λ bytes. length bytes.items ≡ count) }
+{
+    vec![in alloc; 0; count]
+}
+
+/// The name of a rule file.
+#[tactic(auto, unfolding(crate::specs::Conf::schemas_name, crate::specs::Conf::aggregations_name))]
+pub(crate) fn name_of(file: RuleFile) -> &'static str
+    ensures value { result.now ≡ rule_file_name file }
+    ensures short { length result.now ≤ 24 }
+{
+    match file {
+        RuleFile::Schemas => "storage-schemas.conf",
+        RuleFile::Aggregations => "storage-aggregation.conf",
+    }
+}
