@@ -2,6 +2,8 @@
 #![tactic(auto)]
 
 mod conf;
+#[cfg(test)]
+mod conf_tests;
 mod report;
 mod rule_line;
 #[cfg(test)]

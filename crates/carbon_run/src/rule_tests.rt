@@ -11,20 +11,20 @@ use schema_rules::{RuleCause, RuleFile, Rules};
 use std::alloc::{AllocError, Global};
 use std::test::Fail;
 
-const SCHEMAS: &[u8] =
+pub(crate) const SCHEMAS: &[u8] =
     b"[carbon]\npattern = ^carbon\\.\nretentions = 60:90d\n\n[default_1min_for_1day]\npattern = .*\nretentions = 60s:1d,5m:30d,1h:5y\n";
 
-const AGGREGATIONS: &[u8] =
+pub(crate) const AGGREGATIONS: &[u8] =
     b"[min]\npattern = \\.min$\nxFilesFactor = 0.1\naggregationMethod = min\n\n[default_average]\npattern = .*\nxFilesFactor = 0.5\naggregationMethod = average\n";
 
 // The most bytes of a rule file.
-const MOST_BYTES: usize = 1_048_576;
+pub(crate) const MOST_BYTES: usize = 1_048_576;
 
 // A disk in memory that counts its calls, of which the one with one number fails, from 1 on.
 #[derive(Drop)]
-struct CountedDisk {
+pub(crate) struct CountedDisk {
     disk: MemDisk,
-    calls: u32,
+    pub(crate) calls: u32,
     failing: u32,
     longest_read: usize,
     faults: u64,
@@ -120,7 +120,7 @@ impl Disk for CountedDisk {
 }
 
 // A folder with these two files, or without them.
-fn folder(
+pub(crate) fn folder(
     alloc: Global,
     schemas: Option<&[u8]>,
     aggregations: Option<&[u8]>,
@@ -136,7 +136,7 @@ fn folder(
 }
 
 // The same, of which one call fails; at 0 none does.
-fn counted(disk: MemDisk, failing: u32) -> CountedDisk {
+pub(crate) fn counted(disk: MemDisk, failing: u32) -> CountedDisk {
     CountedDisk {
         disk,
         calls: 0,

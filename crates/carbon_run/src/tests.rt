@@ -8,27 +8,28 @@ use std::alloc::{AllocError, Global};
 use std::process::Abort;
 use std::test::Fail;
 
-const ONE_POINT: &str =
+pub(crate) const ONE_POINT: &str =
     "a.b 1.5 1700000000\n!clock 1700000030\n!ask target=a.b&from=1699999930&until=1700000030\n";
 
-const ONE_POINT_GRAPH: &str = "[{\"target\": \"a.b\", \"datapoints\": [[1.5, 1699999980]]}]\n";
+pub(crate) const ONE_POINT_GRAPH: &str =
+    "[{\"target\": \"a.b\", \"datapoints\": [[1.5, 1699999980]]}]\n";
 
-const ONE_POINT_SUMMARY: &str =
+pub(crate) const ONE_POINT_SUMMARY: &str =
     "stored 1 replaced 0 full 0 fields 0 path 0 value 0 time 0 long 0 drains 1\n";
 
 const NOTHING: &str = "stored 0 replaced 0 full 0 fields 0 path 0 value 0 time 0 long 0 drains 0\n";
 
-fn source_of(alloc: Global, text: &[u8]) -> Result<MemSource, AllocError> {
+pub(crate) fn source_of(alloc: Global, text: &[u8]) -> Result<MemSource, AllocError> {
     Ok(MemSource::new(alloc, Vec::from_slice(alloc, text)?))
 }
 
 // A disk for each class.
-const CLASSES: usize = 16;
+pub(crate) const CLASSES: usize = 16;
 
-// So many bytes hold the files of a few metrics, each of a week of minutes.
-const ROOM: u64 = 1_000_000;
+// So many bytes hold the files of a few metrics.
+pub(crate) const ROOM: u64 = 2_000_000;
 
-fn empty_disks(alloc: Global) -> Result<Vec<MemDisk>, AllocError>
+pub(crate) fn empty_disks(alloc: Global) -> Result<Vec<MemDisk>, AllocError>
     ensures { IfOk result (λ disks. vec_len disks ≡ 16) }
 {
     let mut disks = Vec::with_capacity(alloc, CLASSES)?;
@@ -38,6 +39,34 @@ fn empty_disks(alloc: Global) -> Result<Vec<MemDisk>, AllocError>
     Ok(disks)
 }
 
+// A run of one word under the rule files of a folder.
+pub(crate) fn run_with<D: Disk + Send + Drop>(
+    alloc: Global,
+    word: &str,
+    input: &mut MemSource,
+    conf: &mut D,
+    disks: Vec<D>,
+    out: &mut MemSink,
+) -> Result<Report<D>, AllocError>
+    requires { vec_len disks ≡ 16 }
+    ensures { IfOk result (λ report. vec_len report.disks ≡ 16) }
+{
+    let mut words = Vec::new(alloc);
+    words.push(String::from_str(alloc, word)?)?;
+    let clock = FixedClock::new(1_700_000_000);
+    Ok(run(
+        alloc,
+        &words,
+        input,
+        out,
+        conf,
+        disks,
+        &clock,
+        &mut ClosedNet,
+    ))
+}
+
+// The same where there are no rule files.
 fn run_over(
     alloc: Global,
     word: &str,
@@ -48,20 +77,8 @@ fn run_over(
     requires { vec_len disks ≡ 16 }
     ensures { IfOk result (λ report. vec_len report.disks ≡ 16) }
 {
-    let mut words = Vec::new(alloc);
-    words.push(String::from_str(alloc, word)?)?;
     let mut conf = MemDisk::new(alloc, 0);
-    let clock = FixedClock::new(1_700_000_000);
-    Ok(run(
-        alloc,
-        &words,
-        &mut input,
-        out,
-        &mut conf,
-        disks,
-        &clock,
-        &mut ClosedNet,
-    ))
+    run_with(alloc, word, &mut input, &mut conf, disks, out)
 }
 
 fn run_on(
@@ -127,14 +144,25 @@ fn points_are_shown_by_bucket_and_time(rt: HostRuntime) -> Result<(), Fail> {
     Ok(())
 }
 
-// An empty ring file of 10 points of a minute, which is quicker to fill than a new one of a week.
-fn small_ring(alloc: Global) -> Result<Vec<u8>, AllocError> {
+// The head of a ring file, of these numbers.
+pub(crate) fn head_of(alloc: Global, numbers: &[u32]) -> Result<Vec<u8>, AllocError> {
     let mut bytes = Vec::new(alloc);
-    for number in [1, 600, 500_000, 1, 28, 60, 10u32] {
+    for number in numbers {
         bytes.extend_from_slice(&number.to_be_bytes())?;
     }
-    bytes.resize(148, 0)?;
     Ok(bytes)
+}
+
+// A ring file of so many bytes with this head and no point.
+pub(crate) fn empty_ring(alloc: Global, head: &[u32], len: usize) -> Result<Vec<u8>, AllocError> {
+    let mut bytes = head_of(alloc, head)?;
+    bytes.resize(len, 0)?;
+    Ok(bytes)
+}
+
+// An empty ring file of 10 points of a minute, which is quicker to fill than a new one of a week.
+fn small_ring(alloc: Global) -> Result<Vec<u8>, AllocError> {
+    empty_ring(alloc, &[1, 600, 500_000, 1, 28, 60, 10], 148)
 }
 
 #[test]
@@ -373,7 +401,7 @@ fn puts_asks_and_drains_are_entered(rt: HostRuntime) -> Result<(), Fail> {
 }
 
 // The class of the path a.b, whose file is on that disk.
-const CLASS: usize = 12;
+pub(crate) const CLASS: usize = 12;
 
 const DRAINED_GRAPH: &str =
     "drained 1\n[{\"target\": \"a.b\", \"datapoints\": [[1.5, 1699999980]]}]\n";
@@ -381,7 +409,7 @@ const DRAINED_GRAPH: &str =
 const QUESTION: &str = "!clock 1700000030\n!ask target=a.b&from=1699999930&until=1700000030\n";
 
 // The first bytes of a file, as many as there is room for: none where they cannot be read.
-fn front_of(disk: &mut MemDisk, name: &str, room: &mut [u8]) -> Option<u64> {
+pub(crate) fn front_of(disk: &mut MemDisk, name: &str, room: &mut [u8]) -> Option<u64> {
     let Ok(Some(size)) = disk.length(name) else {
         return None;
     };
@@ -391,7 +419,7 @@ fn front_of(disk: &mut MemDisk, name: &str, room: &mut [u8]) -> Option<u64> {
     Some(size)
 }
 
-fn disks_with(
+pub(crate) fn disks_with(
     alloc: Global,
     class: usize,
     name: &str,
@@ -517,21 +545,27 @@ fn a_file_of_zeros_counts_as_none(rt: HostRuntime) -> Result<(), Fail> {
 #[test]
 fn a_damaged_file_is_told_by_its_name(rt: HostRuntime) -> Result<(), Fail> {
     let alloc = rt.alloc();
-    let mut bytes = vec![in alloc; 0; 60]?;
-    bytes[3] = 9;
-    let disks = disks_with(alloc, CLASS, "a/b.ring", bytes.clone()?)?;
-    let mut out = MemSink::new(alloc);
-    let input = source_of(alloc, ONE_POINT.as_bytes())?;
-    let mut report = run_over(alloc, "script", input, disks, &mut out)?;
-    assert_eq!(rt; report.status, 4);
-    assert_eq!(rt; out.bytes(), b"carbon: damaged file a/b.ring\n".as_slice());
-    assert_eq!(rt; report.history.entries().len(), 0);
-    let mut held = [0; 60];
-    assert_eq!(rt;
-        front_of(&mut report.disks[CLASS], "a/b.ring", &mut held),
-        Some(60)
-    );
-    assert!(rt; held[..] == bytes[..]);
+    // an unknown method, and two archives of which the steps do not fit together
+    let table: [(&[u32], usize); 2] = [
+        (&[9], 60),
+        (&[1, 1800, 500_000, 2, 40, 60, 10, 160, 90, 20], 400),
+    ];
+    for (head, len) in table {
+        let bytes = empty_ring(alloc, head, len)?;
+        let disks = disks_with(alloc, CLASS, "a/b.ring", bytes.clone()?)?;
+        let mut out = MemSink::new(alloc);
+        let input = source_of(alloc, ONE_POINT.as_bytes())?;
+        let mut report = run_over(alloc, "script", input, disks, &mut out)?;
+        assert_eq!(rt; report.status, 4);
+        assert_eq!(rt; out.bytes(), b"carbon: damaged file a/b.ring\n".as_slice());
+        assert_eq!(rt; report.history.entries().len(), 0);
+        let mut held = vec![in alloc; 0; len]?;
+        assert_eq!(rt;
+            front_of(&mut report.disks[CLASS], "a/b.ring", &mut held),
+            Some(len as u64)
+        );
+        assert!(rt; held[..] == bytes[..]);
+    }
     Ok(())
 }
 
@@ -588,57 +622,5 @@ fn a_disk_that_fails_in_a_drain_ends_the_run(rt: HostRuntime) -> Result<(), Fail
     let report = run_over(alloc, "script", input, disks, &mut out)?;
     assert_eq!(rt; report.status, 5);
     assert_eq!(rt; out.bytes(), b"carbon: disk fault class 12\n".as_slice());
-    Ok(())
-}
-
-// An empty ring file of two archives, of 10 points of a minute and 12 of five: average, where half of the values are known.
-fn two_archives(alloc: Global) -> Result<Vec<u8>, AllocError> {
-    let mut bytes = Vec::new(alloc);
-    for number in [1, 3600, 500_000, 2, 40, 60, 10, 160, 300, 12u32] {
-        bytes.extend_from_slice(&number.to_be_bytes())?;
-    }
-    bytes.resize(304, 0)?;
-    Ok(bytes)
-}
-
-#[test]
-fn drains_roll_up_into_a_coarser_archive(rt: HostRuntime) -> Result<(), Fail> {
-    let alloc = rt.alloc();
-    // the lines of the script, and what it writes before the summary; a question from 1699999080 is about the coarser archive
-    let table: [(&str, &str); 5] = [
-        (
-            "a.b 1 1700000100\na.b 2 1700000160\na.b 2 1700000220\n!clock 1700000280\n!drain\n\
-            !ask target=a.b&from=1699999080&until=1700000280\n",
-            "drained 1\n[{\"target\": \"a.b\", \"datapoints\": [[null, 1699999200], [null, 1699999500], [null, 1699999800], [1.666, 1700000100]]}]\n",
-        ),
-        (
-            "a.b -1 1700000100\na.b -2 1700000160\na.b -2 1700000220\n!clock 1700000280\n!drain\n\
-            !ask target=a.b&from=1699999080&until=1700000280\n",
-            "drained 1\n[{\"target\": \"a.b\", \"datapoints\": [[null, 1699999200], [null, 1699999500], [null, 1699999800], [-1.667, 1700000100]]}]\n",
-        ),
-        (
-            "a.b 1 1700000100\na.b 2 1700000160\n!clock 1700000280\n!drain\n!ask target=a.b&from=1699999080&until=1700000280\n",
-            "drained 1\n[{\"target\": \"a.b\", \"datapoints\": [[null, 1699999200], [null, 1699999500], [null, 1699999800], [null, 1700000100]]}]\n",
-        ),
-        (
-            "a.b 2 1700000700\na.b 1 1700000100\n!clock 1700000700\n!drain\n!ask target=a.b&from=1700000100&until=1700000700\n",
-            "drained 1\n[{\"target\": \"a.b\", \"datapoints\": [[null, 1700000160], [null, 1700000220], [null, 1700000280], [null, 1700000340], \
-            [null, 1700000400], [null, 1700000460], [null, 1700000520], [null, 1700000580], [null, 1700000640], [2.0, 1700000700]]}]\n",
-        ),
-        (
-            "!clock 1700000700\na.b 1 1700000700\n!drain\na.b 5 1700001300\n!drain\n!ask target=a.b&from=1700000640&until=1700000700\n\
-            !clock 1700001300\n!ask target=a.b&from=1700001240&until=1700001300\n",
-            "drained 1\ndrained 1\n[{\"target\": \"a.b\", \"datapoints\": [[null, 1700000700]]}]\n\
-            [{\"target\": \"a.b\", \"datapoints\": [[5.0, 1700001300]]}]\n",
-        ),
-    ];
-    for (input, text) in table {
-        let disks = disks_with(alloc, CLASS, "a/b.ring", two_archives(alloc)?)?;
-        let mut out = MemSink::new(alloc);
-        let source = source_of(alloc, input.as_bytes())?;
-        let report = run_over(alloc, "script", source, disks, &mut out)?;
-        assert_eq!(rt; report.status, 0);
-        assert!(rt; out.bytes().starts_with(text.as_bytes()));
-    }
     Ok(())
 }

@@ -30,10 +30,10 @@ returns-in-DiskFault-clause-disk_fault g c five =
       (
         failed_class c.new-plain.result.shards.items.items c.script.new.plain.shards.items.items class c.script.new.plain.shards.all rose,
         (
-        subst (λ shards. Rose (faults_at shards.items.items class) (disk_faults (λ disk. g.D.Disk.faults disk) c.report-in-DiskFault.result.disks.items class)) c.new-plain.ensures.shards
-            (subst (λ (n : ℕ). Rose (faults_at c.new-plain.result.shards.items.items class) n) (sym (c.report-in-DiskFault.ensures.faults class)) rose),
-        ends_with (g.K.Sink.written c.args.out.now) (g.K.Sink.written c.script.new.out) (g.K.Sink.written c.tell_disk_fault.new.out) (disk_fault_line class)
-            c.script.ensures.appended (c.tell_disk_fault.ensures.line (sym c.report-in-DiskFault.ensures.status ∙ five)),
+          subst (λ shards. Rose (faults_at shards.items.items class) (disk_faults (λ disk. g.D.Disk.faults disk) c.report-in-DiskFault.result.disks.items class)) c.new-plain.ensures.shards
+              (subst (λ (n : ℕ). Rose (faults_at c.new-plain.result.shards.items.items class) n) (sym (c.report-in-DiskFault.ensures.faults class)) rose),
+          ends_with (g.K.Sink.written c.args.out.now) (g.K.Sink.written c.script.new.out) (g.K.Sink.written c.tell_disk_fault.new.out) (disk_fault_line class)
+              c.script.ensures.appended (c.tell_disk_fault.ensures.line (sym c.report-in-DiskFault.ensures.status ∙ five)),
         ),
       ),
     )
