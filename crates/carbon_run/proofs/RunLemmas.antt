@@ -1,5 +1,5 @@
 -- From shards to disks.
-use Rattle.std.proofs.Common.{◌≡◌, ◌⊎◌, inl, inr, ◌∙◌, ℕ, zero, suc, ◌<◌, ◌≤◌, List, [], ◌∷◌, length, map, Option, Some, None, IfSome, IsSomeAnd, option_map, refl, sym, ap, subst, arith}
+use Rattle.std.proofs.Common.{◌≡◌, ◌⊎◌, inl, inr, ℕ, zero, suc, ◌<◌, ◌≤◌, List, [], ◌∷◌, length, map, Option, Some, None, IfSome, IsSomeAnd, option_map, refl, subst, arith}
 use Rattle.std.specs.Prelude.{slice_get}
 use Rattle.std.specs.Option.{option_map_or}
 use Rattle.std.specs.Io.KnownBytes.{Appends}
@@ -11,9 +11,9 @@ use Rattle.carbon_model.specs.RingFiles.{Stands}
 use Rattle.std.specs.Prelude.{string_bytes}
 use Rattle.outside_io.proofs.Known.{Appends-more}
 use Rattle.carbon_script.specs.Standing.{AppendsSome}
-use Rattle.carbon_run.specs.Texts.{EndsWith, damaged_line, disk_fault_line}
-use Rattle.carbon_run.specs.Runs.{AreSound, Tells, TellsDamage, TellsDiskFault}
-use Rattle.shard_core.specs.StartFaults.{IsDamagedFile, IsDiskFault}
+use Rattle.carbon_run.specs.Texts.{EndsWith}
+use Rattle.carbon_run.specs.Runs.{AreSound, Tells, TellsDamage}
+use Rattle.shard_core.specs.StartFaults.{IsDamagedFile}
 use Rattle.shard_core.specs.declared.fault.StartFault.{StartFault}
 use Rattle.shard_core.specs.declared.fault.StartFault.TheVariants.{Damaged, DiskFault, NoMemory}
 use Rattle.shard_core.specs.Shards.{DisksStand, FailedAt, HoldsAll, TellsImages, disk_faults, faults_at}
@@ -72,22 +72,6 @@ pub damage_told : {D : Type 0} (image : D → Option Image) (disks : List D) (fa
 damage_told image disks (Damaged name) class status before after few told four sound damaged = (class, string_bytes name, (few, (told.1 four, (sound, damaged))))
 damage_told image disks DiskFault class status before after few told four sound damaged = absurd (not_both status 5 7 told.0 (λ e. omega (arith, e, four)) (λ e. omega (arith, e, four)))
 damage_told image disks NoMemory class status before after few told four sound damaged = absurd (not_both status 8 7 told.0 (λ e. omega (arith, e, four)) (λ e. omega (arith, e, four)))
-
-line_ends : (a b : Option (List ℕ)) (line : List ℕ) → Appends a b line → EndsWith a b line
-line_ends a b line wrote = ([], wrote)
-
--- the failed disk that a refusal tells
-pub fault_told : {D : Type 0} (image : D → Option Image) (faults : D → ℕ) (disks disks' : List D) (fault : StartFault) (class status : ℕ) (before after : Option (List ℕ)) → class < 16 → Tells fault class status before after → status ≡ 5
-    → AreSound image disks class → (IsDiskFault fault → Rose (disk_faults faults disks class) (disk_faults faults disks' class)) → TellsDiskFault image faults disks disks' before after
-fault_told image faults disks disks' (Damaged name) class status before after few told five sound cause = absurd (not_both status 4 7 told.0 (λ e. omega (arith, e, five)) (λ e. omega (arith, e, five)))
-fault_told image faults disks disks' DiskFault class status before after few told five sound cause = (class, (few, (cause tt, (sound, line_ends before after (disk_fault_line class) (told.1 five)))))
-fault_told image faults disks disks' NoMemory class status before after few told five sound cause = absurd (not_both status 8 7 told.0 (λ e. omega (arith, e, five)) (λ e. omega (arith, e, five)))
-
--- a refusal is told by one of these statuses
-pub refusal_statuses : (fault : StartFault) (class status : ℕ) (before after : Option (List ℕ)) → Tells fault class status before after → (status ≡ 0) ⊎ ((status ≡ 6) ⊎ (status ≡ 10)) → ⊥
-refusal_statuses (Damaged name) class status before after told other = omega (arith, told.0, other)
-refusal_statuses DiskFault class status before after told other = omega (arith, told.0, other)
-refusal_statuses NoMemory class status before after told other = omega (arith, told.0, other)
 
 -- ---- a class of which a disk failed
 

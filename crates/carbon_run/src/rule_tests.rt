@@ -1,5 +1,5 @@
 //! The rule files of a folder in memory, and the lines that tell their faults.
-ghost use Rattle.std.specs.Prelude.{◌≡◌, ◌≤◌};
+ghost use Rattle.std.specs.Prelude.{◌≡◌, ◌≤◌, OnErr};
 ghost use Rattle.outside_io.specs.Faults.{Rose};
 
 use crate::conf::{ConfFault, read_rules};
@@ -40,13 +40,18 @@ impl CountedDisk {
         self.faults = self.faults.saturating_add(1);
     }
 
-    // Whether the next call fails.
-    fn fails_now(&mut self) -> bool
+    // Counts a call, which fails where it has the number.
+    fn count(&mut self) -> Result<(), DiskFailed>
         ensures disk { self.new.disk ≡ self.old.disk }
-        ensures faults { self.new.faults ≡ self.old.faults }
+        ensures later { self.old.faults ≤ self.new.faults }
+        ensures cause { OnErr result (Rose self.old.faults self.new.faults) }
     {
         self.calls = self.calls.saturating_add(1);
-        self.calls == self.failing
+        if self.calls == self.failing {
+            self.raise();
+            return Err(DiskFailed);
+        }
+        Ok(())
     }
 }
 
@@ -60,6 +65,10 @@ impl Disk for CountedDisk {
     }
 
     fn names(&mut self) -> Result<Vec<String>, NamesFault> {
+        match self.count() {
+            Ok(()) => {}
+            Err(DiskFailed) => return Err(NamesFault::Failed),
+        }
         match self.disk.names() {
             Ok(names) => Ok(names),
             Err(fault) => {
@@ -70,10 +79,7 @@ impl Disk for CountedDisk {
     }
 
     fn length(&mut self, name: &str) -> Result<Option<u64>, DiskFailed> {
-        if self.fails_now() {
-            self.raise();
-            return Err(DiskFailed);
-        }
+        self.count()?;
         match self.disk.length(name) {
             Ok(length) => Ok(length),
             Err(failed) => {
@@ -84,6 +90,7 @@ impl Disk for CountedDisk {
     }
 
     fn create(&mut self, name: &str, len: u64) -> Result<(), DiskFailed> {
+        self.count()?;
         match self.disk.create(name, len) {
             Ok(()) => Ok(()),
             Err(failed) => {
@@ -95,10 +102,7 @@ impl Disk for CountedDisk {
 
     fn read_at(&mut self, name: &str, at: u64, buf: &mut [u8]) -> Result<(), DiskFailed> {
         self.longest_read = self.longest_read.max(buf.len());
-        if self.fails_now() {
-            self.raise();
-            return Err(DiskFailed);
-        }
+        self.count()?;
         match self.disk.read_at(name, at, buf) {
             Ok(()) => Ok(()),
             Err(failed) => {
@@ -109,6 +113,7 @@ impl Disk for CountedDisk {
     }
 
     fn write_at(&mut self, name: &str, at: u64, piece: &[u8]) -> Result<(), DiskFailed> {
+        self.count()?;
         match self.disk.write_at(name, at, piece) {
             Ok(()) => Ok(()),
             Err(failed) => {

@@ -1,6 +1,7 @@
 //! Whole runs over streams in memory.
 ghost use Rattle.std.specs.Prelude.{◌≡◌, IfOk, vec_len};
 
+use crate::rule_tests::{CountedDisk, counted};
 use crate::{Report, run};
 use carbon_history::{Entry, PutEnd};
 use outside_io::{ClosedNet, Disk, FixedClock, MemDisk, MemSink, MemSource};
@@ -607,6 +608,52 @@ fn a_disk_that_fails_ends_the_run(rt: HostRuntime) -> Result<(), Fail> {
         assert_eq!(rt; report.status, 5, "call {call}");
         assert_eq!(rt; out.bytes(), text.as_bytes());
         assert_eq!(rt; report.disks[CLASS].faults(), 1);
+    }
+    Ok(())
+}
+
+// Disks of which that of a.b has an empty file for it, and fails at one of its calls; at 0 none does.
+fn disks_failing(alloc: Global, failing: u32) -> Result<Vec<CountedDisk>, AllocError>
+    ensures { IfOk result (λ disks. vec_len disks ≡ 16) }
+{
+    let mut disks = Vec::with_capacity(alloc, CLASSES)?;
+    for class in 0..CLASSES {
+        let mut disk = MemDisk::new(alloc, ROOM);
+        if class == CLASS {
+            disk.put_file("a/b.ring", small_ring(alloc)?)?;
+        }
+        disks.push(counted(disk, if class == CLASS { failing } else { 0 }))?;
+    }
+    Ok(disks)
+}
+
+// A run that puts points of a metric with a file and of a new one, asks and drains: its status, and the calls of the disk of both.
+fn run_failing(rt: &impl Abort, alloc: Global, failing: u32) -> Result<(u8, u32), AllocError> {
+    let input = format!(in alloc;
+        "a.b 1.5 1700000000\na.r 1 1700000000\n{QUESTION}!drain\n{QUESTION}"
+    )?;
+    let mut input = source_of(alloc, input.as_bytes())?;
+    let mut out = MemSink::new(alloc);
+    let mut conf = counted(MemDisk::new(alloc, 0), 0);
+    let disks = disks_failing(alloc, failing)?;
+    let report = run_with(alloc, "script", &mut input, &mut conf, disks, &mut out)?;
+    assert_eq!(rt; report.disks.len(), CLASSES);
+    assert_eq!(rt; report.disks[CLASS].faults(), u64::from(failing > 0));
+    let told = out.bytes().ends_with(b"carbon: disk fault class 12\n");
+    assert_eq!(rt; told, failing > 0, "call {failing}");
+    Ok((report.status, report.disks[CLASS].calls))
+}
+
+#[test]
+fn a_disk_that_fails_at_any_of_its_calls_ends_the_run(rt: HostRuntime) -> Result<(), Fail> {
+    let alloc = rt.alloc();
+    let (status, calls) = run_failing(&rt, alloc, 0)?;
+    assert_eq!(rt; status, 0);
+    // the names, length and head at the start; the two questions, the cells of the old file, and the new file with cells and head
+    assert!(rt; calls >= 9);
+    for call in 1..=calls {
+        let (status, _) = run_failing(&rt, alloc, call)?;
+        assert_eq!(rt; status, 5, "call {call}");
     }
     Ok(())
 }

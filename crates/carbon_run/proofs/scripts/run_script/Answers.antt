@@ -1,6 +1,6 @@
 use Rattle.std.proofs.Common.{◌∙◌, arith, sym}
 use Rattle.schema_rules.specs.LayoutBy.{layout_by}
-use Rattle.carbon_run.proofs.RunLemmas.{damage_told, fault_told, refusal_statuses, rose_from}
+use Rattle.carbon_run.proofs.RunLemmas.{damage_told, rose_from}
 use Rattle.carbon_run.proofs.scripts.run_script.Goals as goal
 
 pub returns-in-Ok-clause-script : goal.returns-in-Ok-clause-script
