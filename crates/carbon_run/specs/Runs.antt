@@ -75,9 +75,9 @@ TellsDiskFault image faults disks disks' before after =
 abbrev pub TellAsBefore : {D : Type 0} → (D → Option Image) → List D → List D → Type 0
 TellAsBefore image disks disks' = (images : ℕ → Image) → TellsImages image disks images → TellsImages image disks' images
 
--- a call on the folder of the rule files failed, and that alone was told
-abbrev pub TellsConfFault : ℕ → ℕ → Option (List ℕ) → Option (List ℕ) → Type 0
-TellsConfFault faults faults' before after = Rose faults faults' × Appends before after conf_fault_line
+-- a call on the folder of the rule files failed, and that alone was told; nothing was put, drained or asked
+abbrev pub TellsConfFault : ℕ → ℕ → List Entry → Option (List ℕ) → Option (List ℕ) → Type 0
+TellsConfFault faults faults' history before after = Rose faults faults' × ((history ≡ []) × Appends before after conf_fault_line)
 
 -- ---- the same over shards that have started
 

@@ -58,7 +58,7 @@ pub fn run<S: Source, K: Sink, D: Disk + Send + Drop, C: Clock + Sync, N: Net + 
     ensures refused { (result.status ≡ 3) ⊎ (result.status ≡ 4) → (result.history ≡ []) × TellAsBefore (λ disk. D.image disk) disks.items result.disks.items }
 
     // The causes of the other faults, and the last line.
-    ensures disk_fault { result.status ≡ 5 → TellsConfFault (D.faults conf.old) (D.faults conf.new) (K.written out.old) (K.written out.new) ⊎ (IfSome (D.image conf.old) IsReadable × TellsDiskFault (λ disk. D.image disk) (λ disk. D.faults disk) disks.items result.disks.items (K.written out.old) (K.written out.new)) }
+    ensures disk_fault { result.status ≡ 5 → TellsConfFault (D.faults conf.old) (D.faults conf.new) result.history (K.written out.old) (K.written out.new) ⊎ (IfSome (D.image conf.old) IsReadable × TellsDiskFault (λ disk. D.image disk) (λ disk. D.faults disk) disks.items result.disks.items (K.written out.old) (K.written out.new)) }
     ensures read_cause { result.status ≡ 6 → Rose (S.read_faults input.old) (S.read_faults input.new) }
     ensures read_text { result.status ≡ 6 → EndsWith (K.written out.old) (K.written out.new) read_fault_line }
     ensures write_cause { result.status ≡ 7 → Rose (K.write_faults out.old) (K.write_faults out.new) }
