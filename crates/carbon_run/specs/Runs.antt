@@ -40,10 +40,10 @@ ScriptedUnder image rules disks left before disks' history after =
     × (ScriptRun (opening (layout_by rules) images) bytes end text
     × ((history ≡ end.entries) × (Settles (opening_state (layout_by rules) images) history end.state × (Appends before after text × DisksStand image images disks' end.state)))))
 
--- the same under the rules that the two rule files of a folder give
+-- the same under some rules, which are those that the two rule files of the folder give, where it tells its files
 abbrev pub Scripted : {D : Type 0} → (D → Option Image) → Option Image → List D → Option (List ℕ) → Option (List ℕ) → List D → List Entry → Option (List ℕ) → Type 0
 Scripted image conf disks left before disks' history after =
-    IfSome conf (λ folder. (rules : RulesValue) × ((rules_in folder ≡ Ok rules) × ScriptedUnder image rules disks left before disks' history after))
+    (rules : RulesValue) × (IfSome conf (λ folder. rules_in folder ≡ Ok rules) × ScriptedUnder image rules disks left before disks' history after)
 
 -- ---- refusals
 
