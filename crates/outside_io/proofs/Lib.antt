@@ -2,3 +2,4 @@ pub mod Known
 pub mod Ranges
 mod FileNames
 pub mod FrameLemmas
+mod TornFiles

@@ -1,10 +1,13 @@
--- What the disk in memory holds.
-use Rattle.std.specs.Prelude.{ℕ, List, length, String, Vec, option_map}
+-- What the disk in memory holds, and what its calls leave.
+use Rattle.std.specs.Prelude.{ℕ, ◌+◌, ◌-◌, ◌^◌, List, [], length, Bool, true, false, String, Vec, max, min, replicate, option_map, if◌then◌else◌}
 use Rattle.std.specs.Option.{option_map_or}
 use Rattle.std.specs.BTreeMap.{BTreeMap, get_by_text}
+use Rattle.outside_io.specs.declared.disk_calls.DiskCalls.{DiskCalls}
+use Rattle.outside_io.specs.declared.disk_state.DiskState.{DiskState}
 use Rattle.outside_io.specs.declared.mem_disk.MemDisk.{MemDisk}
-use Rattle.outside_io.specs.Calls.{Calls}
-use Rattle.outside_io.specs.Image.{Image}
+use Rattle.outside_io.specs.Calls.{fails_next, after_call, listed_calls}
+use Rattle.outside_io.specs.Faults.{raised}
+use Rattle.outside_io.specs.Image.{Image, SameImage, Writes}
 
 -- a map of files as an image
 abbrev pub image_of : {A B : Type 0} → BTreeMap (String A) (Vec ℕ B) → Image
@@ -18,10 +21,57 @@ disk_image disk = image_of disk.files
 abbrev pub held_bytes : Image → List ℕ → ℕ
 held_bytes image name = option_map_or length (image name) 0
 
--- for how many bytes there is still room
-abbrev pub room_of : MemDisk → ℕ
-room_of disk = disk.room
+-- the room, which calls fail, and the counts
+abbrev pub state_of : MemDisk → DiskState
+state_of disk = disk.state
 
--- which of the creates and writes fail
-abbrev pub calls_of : MemDisk → Calls
-calls_of disk = disk.calls
+-- nothing was called yet, and nothing fails
+abbrev pub new_state : ℕ → DiskState
+new_state room = record {
+  room = room;
+  writes = listed_calls [];
+  reads = listed_calls [];
+  tears = false;
+  calls = record { names = 0; lengths = 0; creates = 0; reads = 0; writes = 0; longest_read = 0 };
+  faults = 0;
+}
+
+-- a call that reads was counted, and failed where it was listed
+abbrev pub after_reading : DiskState → DiskCalls → DiskState
+after_reading state calls = record state {
+  reads = after_call state.reads;
+  calls = calls;
+  faults = if fails_next state.reads then raised state.faults else state.faults;
+}
+
+abbrev pub after_names : DiskState → DiskState
+after_names state = after_reading state (record state.calls { names = raised state.calls.names })
+
+abbrev pub after_length : DiskState → DiskState
+after_length state = after_reading state (record state.calls { lengths = raised state.calls.lengths })
+
+-- a read of so many bytes
+abbrev pub after_read : DiskState → ℕ → DiskState
+after_read state count = after_reading state
+    (record state.calls { reads = raised state.calls.reads; longest_read = max state.calls.longest_read count })
+
+abbrev pub after_write : DiskState → DiskState
+after_write state = record state {
+  writes = after_call state.writes;
+  calls = record state.calls { writes = raised state.calls.writes };
+  faults = if fails_next state.writes then raised state.faults else state.faults;
+}
+
+-- a file of one length got another; where the create failed the room is as before
+abbrev pub after_create : DiskState → ℕ → ℕ → Bool → DiskState
+after_create state held len failed = record state {
+  room = if failed then state.room else min (state.room + held - len) (2 ^ 64 - 1);
+  writes = after_call state.writes;
+  calls = record state.calls { creates = raised state.calls.creates };
+  faults = if failed then raised state.faults else state.faults;
+}
+
+-- what a failed write leaves: each byte of its range is 255 where the disk tears, and else all is as before
+abbrev pub LeavesTorn : Bool → Image → Image → List ℕ → ℕ → ℕ → Type 0
+LeavesTorn true before after name at count = Writes before after name at (replicate count 255)
+LeavesTorn false before after name at count = SameImage before after

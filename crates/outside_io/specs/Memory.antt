@@ -1,6 +1,7 @@
 -- What the streams in memory hold, and the pieces that they give and take.
-use Rattle.std.specs.Prelude.{ℕ, ◌+◌, ◌<◌, ◌≤◌, List, slice_index, EachIndex, ⊤}
-use Rattle.outside_io.specs.Calls.{Calls}
+use Rattle.std.specs.Prelude.{◌≡◌, ℕ, ◌+◌, ◌-◌, ◌^◌, ◌<◌, ◌≤◌, List, [], ◌++◌, take, min, slice_index, EachIndex, ⊤}
+use Rattle.outside_io.specs.Calls.{Calls, after_call, listed_calls}
+use Rattle.outside_io.specs.Faults.{raised}
 use Rattle.outside_io.specs.declared.source.ReadEnd.{ReadEnd}
 use Rattle.outside_io.specs.declared.source.ReadEnd.TheVariants as read
 use Rattle.outside_io.specs.declared.sink.WriteEnd.{WriteEnd}
@@ -26,13 +27,32 @@ GivesPiece source (read.Got count) = IsPiece source count
 GivesPiece source read.End = ⊤
 GivesPiece source read.Failed = ⊤
 
--- the bytes that were written, how many are taken at once at most, which writes fail, and how many have failed
+-- the bytes that were written, for how many more there is memory, how many are taken at once at most, which writes
+-- fail, and how many have failed
 pub record SinkState : Type 0 where
   pub bytes : List ℕ
+  pub room : ℕ
   pub most : ℕ
   pub calls : Calls
   pub faults : ℕ
 
-abbrev pub TakesPiece : SinkState → WriteEnd → Type 0
-TakesPiece sink (write.Took count) = count ≤ sink.most
-TakesPiece sink write.Failed = ⊤
+-- nothing is written yet, any piece is taken whole, and no write fails
+abbrev pub new_sink : ℕ → SinkState
+new_sink room = record { bytes = []; room = room; most = 2 ^ 64 - 1; calls = listed_calls []; faults = 0 }
+
+-- of a piece of so many bytes as many are taken as can be at once
+abbrev pub TakesPiece : SinkState → ℕ → WriteEnd → Type 0
+TakesPiece sink len (write.Took count) = count ≡ min len sink.most
+TakesPiece sink len write.Failed = ⊤
+
+-- how many bytes were taken
+abbrev pub taken : WriteEnd → ℕ
+taken (write.Took count) = count
+taken write.Failed = 0
+
+-- the sink after a write of a piece, with so much room
+abbrev pub after_write : SinkState → List ℕ → ℕ → WriteEnd → SinkState
+after_write sink piece room (write.Took count) =
+    record sink { bytes = sink.bytes ++ take count piece; room = room; calls = after_call sink.calls }
+after_write sink piece room write.Failed =
+    record sink { room = room; calls = after_call sink.calls; faults = raised sink.faults }

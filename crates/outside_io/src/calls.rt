@@ -1,7 +1,7 @@
 // Which calls of a stand-in are to fail.
 ghost use Rattle.std.specs.Prelude.{◌≡◌, [], ◌==◌};
 ghost use Rattle.std.specs.List.{list_any};
-ghost use Rattle.outside_io.specs.Calls.{fails_next, after_call};
+ghost use Rattle.outside_io.specs.Calls.{fails_next, after_call, listed_calls};
 
 use crate::faults::raised;
 use std::alloc::Global;
@@ -25,14 +25,14 @@ impl Model for FailingCalls {
 impl FailingCalls {
     /// No call fails.
     pub fn none(alloc: Global) -> Self
-        ensures { result ≡ record { failing = []; next = 1 } }
+        ensures { result ≡ listed_calls [] }
     {
         FailingCalls::new(Vec::new(alloc))
     }
 
     /// The calls with these numbers fail; the first call is number 1.
     pub fn new(failing: Vec<u64>) -> Self
-        ensures { result ≡ record { failing = failing.items; next = 1 } }
+        ensures { result ≡ listed_calls failing.items }
     {
         FailingCalls { failing, next: 1 }
     }

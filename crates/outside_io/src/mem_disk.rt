@@ -1,43 +1,39 @@
 // A disk in memory.
-ghost use Rattle.std.specs.Prelude.{◌≡◌, ◌↔◌, ℕ, ◌+◌, ◌-◌, ◌^◌, ◌<◌, ◌≤◌, [], length, map, min, replicate, Some, None, OnOk, OnErr, IfOk, IfErr, IsOk, IsErr, IsOkAnd, IsTrue, IsSomeAnd, if◌then◌else◌, nat_le, string_bytes, string_cmp};
+ghost use Rattle.std.specs.Prelude.{◌≡◌, ◌↔◌, ℕ, ◌+◌, ◌-◌, ◌^◌, ◌<◌, ◌≤◌, true, [], length, map, min, replicate, Some, None, OnOk, OnErr, IfOk, IsErr, IsErrOf, IsTrue, IsSomeAnd, is_err, if◌then◌else◌, nat_le, string_bytes, string_cmp};
 ghost use Rattle.std.specs.BTreeMap.{IsOrdered, keys};
-ghost use Rattle.outside_io.specs.Calls.{fails_next, after_call};
-ghost use Rattle.outside_io.specs.Faults.{Rose};
-ghost use Rattle.outside_io.specs.Image.{ListsNames, LengthIs, IsWithinFile, ReadsFile, SameImage, PutsFile, Creates, Writes, IsEmptyImage, put_over};
-ghost use Rattle.outside_io.specs.MemDisk.{image_of, disk_image, held_bytes, room_of, calls_of};
+ghost use Rattle.outside_io.specs.Calls.{fails_next, listed_calls};
+ghost use Rattle.outside_io.specs.Frames.{ReadsOnly, CountsFaults};
+ghost use Rattle.outside_io.specs.Image.{ListsNames, LengthIs, IsWithinFile, ReadsFile, SameImage, PutsFile, Creates, Writes, Tears, IsEmptyImage, put_over};
+ghost use Rattle.outside_io.specs.MemDisk.{image_of, disk_image, held_bytes, state_of, new_state, after_names, after_length, after_create, after_read, after_write, LeavesTorn};
 
 use crate::calls::FailingCalls;
 use crate::disk::{Disk, DiskFailed, NamesFault};
+use crate::disk_calls::DiskCalls;
+use crate::disk_state::DiskState;
 use crate::faults::raised;
 use std::alloc::{AllocError, Global};
 use std::collections::BTreeMap;
 
-/// A disk whose files lie in memory. It has room for so many bytes, and may be told which of its creates and
-/// writes fail. A create beyond the room fails as on a full disk, and so does one that finds no memory. A call
-/// that fails changes no file.
+/// A disk whose files lie in memory. It has room for so many bytes, may be told which of its calls fail, and
+/// counts its calls. A create beyond the room fails as on a full disk, and so does one that finds no memory. A
+/// call that fails changes no file, but for a write to a disk that tears.
 #[derive(Debug, Drop)]
 pub struct MemDisk {
     alloc: Global,
     files: BTreeMap<String, Vec<u8>>,
-    room: u64,
-    calls: FailingCalls,
-    faults: u64,
+    state: DiskState,
 }
 
 impl MemDisk {
     /// A disk with no file and room for so many bytes. No call fails but for want of room or memory.
     pub fn new(alloc: Global, room: u64) -> Self
         ensures image { IsSomeAnd (⟦<MemDisk as Disk>⟧.image result) IsEmptyImage }
-        ensures room { room_of result ≡ room }
-        ensures calls { calls_of result ≡ record { failing = []; next = 1 } }
-        ensures faults { ⟦<MemDisk as Disk>⟧.faults result ≡ 0 }
+        ensures state { state_of result ≡ new_state room }
     {
         MemDisk {
             alloc,
             files: BTreeMap::new(alloc),
-            room,
-            calls: FailingCalls::none(alloc),
-            faults: 0,
+            state: DiskState::new(alloc, room),
         }
     }
 
@@ -45,33 +41,75 @@ impl MemDisk {
     /// the next of them is number 1.
     pub fn failing(mut self, calls: Vec<u64>) -> Self
         ensures image { disk_image result ≡ disk_image self }
-        ensures room { room_of result ≡ room_of self }
-        ensures calls { calls_of result ≡ record { failing = calls.items; next = 1 } }
-        ensures faults { ⟦<MemDisk as Disk>⟧.faults result ≡ ⟦<MemDisk as Disk>⟧.faults self }
+        ensures state { state_of result ≡ record (state_of self) { writes = listed_calls calls.items } }
     {
-        self.calls = FailingCalls::new(calls);
+        self.state.writes = FailingCalls::new(calls);
         self
+    }
+
+    /// The same disk, of which the calls with these numbers fail. `names`, `length` and `read_at` are counted
+    /// together; the next of them is number 1.
+    pub fn failing_reads(mut self, calls: Vec<u64>) -> Self
+        ensures image { disk_image result ≡ disk_image self }
+        ensures state { state_of result ≡ record (state_of self) { reads = listed_calls calls.items } }
+    {
+        self.state.reads = FailingCalls::new(calls);
+        self
+    }
+
+    /// The same disk, of which a write that fails leaves each byte of its range 255.
+    pub fn tearing(mut self) -> Self
+        ensures image { disk_image result ≡ disk_image self }
+        ensures state { state_of result ≡ record (state_of self) { tears = true } }
+    {
+        self.state.tears = true;
+        self
+    }
+
+    /// From now on no call fails but for want of room or memory.
+    pub fn mend(&mut self)
+        ensures image { disk_image self.new ≡ disk_image self.old }
+        ensures state { state_of self.new ≡ record (state_of self.old) { writes = listed_calls []; reads = listed_calls [] } }
+    {
+        self.state.writes = FailingCalls::none(self.alloc);
+        self.state.reads = FailingCalls::none(self.alloc);
+    }
+
+    /// How many calls there were.
+    pub fn calls(&self) -> DiskCalls
+        ensures { result ≡ (state_of self.now).calls }
+    {
+        self.state.calls
     }
 
     /// Puts a file on the disk, beside its room and its counted calls. At an error no file changes.
     pub fn put_file(&mut self, name: &str, bytes: Vec<u8>) -> Result<(), AllocError>
         ensures ok { OnOk result (PutsFile (disk_image self.old) (disk_image self.new) name.now bytes.items) }
         ensures err { OnErr result (SameImage (disk_image self.old) (disk_image self.new)) }
-        ensures room { room_of self.new ≡ room_of self.old }
-        ensures calls { calls_of self.new ≡ calls_of self.old }
-        ensures faults { ⟦<MemDisk as Disk>⟧.faults self.new ≡ ⟦<MemDisk as Disk>⟧.faults self.old }
+        ensures state { state_of self.new ≡ state_of self.old }
     {
         put_bytes(self.alloc, &mut self.files, name, bytes)
     }
 
-    // One fault more.
-    fn failed(&mut self) -> Result<(), DiskFailed>
-        ensures answer { IsErr result }
-        ensures later { self.old.faults ≤ self.new.faults }
-        ensures counted { self.new ≡ record self.old { faults = min (self.old.faults + 1) (2 ^ 64 - 1) } }
+    // Makes a file where there is room for it.
+    fn make_file(&mut self, name: &str, len: u64) -> Result<(), DiskFailed>
+        ensures ok { OnOk result (Creates (disk_image self.old) (disk_image self.new) name.now len) }
+        ensures err { OnErr result (SameImage (disk_image self.old) (disk_image self.new)) }
+        ensures full { (state_of self.old).room + held_bytes (disk_image self.old) name.now < len → IsErr result }
+        ensures room { OnOk result (state_of self.new ≡ record (state_of self.old) { room = min ((state_of self.old).room + held_bytes (disk_image self.old) name.now - len) (2 ^ 64 - 1) }) }
+        ensures same { OnErr result (state_of self.new ≡ state_of self.old) }
     {
-        self.faults = raised(self.faults);
-        Err(DiskFailed)
+        let held = held_len(&self.files, name);
+        let Some(room) = room_after(self.state.room, held, len) else {
+            return Err(DiskFailed);
+        };
+        match put_zeros(self.alloc, &mut self.files, name, len) {
+            Ok(()) => {
+                self.state.room = room;
+                Ok(())
+            }
+            Err(_) => Err(DiskFailed),
+        }
     }
 }
 
@@ -143,6 +181,25 @@ fn put_piece(file: &mut Vec<u8>, at: usize, piece: &[u8])
     file[at..at + piece.len()].copy_from_slice(piece);
 }
 
+// Fills a range of a file with the byte 255.
+#[tactic(auto, using(std::proofs::lemmas::Map::Text::text_keys))]
+fn tear_file(files: &mut BTreeMap<String, Vec<u8>>, name: &str, at: u64, count: usize)
+    requires { IsWithinFile (Some (image_of files.old)) name.now at count }
+    ensures { Writes (image_of files.old) (image_of files.new) name.now at (replicate count 255) }
+{
+    match files.get_mut(name) {
+        Some(file) => fill_range(file, at as usize, count),
+        None => unreachable!(),
+    }
+}
+
+fn fill_range(file: &mut Vec<u8>, at: usize, count: usize)
+    requires { at + count ≤ length file.old.items }
+    ensures { file.new.items ≡ put_over file.old.items at (replicate count 255) }
+{
+    file[at..at + count].fill(255);
+}
+
 fn read_file(files: &BTreeMap<String, Vec<u8>>, name: &str, at: u64, buf: &mut [u8])
     requires { IsWithinFile (Some (image_of files.now)) name.now at (length buf.old) }
     ensures { ReadsFile (Some (image_of files.now)) name.now at buf.new }
@@ -168,26 +225,36 @@ fn names_of(alloc: Global, files: &BTreeMap<String, Vec<u8>>) -> Result<Vec<Stri
 impl Disk for MemDisk {
     ghost image = { λ disk. Some (disk_image disk) };
 
-    ghost faults = { λ disk. disk.faults };
+    ghost faults = { λ disk. disk.state.faults };
 
     fn faults(&self) -> u64 {
-        self.faults
+        self.state.faults
     }
 
-    // Fails for want of memory alone.
+    // Fails where the call is listed; the list of names may want memory.
     #[tactic(auto, using(crate::proofs::FileNames::lists_keys))]
     fn names(&mut self) -> Result<Vec<String>, NamesFault>
         ensures listed { IfOk result (λ names. ListsNames (disk_image self.old) (map string_bytes names.items)) }
-        ensures memory { IfErr result (λ fault. fault ≡ NamesFault.NoMemory) }
-        ensures kept { self.new ≡ self.old }
+        ensures fails { IsErrOf result NamesFault.Failed ↔ IsTrue (fails_next (state_of self.old).reads) }
+        ensures frame { ReadsOnly ⟦<MemDisk as Disk>⟧ self.old self.new (IsErrOf result NamesFault.Failed) }
+        ensures state { state_of self.new ≡ after_names (state_of self.old) }
     {
+        self.state.calls.names = raised(self.state.calls.names);
+        match self.state.start_read() {
+            Ok(()) => {}
+            Err(DiskFailed) => return Err(NamesFault::Failed),
+        }
         Ok(names_of(self.alloc, &self.files)?)
     }
 
     fn length(&mut self, name: &str) -> Result<Option<u64>, DiskFailed>
-        ensures value { IsOkAnd result (LengthIs (Some (disk_image self.old)) name.now) }
-        ensures kept { self.new ≡ self.old }
+        ensures value { IfOk result (LengthIs (Some (disk_image self.old)) name.now) }
+        ensures fails { is_err result ≡ fails_next (state_of self.old).reads }
+        ensures frame { ReadsOnly ⟦<MemDisk as Disk>⟧ self.old self.new (IsErr result) }
+        ensures state { state_of self.new ≡ after_length (state_of self.old) }
     {
+        self.state.calls.lengths = raised(self.state.calls.lengths);
+        self.state.start_read()?;
         match self.files.get(name) {
             Some(file) => Ok(Some(file.len() as u64)),
             None => Ok(None),
@@ -198,53 +265,58 @@ impl Disk for MemDisk {
     fn create(&mut self, name: &str, len: u64) -> Result<(), DiskFailed>
         ensures ok { OnOk result (Creates (disk_image self.old) (disk_image self.new) name.now len) }
         ensures err { OnErr result (SameImage (disk_image self.old) (disk_image self.new)) }
-        ensures listed { IsTrue (fails_next (calls_of self.old)) → IsErr result }
-        ensures full { room_of self.old + held_bytes (disk_image self.old) name.now < len → IsErr result }
-        ensures room { OnOk result (room_of self.new ≡ min (room_of self.old + held_bytes (disk_image self.old) name.now - len) (2 ^ 64 - 1)) }
-        ensures counted { calls_of self.new ≡ after_call (calls_of self.old) }
-        ensures later { ⟦<MemDisk as Disk>⟧.faults self.old ≤ ⟦<MemDisk as Disk>⟧.faults self.new }
-        ensures cause { OnErr result (Rose (⟦<MemDisk as Disk>⟧.faults self.old) (⟦<MemDisk as Disk>⟧.faults self.new)) }
+        ensures listed { IsTrue (fails_next (state_of self.old).writes) → IsErr result }
+        ensures frame { CountsFaults ⟦<MemDisk as Disk>⟧ self.old self.new (IsErr result) }
+        ensures full { (state_of self.old).room + held_bytes (disk_image self.old) name.now < len → IsErr result }
+        ensures state { state_of self.new ≡ after_create (state_of self.old) (held_bytes (disk_image self.old) name.now) len (is_err result) }
     {
-        if self.calls.fails_now() {
-            return self.failed();
+        self.state.calls.creates = raised(self.state.calls.creates);
+        if self.state.writes.fails_now() {
+            return self.state.failed();
         }
-        let held = held_len(&self.files, name);
-        let Some(room) = room_after(self.room, held, len) else {
-            return self.failed();
-        };
-        match put_zeros(self.alloc, &mut self.files, name, len) {
-            Ok(()) => {
-                self.room = room;
-                Ok(())
-            }
-            Err(_) => self.failed(),
+        match self.make_file(name, len) {
+            Ok(()) => Ok(()),
+            Err(DiskFailed) => self.state.failed(),
         }
     }
 
     fn read_at(&mut self, name: &str, at: u64, buf: &mut [u8]) -> Result<(), DiskFailed>
         requires { IsWithinFile (Some (disk_image self.old)) name.now at (length buf.old) }
-        ensures done { IsOk result }
-        ensures bytes { ReadsFile (Some (disk_image self.old)) name.now at buf.new }
-        ensures kept { self.new ≡ self.old }
+        ensures bytes { OnOk result (ReadsFile (Some (disk_image self.old)) name.now at buf.new) }
+        ensures fails { is_err result ≡ fails_next (state_of self.old).reads }
+        ensures frame { ReadsOnly ⟦<MemDisk as Disk>⟧ self.old self.new (IsErr result) }
+        ensures state { state_of self.new ≡ after_read (state_of self.old) (length buf.old) }
     {
+        let longest = self.state.calls.longest_read.max(buf.len() as u64);
+        self.state.calls.longest_read = longest;
+        self.state.calls.reads = raised(self.state.calls.reads);
+        self.state.start_read()?;
         read_file(&self.files, name, at, buf);
         Ok(())
     }
 
-    // Fails where the call is listed, and then changes nothing.
+    // Fails where the call is listed.
+    #[tactic(auto, using(crate::proofs::TornFiles::same_tears, crate::proofs::TornFiles::filled_tears))]
     fn write_at(&mut self, name: &str, at: u64, piece: &[u8]) -> Result<(), DiskFailed>
         requires { IsWithinFile (Some (disk_image self.old)) name.now at (length piece.now) }
         ensures ok { OnOk result (Writes (disk_image self.old) (disk_image self.new) name.now at piece.now) }
-        ensures err { OnErr result (SameImage (disk_image self.old) (disk_image self.new)) }
-        ensures listed { IsErr result ↔ IsTrue (fails_next (calls_of self.old)) }
-        ensures counted { calls_of self.new ≡ after_call (calls_of self.old) }
-        ensures later { ⟦<MemDisk as Disk>⟧.faults self.old ≤ ⟦<MemDisk as Disk>⟧.faults self.new }
-        ensures cause { OnErr result (Rose (⟦<MemDisk as Disk>⟧.faults self.old) (⟦<MemDisk as Disk>⟧.faults self.new)) }
+        ensures err { OnErr result (Tears (disk_image self.old) (disk_image self.new) name.now at (length piece.now)) }
+        ensures frame { CountsFaults ⟦<MemDisk as Disk>⟧ self.old self.new (IsErr result) }
+        ensures torn { OnErr result (LeavesTorn (state_of self.old).tears (disk_image self.old) (disk_image self.new) name.now at (length piece.now)) }
+        ensures fails { is_err result ≡ fails_next (state_of self.old).writes }
+        ensures state { state_of self.new ≡ after_write (state_of self.old) }
     {
-        if self.calls.fails_now() {
-            return self.failed();
+        match self.state.start_write() {
+            Ok(()) => {
+                write_file(&mut self.files, name, at, piece);
+                Ok(())
+            }
+            Err(DiskFailed) => {
+                if self.state.tears {
+                    tear_file(&mut self.files, name, at, piece.len());
+                }
+                Err(DiskFailed)
+            }
         }
-        write_file(&mut self.files, name, at, piece);
-        Ok(())
     }
 }

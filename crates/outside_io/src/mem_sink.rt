@@ -1,18 +1,18 @@
 // A sink in memory.
-ghost use Rattle.std.specs.Prelude.{◌≡◌, ℕ, ◌<◌, ◌≤◌, [], length, Some, IsTrue};
-ghost use Rattle.outside_io.specs.Calls.{fails_next, after_call};
-ghost use Rattle.outside_io.specs.Faults.{Rose};
-ghost use Rattle.outside_io.specs.Memory.{TakesPiece};
+ghost use Rattle.std.specs.Prelude.{◌≡◌, ℕ, ◌+◌, ◌<◌, ◌≤◌, [], length, min, Some, IfOk, IsTrue};
+ghost use Rattle.outside_io.specs.Calls.{fails_next, listed_calls};
+ghost use Rattle.outside_io.specs.Frames.{CountsWrites};
+ghost use Rattle.outside_io.specs.Memory.{TakesPiece, after_write, new_sink, taken};
 ghost use Rattle.outside_io.specs.Sink.{WritesSome, WriteGives};
 
 use crate::calls::FailingCalls;
 use crate::faults::raised;
 use crate::sink::{Sink, WriteEnd};
-use std::alloc::Global;
+use std::alloc::{AllocError, Global};
 use std::marker::Model;
 
 /// A sink that keeps its bytes in memory. It may be told how much it takes at once, and which writes fail. A
-/// write that finds no memory fails too.
+/// write that finds no memory fails too; within the room that was taken beforehand, none does.
 #[derive(Debug, Drop)]
 pub struct MemSink {
     bytes: Vec<u8>,
@@ -22,13 +22,15 @@ pub struct MemSink {
 }
 
 impl Model for MemSink {
-    ghost use Rattle.std.specs.Prelude.{◌<◌};
+    ghost use Rattle.std.specs.Prelude.{◌-◌, ◌<◌};
+    ghost use Rattle.std.specs.Vec.{vec_capacity, vec_len};
     ghost use Rattle.outside_io.specs.Memory.{SinkState};
 
     ghost Value = { SinkState };
 
     ghost view = { λ sink. record {
       bytes = sink.bytes.items;
+      room = vec_capacity sink.bytes - vec_len sink.bytes;
       most = sink.most;
       calls = sink.calls;
       faults = sink.faults;
@@ -40,10 +42,7 @@ impl Model for MemSink {
 impl MemSink {
     /// A sink that holds nothing yet, and takes any piece whole. No write fails but for want of memory.
     pub fn new(alloc: Global) -> Self
-        ensures written { ⟦<MemSink as Sink>⟧.written result ≡ Some [] }
-        ensures faults { ⟦<MemSink as Sink>⟧.write_faults result ≡ 0 }
-        ensures calls { result.calls ≡ record { failing = []; next = 1 } }
-        ensures most { result.most ≡ usize.MAX }
+        ensures { result ≡ new_sink result.room }
     {
         MemSink {
             bytes: Vec::new(alloc),
@@ -51,6 +50,16 @@ impl MemSink {
             calls: FailingCalls::none(alloc),
             faults: 0,
         }
+    }
+
+    /// The same as a new one, with memory for so many bytes.
+    pub fn with_room(alloc: Global, room: usize) -> Result<Self, AllocError>
+        ensures { IfOk result (λ sink. sink ≡ new_sink room) }
+    {
+        Ok(MemSink {
+            bytes: Vec::with_capacity(alloc, room)?,
+            ..MemSink::new(alloc)
+        })
     }
 
     /// The same sink, which takes at most so many bytes at once.
@@ -64,7 +73,7 @@ impl MemSink {
 
     /// The same sink, of which the writes with these numbers fail; the next write is number 1.
     pub fn failing(mut self, calls: Vec<u64>) -> Self
-        ensures { result ≡ record self { calls = record { failing = calls.items; next = 1 } } }
+        ensures { result ≡ record self { calls = listed_calls calls.items } }
     {
         self.calls = FailingCalls::new(calls);
         self
@@ -98,12 +107,12 @@ impl Sink for MemSink {
         requires { 0 < length piece.now }
         ensures count { WritesSome result piece.now }
         ensures bytes { WriteGives (Some self.old.bytes) (Some self.new.bytes) result piece.now }
-        ensures later { self.old.faults ≤ self.new.faults }
-        ensures cause { result ≡ WriteEnd.Failed → Rose self.old.faults self.new.faults }
-        ensures piece { TakesPiece self.old result }
-        ensures same_pieces { self.new.most ≡ self.old.most }
-        ensures counted { self.new.calls ≡ after_call self.old.calls }
+        ensures frame { CountsWrites ⟦<MemSink as Sink>⟧ self.old self.new (result ≡ WriteEnd.Failed) }
+        ensures state { self.new ≡ after_write self.old piece.now self.new.room result }
+        ensures room { self.old.room ≤ self.new.room + taken result }
+        ensures piece { TakesPiece self.old (length piece.now) result }
         ensures listed { IsTrue (fails_next self.old.calls) → result ≡ WriteEnd.Failed }
+        ensures within { min (length piece.now) self.old.most ≤ self.old.room → result ≡ WriteEnd.Failed → IsTrue (fails_next self.old.calls) }
     {
         if self.calls.fails_now() {
             self.faults = raised(self.faults);
