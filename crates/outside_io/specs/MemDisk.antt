@@ -1,5 +1,5 @@
 -- What the disk in memory holds, and what its calls leave.
-use Rattle.std.specs.Prelude.{ℕ, ◌+◌, ◌-◌, ◌^◌, List, [], length, Bool, true, false, String, Vec, max, min, replicate, option_map, if◌then◌else◌}
+use Rattle.std.specs.Prelude.{ℕ, ◌+◌, ◌-◌, ◌^◌, ◌<◌, List, [], length, Bool, true, false, String, Vec, max, min, replicate, option_map, if◌then◌else◌}
 use Rattle.std.specs.Option.{option_map_or}
 use Rattle.std.specs.BTreeMap.{BTreeMap, get_by_text}
 use Rattle.outside_io.specs.declared.disk_calls.DiskCalls.{DiskCalls}
@@ -62,16 +62,31 @@ after_write state = record state {
   faults = if fails_next state.writes then raised state.faults else state.faults;
 }
 
--- a file of one length got another; where the create failed the room is as before
-abbrev pub after_create : DiskState → ℕ → ℕ → Bool → DiskState
-after_create state held len failed = record state {
-  room = if failed then state.room else min (state.room + held - len) (2 ^ 64 - 1);
+-- the room does not reach for the file to have so many bytes
+abbrev pub IsBeyondRoom : MemDisk → List ℕ → ℕ → Type 0
+IsBeyondRoom disk name len = (state_of disk).room + held_bytes (disk_image disk) name < len
+
+-- the room that is left once the file has so many bytes; where the create failed it is as before
+abbrev pub room_left : MemDisk → List ℕ → ℕ → Bool → ℕ
+room_left disk name len failed =
+    if failed then (state_of disk).room
+    else min ((state_of disk).room + held_bytes (disk_image disk) name - len) (2 ^ 64 - 1)
+
+-- a file was created with so many bytes, or the create failed
+abbrev pub after_create : DiskState → ℕ → Bool → DiskState
+after_create state room failed = record state {
+  room = room;
   writes = after_call state.writes;
   calls = record state.calls { creates = raised state.calls.creates };
   faults = if failed then raised state.faults else state.faults;
 }
 
--- what a failed write leaves: each byte of its range is 255 where the disk tears, and else all is as before
-abbrev pub LeavesTorn : Bool → Image → Image → List ℕ → ℕ → ℕ → Type 0
-LeavesTorn true before after name at count = Writes before after name at (replicate count 255)
-LeavesTorn false before after name at count = SameImage before after
+-- each byte of the range is 255 where the disk tears, and else all is as before
+abbrev pub IsTornImage : Bool → Image → Image → List ℕ → ℕ → ℕ → Type 0
+IsTornImage true before after name at count = Writes before after name at (replicate count 255)
+IsTornImage false before after name at count = SameImage before after
+
+-- what a failed write leaves
+abbrev pub LeavesTorn : MemDisk → MemDisk → List ℕ → ℕ → ℕ → Type 0
+LeavesTorn before after name at count =
+    IsTornImage (state_of before).tears (disk_image before) (disk_image after) name at count

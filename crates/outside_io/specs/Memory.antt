@@ -45,6 +45,10 @@ abbrev pub TakesPiece : SinkState → ℕ → WriteEnd → Type 0
 TakesPiece sink len (write.Took count) = count ≡ min len sink.most
 TakesPiece sink len write.Failed = ⊤
 
+-- there is memory for as much of a piece as is taken at once
+abbrev pub HasRoom : SinkState → ℕ → Type 0
+HasRoom sink len = min len sink.most ≤ sink.room
+
 -- how many bytes were taken
 abbrev pub taken : WriteEnd → ℕ
 taken (write.Took count) = count

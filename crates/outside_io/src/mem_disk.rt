@@ -4,7 +4,7 @@ ghost use Rattle.std.specs.BTreeMap.{IsOrdered, keys};
 ghost use Rattle.outside_io.specs.Calls.{fails_next, listed_calls};
 ghost use Rattle.outside_io.specs.Frames.{ReadsOnly, CountsFaults};
 ghost use Rattle.outside_io.specs.Image.{ListsNames, LengthIs, IsWithinFile, ReadsFile, SameImage, PutsFile, Creates, Writes, Tears, IsEmptyImage, put_over};
-ghost use Rattle.outside_io.specs.MemDisk.{image_of, disk_image, held_bytes, state_of, new_state, after_names, after_length, after_create, after_read, after_write, LeavesTorn};
+ghost use Rattle.outside_io.specs.MemDisk.{image_of, disk_image, held_bytes, state_of, new_state, after_names, after_length, after_create, after_read, after_write, room_left, IsBeyondRoom, LeavesTorn};
 
 use crate::calls::FailingCalls;
 use crate::disk::{Disk, DiskFailed, NamesFault};
@@ -95,9 +95,8 @@ impl MemDisk {
     fn make_file(&mut self, name: &str, len: u64) -> Result<(), DiskFailed>
         ensures ok { OnOk result (Creates (disk_image self.old) (disk_image self.new) name.now len) }
         ensures err { OnErr result (SameImage (disk_image self.old) (disk_image self.new)) }
-        ensures full { (state_of self.old).room + held_bytes (disk_image self.old) name.now < len → IsErr result }
-        ensures room { OnOk result (state_of self.new ≡ record (state_of self.old) { room = min ((state_of self.old).room + held_bytes (disk_image self.old) name.now - len) (2 ^ 64 - 1) }) }
-        ensures same { OnErr result (state_of self.new ≡ state_of self.old) }
+        ensures full { IsBeyondRoom self.old name.now len → IsErr result }
+        ensures state { state_of self.new ≡ record (state_of self.old) { room = room_left self.old name.now len (is_err result) } }
     {
         let held = held_len(&self.files, name);
         let Some(room) = room_after(self.state.room, held, len) else {
@@ -267,8 +266,8 @@ impl Disk for MemDisk {
         ensures err { OnErr result (SameImage (disk_image self.old) (disk_image self.new)) }
         ensures listed { IsTrue (fails_next (state_of self.old).writes) → IsErr result }
         ensures frame { CountsFaults ⟦<MemDisk as Disk>⟧ self.old self.new (IsErr result) }
-        ensures full { (state_of self.old).room + held_bytes (disk_image self.old) name.now < len → IsErr result }
-        ensures state { state_of self.new ≡ after_create (state_of self.old) (held_bytes (disk_image self.old) name.now) len (is_err result) }
+        ensures full { IsBeyondRoom self.old name.now len → IsErr result }
+        ensures state { state_of self.new ≡ after_create (state_of self.old) (room_left self.old name.now len (is_err result)) (is_err result) }
     {
         self.state.calls.creates = raised(self.state.calls.creates);
         if self.state.writes.fails_now() {
@@ -302,7 +301,7 @@ impl Disk for MemDisk {
         ensures ok { OnOk result (Writes (disk_image self.old) (disk_image self.new) name.now at piece.now) }
         ensures err { OnErr result (Tears (disk_image self.old) (disk_image self.new) name.now at (length piece.now)) }
         ensures frame { CountsFaults ⟦<MemDisk as Disk>⟧ self.old self.new (IsErr result) }
-        ensures torn { OnErr result (LeavesTorn (state_of self.old).tears (disk_image self.old) (disk_image self.new) name.now at (length piece.now)) }
+        ensures torn { OnErr result (LeavesTorn self.old self.new name.now at (length piece.now)) }
         ensures fails { is_err result ≡ fails_next (state_of self.old).writes }
         ensures state { state_of self.new ≡ after_write (state_of self.old) }
     {
