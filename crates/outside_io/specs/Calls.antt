@@ -1,5 +1,5 @@
 -- Which calls of one kind are to fail, by their numbers from 1 on.
-use Rattle.std.specs.Prelude.{ℕ, Bool, ◌==◌, List, []}
+use Rattle.std.specs.Prelude.{ℕ, Bool, ◌==◌, List}
 use Rattle.std.specs.List.{list_any}
 use Rattle.outside_io.specs.Faults.{raised}
 

@@ -1,5 +1,5 @@
 -- What the calls of a disk, a source or a sink leave as it was, each in one fact.
-use Rattle.std.specs.Prelude.{◌≡◌, ℕ, ◌≤◌}
+use Rattle.std.specs.Prelude.{◌≡◌, ◌≤◌}
 use Rattle.outside_io.specs.Faults.{Rose}
 use Rattle.outside_io.specs.declared.disk.Disk.{Ghosts as DiskGhosts}
 use Rattle.outside_io.specs.declared.source.Source.{Ghosts as SourceGhosts}
