@@ -8,7 +8,7 @@ ghost use Rattle.fixed_num.specs.Decimal.{is_numeral_up_to};
 ghost use Rattle.fixed_num.specs.Whole.{whole_number};
 
 /// Whether each byte is a digit.
-pub(crate) fn all_digits(text: &[u8]) -> bool
+pub fn all_digits(text: &[u8]) -> bool
     ensures { result ≡ list_all is_ascii_digit text.now }
 {
     text.iter().all(|b| b.is_ascii_digit())
@@ -29,14 +29,20 @@ pub(crate) fn is_numeral(text: &[u8], most: usize) -> bool
 }
 
 /// Reads a number of 1 to 19 digits: `None` exactly where the text is anything else.
-#[tactic(auto, unfolding(crate::specs::Whole::whole_number))]
 pub fn read_whole(text: &[u8]) -> Option<u64>
     ensures { result ≡ whole_number text.now }
 {
-    if is_numeral(text, 19) {
-        return Some(number(text));
+    if text.is_empty() || text.len() > 19 {
+        return None;
     }
-    None
+    let mut number = 0;
+    for b in text {
+        if !b.is_ascii_digit() {
+            return None;
+        }
+        number = number * 10 + u64::from(b - b'0');
+    }
+    Some(number)
 }
 
 /// The number that a few digits write.
@@ -53,8 +59,16 @@ pub(crate) fn number(digits: &[u8]) -> u64
     number
 }
 
+/// The number that digits write, however many, or the greatest number where it is above.
+pub fn capped_number(digits: &[u8]) -> u64
+    requires digits { list_all is_ascii_digit digits.now ≡ true }
+    ensures { result ≡ min (digits_value 10 digits.now) (2 ^ 64 - 1) }
+{
+    capped_number_after(0, digits)
+}
+
 /// The number that digits write behind those of `start`, or the greatest number where it is above.
-pub(crate) fn capped_number(start: u64, digits: &[u8]) -> u64
+pub(crate) fn capped_number_after(start: u64, digits: &[u8]) -> u64
     requires digits { list_all is_ascii_digit digits.now ≡ true }
     ensures { result ≡ min (digits_value_after 10 start digits.now) (2 ^ 64 - 1) }
 {

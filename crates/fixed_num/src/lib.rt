@@ -13,7 +13,8 @@ mod reached;
 mod reading;
 mod scaling;
 
-pub use digits::read_whole;
+pub use digits::{all_digits, capped_number, read_whole};
+pub use grammar::first_point;
 pub use laws::{printed_text_is_read_back, read_text_has_its_value};
 pub use printed_form::print_milli;
 pub use reading::{read_milli, read_millionths, read_nano};

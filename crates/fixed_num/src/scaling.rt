@@ -7,7 +7,7 @@ ghost use Rattle.std.specs.Str.Parse.{digits_value};
 ghost use Rattle.fixed_num.specs.Decimal.{whole_of, fraction_of, is_mantissa};
 ghost use Rattle.fixed_num.specs.Read.{reached_in, reached_by, moved};
 
-use crate::digits::{all_digits, all_zeros, capped_number, capped_tens};
+use crate::digits::{all_digits, all_zeros, capped_number, capped_number_after, capped_tens};
 use crate::grammar::{cut_at_point, exponent_in, moves_of, without_leading_sign};
 use crate::reached::Reached;
 
@@ -60,7 +60,7 @@ fn reached_by(whole: &[u8], fraction: &[u8], up: usize, down: usize) -> Reached
     let (more, last) = cut_at(fraction, keep.saturating_sub(whole.len()));
     let zeros = keep.saturating_sub(whole.len() + fraction.len());
     Reached {
-        whole: capped_tens(capped_number(capped_number(0, front), more), zeros),
+        whole: capped_tens(capped_number_after(capped_number(front), more), zeros),
         exact: are_zeros(rest, last),
     }
 }
