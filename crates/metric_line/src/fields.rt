@@ -2,7 +2,7 @@
 
 ghost use Rattle.std.specs.Prelude.{◌≡◌, ◌≢◌, ◌+◌, ◌<◌, ◌≤◌, [], ◌∷◌, false, MatchOption, drop, length, not, position};
 ghost use Rattle.std.specs.List.{position_or_len};
-ghost use Rattle.metric_line.specs.LineFields.{fields_of, is_blank};
+ghost use Rattle.metric_line.specs.LineFields.{capped_count, fields_of, is_blank};
 
 /// The fields of a line that has three.
 #[derive(Clone, Copy)]
@@ -26,10 +26,15 @@ pub(crate) fn three_fields(line: &[u8]) -> Option<Fields<'_>>
     }
 }
 
-/// How many fields a line has.
-pub(crate) fn count_fields(line: &[u8]) -> usize
-    ensures value { result ≡ length (fields_of line.now) }
-    ensures most { result ≤ length line.now + 1 }
+/// How many fields a line has, `u32::MAX` standing for all greater counts.
+pub(crate) fn field_count(line: &[u8]) -> u32
+    ensures { result ≡ capped_count (fields_of line.now) }
+{
+    u32::try_from(count_fields(line)).unwrap_or(u32::MAX)
+}
+
+fn count_fields(line: &[u8]) -> usize
+    ensures { result ≡ length (fields_of line.now) }
 {
     line.split(|b| is_blank(*b))
         .filter(|piece| piece.len() > 0)
