@@ -1,10 +1,11 @@
 -- What digits write, joined and one by one, and where the first point or exponent stands among them.
-use Rattle.std.proofs.Common.{◌≡◌, ℕ, zero, suc, false, Some, None, lt-ltb, le-leb, length-take, sym, ◌+◌, ◌-◌, ◌*◌, ◌^◌, ◌<◌, ◌≤◌, min, Bool, true, List, [], ◌∷◌, ◌++◌, length, take, get_or, Option, refl, ap, ◌∙◌, arith, rules, not, ◌⊎◌, inl, inr}
+use Rattle.std.proofs.Common.{cond, ◌≡◌, ℕ, zero, suc, false, Some, None, lt-ltb, le-leb, length-take, sym, ◌+◌, ◌-◌, ◌*◌, ◌^◌, ◌<◌, ◌≤◌, min, Bool, true, List, [], ◌∷◌, ◌++◌, length, take, get_or, Option, refl, ap, ◌∙◌, arith, rules, not, ◌⊎◌, inl, inr}
 use Rattle.std.proofs.Math.Nat.{pow-suc}
 use Rattle.std.proofs.lemmas.Bool.{cases_lt, le-ltb, lt-leb, and_from}
 use Rattle.std.proofs.Math.Bool.{and-false}
 use Rattle.std.proofs.lemmas.List.Folds.{list_all-append}
-use Rattle.fixed_num.specs.Whole.{whole_number}
+use Rattle.fixed_num.specs.Decimal.{is_numeral_up_to}
+use Rattle.fixed_num.specs.Whole.{number_of_digits, whole_number}
 use Rattle.std.proofs.lemmas.Bool.Decides.{nat_tests}
 use Rattle.std.specs.Int.{IsInRange}
 use Rattle.std.proofs.lemmas.Str.Parse.{digit_at, IsNumeralModel, numerals_by_value, digits_value_short, digits_value-take-le}
@@ -102,9 +103,25 @@ digit_missing [] i h e = absurd (omega arith)
 digit_missing (b ∷ bs) zero h e = rw e refl
 digit_missing (b ∷ bs) (suc i) h e = rw (digit_missing bs i (omega arith) e) (and-false (is_ascii_digit b))
 
-pub whole_number_missing : (text : List ℕ) (i : ℕ) → i < length text → is_ascii_digit (get_or text i 0) ≡ false → whole_number text ≡ None
+pub number_missing : (text : List ℕ) (i : ℕ) → i < length text → is_ascii_digit (get_or text i 0) ≡ false → number_of_digits text ≡ None
+unfolding number_of_digits
+number_missing text i h e = rw (digit_missing text i h e) refl
+
+pub number_read : (text : List ℕ) (number : ℕ) → list_all is_ascii_digit text ≡ true → number ≡ digits_value 10 text → number_of_digits text ≡ Some number
+unfolding number_of_digits
+number_read text number digits e = rw digits (ap (λ n. Some n) (sym e))
+
+some_where : (form : Bool) (n number : ℕ) → Some number ≡ cond form (Some n) None → (form ≡ true) × (number ≡ n)
+some_where true n number h = (refl, cc)
+some_where false n number h = absurd cc
+
+pub number_of_digits_is : (text : List ℕ) (number : ℕ) → Some number ≡ number_of_digits text → (list_all is_ascii_digit text ≡ true) × (number ≡ digits_value 10 text)
+unfolding number_of_digits
+number_of_digits_is text number e = some_where (list_all is_ascii_digit text) (digits_value 10 text) number e
+
+pub whole_number_is : (text : List ℕ) (number : ℕ) → Some number ≡ whole_number text → (is_numeral_up_to 19 text ≡ true) × (number ≡ digits_value 10 text)
 unfolding whole_number
-whole_number_missing text i h e = rw (digit_missing text i h e, and-false, and-false) refl
+whole_number_is text number e = some_where (is_numeral_up_to 19 text) (digits_value 10 text) number e
 
 pub whole_number_empty : (text : List ℕ) → length text ≡ 0 → whole_number text ≡ None
 unfolding whole_number
@@ -114,7 +131,6 @@ pub whole_number_long : (text : List ℕ) → 19 < length text → whole_number 
 unfolding whole_number
 whole_number_long text h = rw (lt-leb (length text) 19 h, and-false) refl
 
-pub whole_number_read : (text : List ℕ) (number : ℕ) → 0 < length text → length text ≤ 19 → list_all is_ascii_digit text ≡ true → number ≡ digits_value 10 text → whole_number text ≡ Some number
-unfolding whole_number
-whole_number_read text number some few digits e =
-    rw (lt-ltb 0 (length text) some, le-leb (length text) 19 few, digits) (ap (λ n. Some n) (sym e))
+pub whole_number_few : (text : List ℕ) → 0 < length text → length text ≤ 19 → number_of_digits text ≡ whole_number text
+unfolding whole_number number_of_digits
+whole_number_few text some few = rw (lt-ltb 0 (length text) some, le-leb (length text) 19 few) refl

@@ -75,11 +75,14 @@ pub record IsPointed (digits : List ℕ) : Type 0 where
 abbrev pub thousandths_of : List ℕ → ℕ
 thousandths_of digits = digits_value 10 (whole_of digits) * 1000 + digits_value 10 (fraction_of digits) * 10 ^ (3 - length (fraction_of digits))
 
-pub no_exponent : (digits : List ℕ) → IsPointed digits → list_any is_exponent_mark digits ≡ false
-no_exponent digits pointed =
+pub no_exponent_in : (digits : List ℕ) → list_all is_ascii_digit (whole_of digits) ≡ true → list_all is_ascii_digit (fraction_of digits) ≡ true → list_any is_exponent_mark digits ≡ false
+no_exponent_in digits whole fraction =
     list_any_parts is_point is_exponent_mark digits (λ x h. grind (arith, nat_tests))
-    (digits_none is_exponent_mark (λ b h. (digit_is_none b h).1) (whole_of digits) pointed.whole)
-    (digits_none is_exponent_mark (λ b h. (digit_is_none b h).1) (fraction_of digits) pointed.fraction)
+    (digits_none is_exponent_mark (λ b h. (digit_is_none b h).1) (whole_of digits) whole)
+    (digits_none is_exponent_mark (λ b h. (digit_is_none b h).1) (fraction_of digits) fraction)
+
+no_exponent : (digits : List ℕ) → IsPointed digits → list_any is_exponent_mark digits ≡ false
+no_exponent digits pointed = no_exponent_in digits pointed.whole pointed.fraction
 
 pub mantissa_is : (text digits : List ℕ) → without_leading_sign text ≡ digits → IsPointed digits → mantissa_of text ≡ digits
 mantissa_is text digits e pointed = ap (before_first is_exponent_mark) e ∙ before_first_none _ _ (no_exponent digits pointed)

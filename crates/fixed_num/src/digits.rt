@@ -1,11 +1,11 @@
 //! Texts of decimal digits, and the numbers that they write.
 
-ghost use Rattle.std.specs.Prelude.{◌≡◌, ◌<◌, ◌≤◌, ◌-◌, ◌*◌, ◌^◌, ◌==◌, min, true, length};
+ghost use Rattle.std.specs.Prelude.{◌≡◌, ◌<◌, ◌≤◌, ◌-◌, ◌*◌, ◌^◌, ◌==◌, min, true, length, IfSome};
 ghost use Rattle.std.specs.List.{list_all};
 ghost use Rattle.std.specs.Char.{is_ascii_digit};
 ghost use Rattle.std.specs.Str.Parse.{digits_value, digits_value_after};
 ghost use Rattle.fixed_num.specs.Decimal.{is_numeral_up_to};
-ghost use Rattle.fixed_num.specs.Whole.{whole_number};
+ghost use Rattle.fixed_num.specs.Whole.{number_of_digits, whole_number};
 
 /// Whether each byte is a digit.
 pub fn all_digits(text: &[u8]) -> bool
@@ -35,6 +35,16 @@ pub fn read_whole(text: &[u8]) -> Option<u64>
     if text.is_empty() || text.len() > 19 {
         return None;
     }
+    few_digits(text)
+}
+
+/// The number that at most 19 digits write, 0 where there are none: `None` exactly where a byte is
+/// no digit.
+pub(crate) fn few_digits(text: &[u8]) -> Option<u64>
+    requires { length text.now ≤ 19 }
+    ensures value { result ≡ number_of_digits text.now }
+    ensures range { IfSome result (λ number. number < 10 ^ length text.now) }
+{
     let mut number = 0;
     for b in text {
         if !b.is_ascii_digit() {
@@ -57,6 +67,36 @@ pub(crate) fn number(digits: &[u8]) -> u64
         number = number * 10 + u64::from(digit - b'0');
     }
     number
+}
+
+static POWERS_OF_TEN: [u64; 19] = [
+    1,
+    10,
+    100,
+    1_000,
+    10_000,
+    100_000,
+    1_000_000,
+    10_000_000,
+    100_000_000,
+    1_000_000_000,
+    10_000_000_000,
+    100_000_000_000,
+    1_000_000_000_000,
+    10_000_000_000_000,
+    100_000_000_000_000,
+    1_000_000_000_000_000,
+    10_000_000_000_000_000,
+    100_000_000_000_000_000,
+    1_000_000_000_000_000_000,
+];
+
+/// A small power of ten.
+pub(crate) fn power_of_ten(exponent: usize) -> u64
+    requires { exponent ≤ 18 }
+    ensures { result ≡ 10 ^ exponent }
+{
+    POWERS_OF_TEN[exponent]
 }
 
 /// The number that digits write, however many, or the greatest number where it is above.
