@@ -10,6 +10,7 @@ use Rattle.std.specs.Str.Parse.{digits_value}
 use Rattle.fixed_num.specs.Decimal.{is_numeral_up_to, whole_of}
 use Rattle.fixed_num.specs.Whole.{whole_number}
 use Rattle.fixed_num.proofs.GrammarLemmas.{before_first_none, digits_none, list_any_is}
+use Rattle.fixed_num.proofs.DigitLemmas.{whole_number_is}
 use Rattle.metric_line.proofs.LawLemmas.{not_now}
 use Rattle.metric_line.specs.Stamp.{is_cut_time, is_digits, is_now, is_seconds, moment_result, stamp_of, whole_digits}
 
@@ -65,14 +66,6 @@ stamp_of_digits text now numeral =
     let parts = and_parts _ _ numeral in
     let digits = (and_parts _ _ parts.1).1 in
     rw (digits_not_now text digits, whole_digits_all text (ltb-true 0 (length text) parts.0) digits) refl
-
-whole_number_is : (text : List ℕ) (seconds : ℕ) → Some seconds ≡ whole_number text → (is_numeral_up_to 19 text ≡ true) × (seconds ≡ digits_value 10 text)
-unfolding whole_number
-whole_number_is text seconds e = by_form (is_numeral_up_to 19 text) (digits_value 10 text) e
-  where
-    by_form : (form : Bool) (n : ℕ) → Some seconds ≡ cond form (Some n) None → (form ≡ true) × (seconds ≡ n)
-    by_form true n h = (refl, cc)
-    by_form false n h = absurd cc
 
 -- a number of 1 to 19 digits is a time as it stands
 pub stamp_of_whole : (text : List ℕ) (now seconds : ℕ) → Some seconds ≡ whole_number text → moment_result seconds ≡ stamp_of text now
