@@ -1,20 +1,18 @@
 -- Where the point stands in a text of digits, and that such a text is a number, with its value.
-use Rattle.std.proofs.Common.{◌≡◌, ◌≢◌, ℕ, zero, suc, ◌+◌, ◌-◌, ◌*◌, ◌/◌, ◌^◌, ◌<◌, ◌≤◌, Bool, true, false, List, [], ◌∷◌, ◌++◌, length, get_or, Some, None, option_map, is_some, pos, neg_ℤ, refl, ap, sym, ◌∙◌, arith, ltb, eqb, cond, not, ◌||◌, ◌⊎◌, inl, inr, take_all, length-append, length-take, add-zero, mul-one}
+use Rattle.std.proofs.Common.{◌≡◌, ℕ, zero, suc, ◌+◌, ◌-◌, ◌*◌, ◌/◌, ◌^◌, ◌<◌, ◌≤◌, Bool, true, false, List, [], ◌∷◌, ◌++◌, length, get_or, Some, pos, neg_ℤ, refl, ap, sym, ◌∙◌, arith, ltb, eqb, cond, not, ◌||◌, ◌⊎◌, inl, inr, take_all, length-append, length-take, add-zero, mul-one}
 use Rattle.std.proofs.Math.Nat.{one-le-pow}
-use Rattle.std.proofs.lemmas.Bool.{cases_lt, cases_Bool, lt-ltb, le-ltb, eq-eqb, ltb-true, ltb-false, leb-true, ne_eqb, and_parts, and_from, not-true, or_parts, or_cases}
+use Rattle.std.proofs.lemmas.Bool.{cases_lt, lt-ltb, ltb-false, ne_eqb, and_parts, and_from, or_parts}
 use Rattle.std.proofs.lemmas.Bool.Decides.{nat_tests}
 use Rattle.std.proofs.lemmas.Nat.{div-mul-add}
 use Rattle.std.proofs.lemmas.List.{drop_all, get_or-take}
-use Rattle.std.proofs.lemmas.List.Sums.{prefix_len-le-length, split_at_first, passes_at_first}
+use Rattle.std.proofs.lemmas.List.Sums.{split_at_first, passes_at_first}
 use Rattle.std.proofs.lemmas.List.Folds.{list_any-append}
 use Rattle.std.specs.List.{list_all, list_any, position_or_len, before_first, after_first}
 use Rattle.std.specs.Char.{is_ascii_digit}
 use Rattle.std.specs.Int.{IsInRange}
 use Rattle.std.specs.Str.Parse.{digits_value, starts_with_minus, without_leading_sign}
-use Rattle.std.proofs.lemmas.Str.Parse.{digits_value_short}
-use Rattle.fixed_num.specs.Decimal.{is_numeral_up_to, is_point, is_exponent_mark, mantissa_of, has_exponent, whole_of, fraction_of, is_number, milli, fits_i64, floor_of, scaled, with_sign}
-use Rattle.fixed_num.specs.Plain.{is_unsigned_plain, is_plain, without_minus, unsigned_plain, plain_milli}
-use Rattle.fixed_num.proofs.DigitLemmas.{numerals, digit_byte_at, digits_value-append}
+use Rattle.fixed_num.specs.Decimal.{is_point, is_exponent_mark, mantissa_of, has_exponent, whole_of, fraction_of, is_number, milli, fits_i64, floor_of, scaled, with_sign}
+use Rattle.fixed_num.proofs.DigitLemmas.{digit_byte_at, digits_value-append}
 
 -- ---- the first place that passes a test
 
@@ -77,11 +75,14 @@ pub record IsPointed (digits : List ℕ) : Type 0 where
 abbrev pub thousandths_of : List ℕ → ℕ
 thousandths_of digits = digits_value 10 (whole_of digits) * 1000 + digits_value 10 (fraction_of digits) * 10 ^ (3 - length (fraction_of digits))
 
-pub no_exponent : (digits : List ℕ) → IsPointed digits → list_any is_exponent_mark digits ≡ false
-no_exponent digits pointed =
+pub no_exponent_in : (digits : List ℕ) → list_all is_ascii_digit (whole_of digits) ≡ true → list_all is_ascii_digit (fraction_of digits) ≡ true → list_any is_exponent_mark digits ≡ false
+no_exponent_in digits whole fraction =
     list_any_parts is_point is_exponent_mark digits (λ x h. grind (arith, nat_tests))
-    (digits_none is_exponent_mark (λ b h. (digit_is_none b h).1) (whole_of digits) pointed.whole)
-    (digits_none is_exponent_mark (λ b h. (digit_is_none b h).1) (fraction_of digits) pointed.fraction)
+    (digits_none is_exponent_mark (λ b h. (digit_is_none b h).1) (whole_of digits) whole)
+    (digits_none is_exponent_mark (λ b h. (digit_is_none b h).1) (fraction_of digits) fraction)
+
+no_exponent : (digits : List ℕ) → IsPointed digits → list_any is_exponent_mark digits ≡ false
+no_exponent digits pointed = no_exponent_in digits pointed.whole pointed.fraction
 
 pub mantissa_is : (text digits : List ℕ) → without_leading_sign text ≡ digits → IsPointed digits → mantissa_of text ≡ digits
 mantissa_is text digits e pointed = ap (before_first is_exponent_mark) e ∙ before_first_none _ _ (no_exponent digits pointed)
@@ -116,49 +117,7 @@ scaled_pointed text digits e pointed =
     rw (digits_value-append (whole_of digits) (fraction_of digits), mul-one, add-zero) (places _ _ (length (fraction_of digits)) pointed.short) in
     rw (mantissa, plain) (ap (λ n. floor_of (starts_with_minus text) n (10 ^ (length (fraction_of digits) + 0))) value ∙ floor_exact (starts_with_minus text) (thousandths_of digits) (10 ^ (length (fraction_of digits) + 0)) (one-le-pow (length (fraction_of digits) + 0) 10 (omega arith)))
 
--- ---- the plain form
-
-no_point : (digits : List ℕ) → list_any is_point digits ≡ false → fraction_of digits ≡ []
-no_point digits e = after_first_none is_point digits e
-
--- the fraction of a text in the plain form is one to three digits, or nothing
-fraction_plain : (digits : List ℕ) → (not (list_any is_point digits) || is_numeral_up_to 3 (fraction_of digits)) ≡ true → (list_all is_ascii_digit (fraction_of digits) ≡ true) × (length (fraction_of digits) ≤ 3)
-fraction_plain digits h = by_form (or_cases _ _ h)
-  where
-    by_form : (not (list_any is_point digits) ≡ true) ⊎ (is_numeral_up_to 3 (fraction_of digits) ≡ true) → (list_all is_ascii_digit (fraction_of digits) ≡ true) × (length (fraction_of digits) ≤ 3)
-    by_form (inl none) = rw (no_point digits (not-true _ none)) (refl, omega arith)
-    by_form (inr some) =
-        let parts = and_parts _ _ some in
-        let rest = and_parts _ _ parts.1 in
-        (rest.1, leb-true _ _ rest.0)
-
--- a text has no point just where all of it stands before the first
-pub whole_is_all : (digits : List ℕ) → eqb (length (whole_of digits)) (length digits) ≡ not (list_any is_point digits)
-whole_is_all digits = by_place (cases_lt (position_or_len is_point digits) (length digits))
-  where
-    size : length (whole_of digits) ≡ position_or_len is_point digits
-    size = omega (arith, length-take (position_or_len is_point digits) digits, prefix_len-le-length (λ b. not (is_point b)) digits)
-
-    by_place : (position_or_len is_point digits < length digits) ⊎ (length digits ≤ position_or_len is_point digits) → eqb (length (whole_of digits)) (length digits) ≡ not (list_any is_point digits)
-    by_place (inl h) = rw (size, list_any_is is_point digits, lt-ltb _ _ h) (ne_eqb _ _ (λ e. absurd (omega arith)))
-    by_place (inr h) = rw (size, list_any_is is_point digits, le-ltb _ _ h) (eq-eqb _ _ (omega (arith, prefix_len-le-length (λ b. not (is_point b)) digits)))
-
--- the form of a text with a point, by its fraction
-pub plain_by_fraction : (digits whole fraction : List ℕ) → whole ≡ whole_of digits → fraction ≡ fraction_of digits → is_numeral_up_to 12 whole ≡ true → length whole ≢ length digits → is_numeral_up_to 3 fraction ≡ is_unsigned_plain digits
-unfolding is_unsigned_plain
-plain_by_fraction digits whole fraction e f numeral point =
-    let pointed : not (list_any is_point digits) ≡ false = sym (whole_is_all digits) ∙ ne_eqb _ _ (λ same. point (ap length e ∙ same)) in
-    let front : is_numeral_up_to 12 (whole_of digits) ≡ true = ap (is_numeral_up_to 12) (sym e) ∙ numeral in
-    rw (front, pointed, f) refl
-
-pub plain_is_pointed : (digits : List ℕ) → is_unsigned_plain digits ≡ true → IsPointed digits × (length (whole_of digits) ≤ 12)
-unfolding is_unsigned_plain
-plain_is_pointed digits h =
-    let parts = and_parts _ _ h in
-    let whole = and_parts _ _ parts.0 in
-    let more = and_parts _ _ whole.1 in
-    let fraction = fraction_plain digits parts.1 in
-    (record { whole = more.1; fraction = fraction.0; some = ltb-true _ _ whole.0; short = fraction.1 }, leb-true _ _ more.0)
+-- ---- its sign and its value
 
 -- such a text begins with a digit, and so with no sign
 first_is_digit : (digits : List ℕ) → IsPointed digits → IsInRange 48 57 (get_or digits 0 0)
@@ -175,69 +134,7 @@ sign_none digits pointed =
     let plus : eqb (get_or digits 0 0) 43 ≡ false = ne_eqb _ _ (λ e. omega arith) in
     (minus, rw (minus, plus) refl)
 
-pub without_sign_plain : (text : List ℕ) → is_unsigned_plain (without_minus text) ≡ true → without_leading_sign text ≡ without_minus text
-without_sign_plain text h = by_sign (cases_Bool (starts_with_minus text))
-  where
-    by_sign : (starts_with_minus text ≡ true) ⊎ (starts_with_minus text ≡ false) → without_leading_sign text ≡ without_minus text
-    by_sign (inl minus) = rw minus refl
-    by_sign (inr none) =
-        let same : without_minus text ≡ text = rw none refl in
-        let plain : is_unsigned_plain text ≡ true = ap is_unsigned_plain (sym same) ∙ h in
-        (sign_none text (plain_is_pointed text plain).0).1 ∙ sym same
-
-pub small : (f k : ℕ) → k ≤ 3 → f < 10 ^ k → f * 10 ^ (3 - k) < 1000
-small f zero h less = omega arith
-small f (suc zero) h less = omega arith
-small f (suc (suc zero)) h less = omega arith
-small f (suc (suc (suc zero))) h less = omega arith
-small f (suc (suc (suc (suc k)))) h less = absurd (omega arith)
-
-pub thousandths_below : (digits : List ℕ) → IsPointed digits → length (whole_of digits) ≤ 12 → thousandths_of digits < 10 ^ 15
-thousandths_below digits pointed few =
-    let whole : digits_value 10 (whole_of digits) < 10 ^ 12 = digits_value_short numerals (whole_of digits) 12 pointed.whole few in
-    let fraction : digits_value 10 (fraction_of digits) * 10 ^ (3 - length (fraction_of digits)) < 1000 =
-    small _ (length (fraction_of digits)) pointed.short (digits_value_short numerals (fraction_of digits) (length (fraction_of digits)) pointed.fraction (omega arith)) in
-    omega arith
-
-pub unsigned_plain_is : (digits : List ℕ) → is_unsigned_plain digits ≡ true → unsigned_plain digits ≡ Some (thousandths_of digits)
-unfolding unsigned_plain
-unsigned_plain_is digits h =
-    let pointed : IsPointed digits = (plain_is_pointed digits h).0 in
-    let k : ℕ = length (fraction_of digits) in
-    let value : digits_value 10 (whole_of digits ++ fraction_of digits) * 1000 ≡ thousandths_of digits * 10 ^ length (fraction_of digits) + 0 =
-    rw (digits_value-append (whole_of digits) (fraction_of digits), add-zero) (places _ _ (length (fraction_of digits)) pointed.short) in
-    rw (h, value, div-mul-add (thousandths_of digits) (10 ^ length (fraction_of digits)) 0 (one-le-pow (length (fraction_of digits)) 10 (omega arith))) refl
-
-pub fits_with_sign : (negative : Bool) (n : ℕ) → n < 2 ^ 63 → fits_i64 (with_sign negative n) ≡ true
-fits_with_sign false n h = lt-ltb _ _ h
-fits_with_sign true zero h = refl
-fits_with_sign true (suc n) h = lt-ltb n (2 ^ 63) (omega arith)
-
 pub milli_pointed : (text digits : List ℕ) → without_leading_sign text ≡ digits → IsPointed digits → fits_i64 (with_sign (starts_with_minus text) (thousandths_of digits)) ≡ true → milli text ≡ Some (with_sign (starts_with_minus text) (thousandths_of digits))
 unfolding milli
 milli_pointed text digits e pointed fits =
     rw (number_is_pointed text digits e pointed, scaled_pointed text digits e pointed, fits) refl
-
-pub unsigned_plain_none : (digits : List ℕ) → is_unsigned_plain digits ≡ false → unsigned_plain digits ≡ None
-unfolding unsigned_plain
-unsigned_plain_none digits h = rw h refl
-
-pub plain_milli_is : (text : List ℕ) → plain_milli text ≡ option_map (with_sign (starts_with_minus text)) (unsigned_plain (without_minus text))
-unfolding plain_milli is_plain
-plain_milli_is text = by_form (cases_Bool (is_unsigned_plain (without_minus text)))
-  where
-    by_form : (is_unsigned_plain (without_minus text) ≡ true) ⊎ (is_unsigned_plain (without_minus text) ≡ false) → plain_milli text ≡ option_map (with_sign (starts_with_minus text)) (unsigned_plain (without_minus text))
-    by_form (inl plain) =
-        let facts = plain_is_pointed (without_minus text) plain in
-        let below : thousandths_of (without_minus text) < 10 ^ 15 = thousandths_below (without_minus text) facts.0 facts.1 in
-        rw (plain, unsigned_plain_is (without_minus text) plain)
-        (milli_pointed text (without_minus text) (without_sign_plain text plain) facts.0 (fits_with_sign (starts_with_minus text) (thousandths_of (without_minus text)) (omega arith)))
-    by_form (inr other) = rw (other, unsigned_plain_none (without_minus text) other) refl
-
-pub plain_has_value : (text : List ℕ) → is_some (plain_milli text) ≡ is_plain text
-unfolding is_plain
-plain_has_value text = ap is_some (plain_milli_is text) ∙ by_form (cases_Bool (is_unsigned_plain (without_minus text)))
-  where
-    by_form : (is_unsigned_plain (without_minus text) ≡ true) ⊎ (is_unsigned_plain (without_minus text) ≡ false) → is_some (option_map (with_sign (starts_with_minus text)) (unsigned_plain (without_minus text))) ≡ is_unsigned_plain (without_minus text)
-    by_form (inl plain) = rw (unsigned_plain_is (without_minus text) plain, plain) refl
-    by_form (inr other) = rw (unsigned_plain_none (without_minus text) other, other) refl

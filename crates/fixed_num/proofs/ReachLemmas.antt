@@ -1,7 +1,7 @@
 -- The quotient that a decimal's digits give: the front of them, with zeros behind it where the point moves past the last.
 use Rattle.std.proofs.Common.{◌≡◌, ◌≢◌, ℕ, zero, suc, ◌+◌, ◌-◌, ◌*◌, ◌/◌, ◌%◌, ◌^◌, ◌<◌, ◌≤◌, min, Bool, true, List, [], ◌∷◌, ◌++◌, length, take, drop, refl, ap, sym, subst, ◌∙◌, arith, ◌==◌, ◌&&◌, ◌⊎◌, inl, inr, take_all, take-append-drop, length-append, length-drop, add-zero, mul-one, zero-mul, suc-mul, lt_of_lt_of_le}
 use Rattle.std.proofs.Math.Nat.{one-le-pow, pow-le-pow_right, mul-lt-mul_of_pos_right, le-mul_of_pos_right, mul_assoc, sub-zero, zero-sub, suc-sub-suc}
-use Rattle.std.proofs.lemmas.Nat.{pow-add, div-mul-add, mod-mul-add}
+use Rattle.std.proofs.lemmas.Nat.{pow-add, div-mul-add, mod-mul-add, mod_below, div-add-mod'}
 use Rattle.std.proofs.lemmas.Bool.{cases_lt, cases_eq, eq-eqb, ne_eqb, and_parts, and_from}
 use Rattle.std.proofs.lemmas.List.{drop_all}
 use Rattle.std.proofs.lemmas.List.Folds.{list_all-append}
@@ -217,3 +217,19 @@ reached_record whole fraction front rest more last up down keep left zeros first
   rw (tens-is, both-is, first-is, front-is, more-is, left-is) (reached_whole whole fraction up down keep zeros h k keep-is zeros-is),
   rw (exact-is, rest-is, last-is, left-is) (reached_exact whole fraction up down keep h k keep-is),
 )
+
+-- ---- few digits, by the numbers before and behind the point
+
+pub product_below : (n k : ℕ) → k ≤ 9 → n < 10 ^ (18 - k) → n * 10 ^ k < 10 ^ 18
+product_below n k few less = rw (split_power (18 - k) k 18 (omega arith)) (mul-lt-mul_of_pos_right less (one-le-pow k 10 (omega arith)))
+
+joined_parts : (a b p f q r : ℕ) → b * f ≡ q * p + r → (a * p + b) * f ≡ (a * f + q) * p + r
+joined_parts a b p f q r e = omega arith
+
+pub parts_quotient : (whole fraction : List ℕ) (factor : ℕ) → IsQuotient (digits_value 10 (whole ++ fraction) * factor) (10 ^ (length fraction + 0))
+    (digits_value 10 whole * factor + digits_value 10 fraction * factor / 10 ^ length fraction) (digits_value 10 fraction * factor % 10 ^ length fraction)
+parts_quotient whole fraction factor =
+    rw (add-zero, digits_value-append whole fraction)
+    (quotient_is _ (10 ^ length fraction) _ _
+    (joined_parts (digits_value 10 whole) (digits_value 10 fraction) (10 ^ length fraction) factor (digits_value 10 fraction * factor / 10 ^ length fraction) (digits_value 10 fraction * factor % 10 ^ length fraction) (sym (div-add-mod' (digits_value 10 fraction * factor) (10 ^ length fraction))))
+    (mod_below (digits_value 10 fraction * factor) (10 ^ length fraction) (one-le-pow (length fraction) 10 (omega arith))))

@@ -1,18 +1,22 @@
 -- What a text with an exponent or without one reaches, and how that is rounded down.
-use Rattle.std.proofs.Common.{◌≡◌, ◌≢◌, ℕ, zero, suc, ◌+◌, ◌-◌, ◌*◌, ◌/◌, ◌%◌, ◌^◌, ◌<◌, ◌≤◌, min, Bool, true, false, List, ◌++◌, length, take, drop, unwrap_or, Some, None, Ok, Err, nat_abs, leb, position, ℤ, pos, neg_ℤ, refl, ap, sym, ◌∙◌, arith, ltb, ◌==◌, cond, not, ◌&&◌, ◌||◌, ◌⊎◌, inl, inr, mul-one}
-use Rattle.std.proofs.Math.Nat.{one-le-pow, mul_assoc, le-mul_of_pos_right, mul-le-mul_right, div-le_of_le-mul, zero-mul}
+use Rattle.std.proofs.Common.{◌≡◌, ◌≢◌, ℕ, zero, suc, ◌+◌, ◌-◌, ◌*◌, ◌/◌, ◌%◌, ◌^◌, ◌<◌, ◌≤◌, min, Bool, true, false, List, ◌++◌, length, take, drop, unwrap_or, Some, None, Ok, Err, nat_abs, leb, position, ℤ, pos, neg_ℤ, refl, ap, sym, ◌∙◌, arith, ltb, ◌==◌, cond, not, ◌&&◌, ◌||◌, ◌⊎◌, inl, inr, mul-one, length-append}
+use Rattle.std.proofs.Math.Nat.{one-le-pow, mul_assoc, le-mul_of_pos_right, mul-le-mul_right, div-le_of_le-mul, div-le_self, zero-mul}
 use Rattle.std.proofs.Math.Bool.{and-true, and-false}
 use Rattle.std.proofs.lemmas.Nat.{pow-add, div-mul-add, mod_below, div-add-mod'}
 use Rattle.std.proofs.lemmas.Bool.{cases_lt, cases_eq, cases_order, cases_Bool, eq-eqb, ne_eqb, eqb-true, leb-true, lt-ltb, le-ltb, le-leb, lt-leb, and_parts}
 use Rattle.std.specs.Result.{result_ok}
-use Rattle.std.specs.List.{list_any, position_or_len, before_first, after_first}
+use Rattle.std.specs.List.{list_all, list_any, position_or_len, before_first, after_first}
 use Rattle.std.specs.Str.Parse.{digits_value, starts_with_minus, without_leading_sign}
 use Rattle.fixed_num.specs.declared.NumFault.{NumFault}
 use Rattle.fixed_num.specs.declared.NumFault.TheVariants.{OutOfRange}
 use Rattle.fixed_num.specs.declared.reached.Reached.{Reached}
 use Rattle.fixed_num.specs.Decimal.{is_exponent_mark, mantissa_of, has_exponent, exponent_of, whole_of, fraction_of, is_exponent, is_number, places_up, places_down, numerator_of, denominator_of, floor_of, scaled, is_within_one, milli, fits_i64, with_sign}
-use Rattle.fixed_num.specs.Read.{fault_of, fitting, read_as, milli_result, millionths_result, reached_in, reached_by, moved, moves_of, rounded_down, is_reached_within}
-use Rattle.fixed_num.proofs.GrammarLemmas.{list_any_is, before_first_none}
+use Rattle.fixed_num.specs.Read.{fault_of, fitting, read_as, milli_result, millionths_result, reached_in, reached_by, reached_parts, moved, moves_of, rounded_down, is_reached_within}
+use Rattle.fixed_num.proofs.GrammarLemmas.{list_any_is, before_first_none, no_exponent_in}
+use Rattle.fixed_num.proofs.DigitLemmas.{number_of_digits_is}
+use Rattle.fixed_num.proofs.ReachLemmas.{parts_quotient, product_below}
+use Rattle.fixed_num.specs.Whole.{number_of_digits}
+use Rattle.std.specs.Char.{is_ascii_digit}
 
 -- ---- the letter of an exponent
 
@@ -50,6 +54,32 @@ reached_plain text digits places e none =
     let plain : has_exponent text ≡ false = ap (list_any is_exponent_mark) (sym e) ∙ position_none is_exponent_mark digits none in
     let mantissa : mantissa_of text ≡ digits = before_first_none is_exponent_mark (without_leading_sign text) plain ∙ sym e in
     rw (mantissa, plain, and-true, mul-one) refl
+
+-- few digits before and behind a point, by the numbers that they write
+pub no_mark : (mantissa whole fraction : List ℕ) → whole ≡ whole_of mantissa → fraction ≡ fraction_of mantissa → list_all is_ascii_digit whole ≡ true → list_all is_ascii_digit fraction ≡ true → position is_exponent_mark mantissa ≡ None
+no_mark mantissa whole fraction e f h k =
+    let none : list_any is_exponent_mark mantissa ≡ false = no_exponent_in mantissa (ap (list_all is_ascii_digit) (sym e) ∙ h) (ap (list_all is_ascii_digit) (sym f) ∙ k) in
+    position_cases is_exponent_mark mantissa ∙ rw none refl
+
+reached_few : (whole fraction : List ℕ) (factor : ℕ) → digits_value 10 whole * factor + digits_value 10 fraction * factor / 10 ^ length fraction < 2 ^ 64
+    → reached_by (digits_value 10 (whole ++ fraction) * factor) (10 ^ (length fraction + 0)) ≡ reached_parts (digits_value 10 whole) (digits_value 10 fraction) (length fraction) factor
+reached_few whole fraction factor room =
+    let quotient = parts_quotient whole fraction factor in
+    let fits : min (digits_value 10 whole * factor + digits_value 10 fraction * factor / 10 ^ length fraction) (2 ^ 64 - 1) ≡ digits_value 10 whole * factor + digits_value 10 fraction * factor / 10 ^ length fraction = omega arith in
+    rw (quotient.whole, quotient.rest, fits) refl
+
+pub moved_few : (mantissa whole fraction : List ℕ) (places before behind : ℕ) → whole ≡ whole_of mantissa → fraction ≡ fraction_of mantissa → 0 < length whole
+    → Some before ≡ number_of_digits whole → Some behind ≡ number_of_digits fraction → places ≤ 9 → before < 10 ^ (18 - places) → behind < 10 ^ (18 - places)
+    → moved places 0 mantissa ≡ Some (reached_parts before behind (length fraction) (10 ^ places))
+unfolding moved
+moved_few mantissa whole fraction places before behind e f some b g few less small =
+    let front = number_of_digits_is whole before b in
+    let back = number_of_digits_is fraction behind g in
+    let room : 0 < length (whole ++ fraction) = omega (arith, length-append whole fraction) in
+    let part : behind * 10 ^ places / 10 ^ length fraction ≤ behind * 10 ^ places = div-le_self _ _ in
+    let fits : before * 10 ^ places + behind * 10 ^ places / 10 ^ length fraction < 2 ^ 64 = omega (arith, product_below before places few less, product_below behind places few small, part) in
+    rw (sym e, sym f, front.0, back.0, lt-ltb 0 (length (whole ++ fraction)) room)
+    (ap (λ r. Some r) (reached_few whole fraction (10 ^ places) (rw (front.1, back.1) at fits) ∙ rw (front.1, back.1) refl))
 
 moves_are : (exponent : List ℕ) (up down : ℕ) → moves_of exponent ≡ Some (up, down) → (is_exponent exponent ≡ true) × (cond (starts_with_minus exponent) 0 (digits_value 10 (without_leading_sign exponent)) ≡ up) × (cond (starts_with_minus exponent) (digits_value 10 (without_leading_sign exponent)) 0 ≡ down)
 unfolding moves_of

@@ -1,5 +1,5 @@
 pub mod Decimal
-pub mod Plain
+pub mod Milli
 pub mod Print
 pub mod Read
 pub mod Whole

@@ -35,6 +35,11 @@ millionths_result text = if is_number text then (if is_within_one text then Ok (
 abbrev pub reached_by : ℕ → ℕ → Reached
 reached_by n d = record { whole = min (n / d) (2 ^ 64 - 1); exact = n % d == 0 }
 
+-- the same of the number before a point and of the number behind it, which has so many digits, in parts of one `factor`th
+abbrev pub reached_parts : ℕ → ℕ → ℕ → ℕ → Reached
+reached_parts whole fraction digits factor =
+    record { whole = whole * factor + fraction * factor / 10 ^ digits; exact = fraction * factor % 10 ^ digits == 0 }
+
 -- how many parts of one `factor`th the decimal of a text reaches, its sign left out
 unfoldable pub reached_in : ℕ → List ℕ → Option Reached
 reached_in factor text = if is_number text then Some (reached_by (numerator_of text * factor) (denominator_of text)) else None

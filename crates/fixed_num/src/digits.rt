@@ -1,14 +1,14 @@
 //! Texts of decimal digits, and the numbers that they write.
 
-ghost use Rattle.std.specs.Prelude.{◌≡◌, ◌<◌, ◌≤◌, ◌-◌, ◌*◌, ◌^◌, ◌==◌, min, true, length};
+ghost use Rattle.std.specs.Prelude.{◌≡◌, ◌<◌, ◌≤◌, ◌-◌, ◌*◌, ◌^◌, ◌==◌, min, true, length, IfSome};
 ghost use Rattle.std.specs.List.{list_all};
 ghost use Rattle.std.specs.Char.{is_ascii_digit};
 ghost use Rattle.std.specs.Str.Parse.{digits_value, digits_value_after};
 ghost use Rattle.fixed_num.specs.Decimal.{is_numeral_up_to};
-ghost use Rattle.fixed_num.specs.Whole.{whole_number};
+ghost use Rattle.fixed_num.specs.Whole.{number_of_digits, whole_number};
 
 /// Whether each byte is a digit.
-pub(crate) fn all_digits(text: &[u8]) -> bool
+pub fn all_digits(text: &[u8]) -> bool
     ensures { result ≡ list_all is_ascii_digit text.now }
 {
     text.iter().all(|b| b.is_ascii_digit())
@@ -29,14 +29,30 @@ pub(crate) fn is_numeral(text: &[u8], most: usize) -> bool
 }
 
 /// Reads a number of 1 to 19 digits: `None` exactly where the text is anything else.
-#[tactic(auto, unfolding(crate::specs::Whole::whole_number))]
 pub fn read_whole(text: &[u8]) -> Option<u64>
     ensures { result ≡ whole_number text.now }
 {
-    if is_numeral(text, 19) {
-        return Some(number(text));
+    if text.is_empty() || text.len() > 19 {
+        return None;
     }
-    None
+    few_digits(text)
+}
+
+/// The number that at most 19 digits write, 0 where there are none: `None` exactly where a byte is
+/// no digit.
+pub(crate) fn few_digits(text: &[u8]) -> Option<u64>
+    requires { length text.now ≤ 19 }
+    ensures value { result ≡ number_of_digits text.now }
+    ensures range { IfSome result (λ number. number < 10 ^ length text.now) }
+{
+    let mut number = 0;
+    for b in text {
+        if !b.is_ascii_digit() {
+            return None;
+        }
+        number = number * 10 + u64::from(b - b'0');
+    }
+    Some(number)
 }
 
 /// The number that a few digits write.
@@ -53,8 +69,46 @@ pub(crate) fn number(digits: &[u8]) -> u64
     number
 }
 
+static POWERS_OF_TEN: [u64; 19] = [
+    1,
+    10,
+    100,
+    1_000,
+    10_000,
+    100_000,
+    1_000_000,
+    10_000_000,
+    100_000_000,
+    1_000_000_000,
+    10_000_000_000,
+    100_000_000_000,
+    1_000_000_000_000,
+    10_000_000_000_000,
+    100_000_000_000_000,
+    1_000_000_000_000_000,
+    10_000_000_000_000_000,
+    100_000_000_000_000_000,
+    1_000_000_000_000_000_000,
+];
+
+/// A small power of ten.
+pub(crate) fn power_of_ten(exponent: usize) -> u64
+    requires { exponent ≤ 18 }
+    ensures { result ≡ 10 ^ exponent }
+{
+    POWERS_OF_TEN[exponent]
+}
+
+/// The number that digits write, however many, or the greatest number where it is above.
+pub fn capped_number(digits: &[u8]) -> u64
+    requires digits { list_all is_ascii_digit digits.now ≡ true }
+    ensures { result ≡ min (digits_value 10 digits.now) (2 ^ 64 - 1) }
+{
+    capped_number_after(0, digits)
+}
+
 /// The number that digits write behind those of `start`, or the greatest number where it is above.
-pub(crate) fn capped_number(start: u64, digits: &[u8]) -> u64
+pub(crate) fn capped_number_after(start: u64, digits: &[u8]) -> u64
     requires digits { list_all is_ascii_digit digits.now ≡ true }
     ensures { result ≡ min (digits_value_after 10 start digits.now) (2 ^ 64 - 1) }
 {

@@ -37,8 +37,8 @@ pub(crate) fn cut_at_point(text: &[u8]) -> (&[u8], &[u8])
     (&text[..point], &text[point + 1..])
 }
 
-// The place of the first point, or the text's length.
-fn first_point(text: &[u8]) -> usize
+/// The place of the first point, or the text's length.
+pub fn first_point(text: &[u8]) -> usize
     ensures place { result ≡ position_or_len is_point text.now }
     ensures within { result ≤ length text.now }
 {

@@ -2,21 +2,20 @@
 //! text and printed exactly. Nothing here takes memory.
 #![tactic(auto)]
 
-ghost use Rattle.std.specs.Prelude.{◌≡◌, FitsSigned, SomeIff};
-ghost use Rattle.std.specs.Int.{w64};
+ghost use Rattle.std.specs.Prelude.{◌≡◌, SomeIff};
+ghost use Rattle.fixed_num.specs.Milli.{IsMilli};
 
 mod digits;
 mod grammar;
 mod laws;
-mod plain_form;
 mod printed_form;
 mod reached;
 mod reading;
 mod scaling;
 
-pub use digits::read_whole;
-pub use laws::{plain_text_has_a_value, printed_text_is_read_back, read_text_has_its_value};
-pub use plain_form::read_plain;
+pub use digits::{all_digits, capped_number, read_whole};
+pub use grammar::first_point;
+pub use laws::{printed_text_is_read_back, read_text_has_its_value};
 pub use printed_form::print_milli;
 pub use reading::{read_milli, read_millionths, read_nano};
 
@@ -52,7 +51,7 @@ pub fn wide(value: Milli) -> i128
 
 /// The value of a number of thousandths, `None` exactly where it does not fit.
 pub fn narrow(number: i128) -> Option<Milli>
-    ensures { SomeIff result (FitsSigned w64 number) number }
+    ensures { SomeIff result (IsMilli number) number }
 {
     i64::try_from(number).ok()
 }
@@ -60,27 +59,6 @@ pub fn narrow(number: i128) -> Option<Milli>
 #[cfg(test)]
 mod tests {
     use super::*;
-
-    #[test]
-    fn plain_texts_are_read(rt: HostRuntime) {
-        let table: [(&[u8], Option<Milli>); 12] = [
-            (b"1.5", Some(1500)),
-            (b"0", Some(0)),
-            (b"-0", Some(0)),
-            (b"-12.034", Some(-12034)),
-            (b"999999999999.999", Some(999_999_999_999_999)),
-            (b"1000000000000", None),
-            (b"1.2345", None),
-            (b"1.", None),
-            (b".5", None),
-            (b"+1", None),
-            (b"12e-3", None),
-            (b"", None),
-        ];
-        for (text, value) in table {
-            assert_eq!(rt; read_plain(text), value);
-        }
-    }
 
     #[test]
     fn whole_numbers_are_read(rt: HostRuntime) {
@@ -98,8 +76,10 @@ mod tests {
 
     #[test]
     fn decimals_are_read_in_thousandths(rt: HostRuntime) {
-        let table: [(&[u8], Result<Milli, NumFault>); 17] = [
+        let table: [(&[u8], Result<Milli, NumFault>); 19] = [
             (b"1.5", Ok(1500)),
+            (b"-12.034", Ok(-12034)),
+            (b"999999999999.999", Ok(999_999_999_999_999)),
             (b"-0.0005", Ok(-1)),
             (b".5", Ok(500)),
             (b"5.", Ok(5000)),

@@ -1,13 +1,16 @@
 //! How many parts of a unit the decimal of a text reaches, by numbers of 64 bits however long it is.
 
-ghost use Rattle.std.specs.Prelude.{◌≡◌, ◌<◌, ◌≤◌, ◌+◌, ◌*◌, ◌^◌, ◌==◌, ◌&&◌, ◌++◌, true, length, take, drop};
+ghost use Rattle.std.specs.Prelude.{◌≡◌, ◌<◌, ◌≤◌, ◌+◌, ◌-◌, ◌*◌, ◌^◌, ◌==◌, ◌&&◌, ◌++◌, true, length, take, drop, IfSome, Some, None, position};
 ghost use Rattle.std.specs.List.{list_all};
 ghost use Rattle.std.specs.Char.{is_ascii_digit};
 ghost use Rattle.std.specs.Str.Parse.{digits_value};
-ghost use Rattle.fixed_num.specs.Decimal.{whole_of, fraction_of, is_mantissa};
-ghost use Rattle.fixed_num.specs.Read.{reached_in, reached_by, moved};
+ghost use Rattle.fixed_num.specs.Decimal.{whole_of, fraction_of, is_exponent_mark, is_mantissa};
+ghost use Rattle.fixed_num.specs.Read.{reached_in, reached_by, reached_parts, moved};
 
-use crate::digits::{all_digits, all_zeros, capped_number, capped_tens};
+use crate::digits::{
+    all_digits, all_zeros, capped_number, capped_number_after, capped_tens, few_digits,
+    power_of_ten,
+};
 use crate::grammar::{cut_at_point, exponent_in, moves_of, without_leading_sign};
 use crate::reached::Reached;
 
@@ -18,11 +21,50 @@ pub(crate) fn reached_in(text: &[u8], places: usize) -> Option<Reached>
     ensures { result ≡ reached_in (10 ^ places) text.now }
 {
     let digits = without_leading_sign(text);
+    if let Some(reached) = reached_shortly(digits, places) {
+        return Some(reached);
+    }
     let Some(letter) = exponent_in(digits) else {
         return moved(digits, places, 0);
     };
     let (up, down) = moves_of(&digits[letter + 1..])?;
     moved(&digits[..letter], up + places, down)
+}
+
+// The digits on one side of a point that two numbers of 64 bits are enough for.
+const FEW_DIGITS: usize = 18;
+
+// The same of few digits without an exponent, as most texts are. `None` says nothing of the text.
+fn reached_shortly(mantissa: &[u8], places: usize) -> Option<Reached>
+    requires { places ≤ 9 }
+    ensures exponent { IfSome result (λ reached. position is_exponent_mark mantissa.now ≡ None) }
+    ensures value { IfSome result (λ reached. moved places 0 mantissa.now ≡ Some reached) }
+{
+    let (whole, fraction) = cut_at_point(mantissa);
+    let most = FEW_DIGITS - places;
+    if whole.is_empty() || whole.len() > most || fraction.len() > most {
+        return None;
+    }
+    let before = few_digits(whole)?;
+    let behind = few_digits(fraction)?;
+    Some(reached_parts(before, behind, fraction.len(), places))
+}
+
+// What the number before a point and the one behind it reach, which has so many digits.
+fn reached_parts(whole: u64, fraction: u64, digits: usize, places: usize) -> Reached
+    requires places { places ≤ 9 }
+    requires digits { digits ≤ 18 }
+    requires whole { whole < 10 ^ (18 - places) }
+    requires fraction { fraction < 10 ^ (18 - places) }
+    ensures { result ≡ reached_parts whole fraction digits (10 ^ places) }
+{
+    let factor = power_of_ten(places);
+    let part = fraction * factor;
+    let divisor = power_of_ten(digits);
+    Reached {
+        whole: whole * factor + part / divisor,
+        exact: part % divisor == 0,
+    }
 }
 
 // What a mantissa reaches where its point moves up and down.
@@ -60,7 +102,7 @@ fn reached_by(whole: &[u8], fraction: &[u8], up: usize, down: usize) -> Reached
     let (more, last) = cut_at(fraction, keep.saturating_sub(whole.len()));
     let zeros = keep.saturating_sub(whole.len() + fraction.len());
     Reached {
-        whole: capped_tens(capped_number(capped_number(0, front), more), zeros),
+        whole: capped_tens(capped_number_after(capped_number(front), more), zeros),
         exact: are_zeros(rest, last),
     }
 }

@@ -1,5 +1,6 @@
--- What a buffer of bytes holds as lines. The bytes before the place `at` were handed out, those from there up
--- to `open_start` are lines that wait, each with its LF, and the others are the line that is not ended yet.
+-- What a buffer of bytes holds as lines. The bytes before the place `at` were handed out, those
+-- from there up to `open_start` are lines that wait, each with its LF, and the others are the line
+-- that is not ended yet.
 use Rattle.std.specs.Prelude.{◌≡◌, ℕ, ◌+◌, ◌<◌, ◌≤◌, false, List, [], ◌∷◌, length, drop, Option, Some, None, slice_index, slice_range}
 use Rattle.std.specs.List.{All}
 use Rattle.std.specs.Option.{ForSome}
@@ -15,8 +16,8 @@ pub record IsLastLf (bytes : List ℕ) (last : ℕ) : Type 0 where
   pub lf : slice_index bytes last ≡ 10
   pub later : HasNoLf (drop (last + 1) bytes)
 
--- the bytes of the line that was handed out last, where it can still be read: from one place of the buffer up
--- to another
+-- the bytes of the line that was handed out last, where it can still be read: from one place of
+-- the buffer up to another
 abbrev pub texts_at : List ℕ → Option (ℕ × ℕ) → List (List ℕ)
 texts_at buffer None = []
 texts_at buffer (Some place) = slice_range buffer place.0 place.1 ∷ []
@@ -29,7 +30,8 @@ framing_of buffer at open_start current = record {
   current = texts_at buffer current;
 }
 
--- The places are those of a framer. Of the open line no more bytes are kept than show that it is too long.
+-- The places are those of a framer. Of the open line no more bytes are kept than show that it is
+-- too long.
 pub record IsLaidOut (buffer : List ℕ) (at open_start : ℕ) (current : Option (ℕ × ℕ)) : Type 0 where
   pub ordered : at ≤ open_start
   pub within : open_start ≤ length buffer

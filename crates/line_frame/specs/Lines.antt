@@ -31,15 +31,15 @@ lines bytes = map line_of (texts_of_lines bytes)
 abbrev pub open_text : List ℕ → List ℕ
 open_text bytes = slice_index_or (slice_split is_lf bytes) (length (slice_split is_lf bytes) - 1) []
 
--- What a framer holds: the lines that have come and were not handed out, the line that is not ended yet,
--- and the line that was handed out last, while it can be read.
+-- What a framer holds: the lines that have come and were not handed out, the line that is not
+-- ended yet, and the line that was handed out last, while it can be read.
 pub record Framing : Type 0 where
   pub waiting : List Line
   pub open_line : Line
   pub current : List (List ℕ)
 
--- Of a stream of which the bytes `taken` were fed, in any pieces, the lines `handed` were handed out and
--- the others wait.
+-- Of a stream of which the bytes `taken` were fed, in any pieces, the lines `handed` were handed
+-- out and the others wait.
 pub record HandsOut (handed : List Line) (taken : List ℕ) (framing : Framing) : Type 0 where
   pub in_order : lines taken ≡ handed ++ framing.waiting
   pub open_part : line_of (open_text taken) ≡ framing.open_line

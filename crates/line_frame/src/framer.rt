@@ -85,7 +85,8 @@ impl Framer {
         Ok(())
     }
 
-    // Takes a piece whose last LF stands at `last`: the open line and all lines up to there wait now.
+    // Takes a piece whose last LF stands at `last`: the open line and all lines up to there
+    // wait now.
     fn take_lines(&mut self, piece: &[u8], last: usize) -> Result<(), AllocError>
         requires { IsLastLf piece.now last }
         ensures ok { OnOk result (Feeds self.old piece.now self.new) }
@@ -97,8 +98,8 @@ impl Framer {
         Ok(())
     }
 
-    // The current line is not read any more. The bytes that were handed out are moved away once they are as
-    // many as the others.
+    // The current line is not read any more. The bytes that were handed out are moved away once
+    // they are as many as the others.
     fn forget_handed_out(&mut self)
         ensures { self.new ≡ record self.old { current = [] } }
     {

@@ -4,7 +4,8 @@ use super::*;
 use std::alloc::Global;
 use std::test::Fail;
 
-// Hands out all lines that wait: a bar follows each, and a question mark stands for one that is too long.
+// Hands out all lines that wait: a bar follows each, and a question mark stands for one that is
+// too long.
 fn read_waiting(framer: &mut Framer, seen: &mut Vec<u8>) -> Result<(), NoMemory> {
     'lines: while let Some(framed) = framer.next_line() {
         match framed {

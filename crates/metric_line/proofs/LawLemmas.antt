@@ -76,7 +76,7 @@ decided_false : (b : Bool) (P : Type 0) → Decides b P → (P → ⊥) → b �
 decided_false true P decides other = absurd (other (decides.0 refl))
 decided_false false P decides other = refl
 
-not_now : (text : List ℕ) → (Some text ≡ Some (codes "-1") → ⊥) → is_now text ≡ false
+pub not_now : (text : List ℕ) → (Some text ≡ Some (codes "-1") → ⊥) → is_now text ≡ false
 not_now text other = decided_false (is_now text) (text ≡ codes "-1") (bytes_eq-Decides text (codes "-1")) (λ e. other (ap (λ (t : List ℕ). Some t) e))
 
 stamp_alike : (text : List ℕ) (now later : ℕ) → (Some text ≡ Some (codes "-1") → ⊥) → stamp_of text now ≡ stamp_of text later

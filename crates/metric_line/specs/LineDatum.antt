@@ -1,16 +1,12 @@
 -- The point of a metric line, or the reason why it has none.
-use Rattle.std.specs.Prelude.{ℕ, List, [], ◌∷◌, length, Result, Ok, Err}
+use Rattle.std.specs.Prelude.{ℕ, List, [], ◌∷◌, Result, Ok, Err}
 use Rattle.fixed_num.specs.Read.{milli_result}
 use Rattle.metric_path.specs.Path.{legal_path}
 use Rattle.metric_line.specs.declared.fault.LineFault.{LineFault}
 use Rattle.metric_line.specs.declared.fault.LineFault.TheVariants.{Fields, Path, Value, Time}
-use Rattle.metric_line.specs.LineFields.{fields_of}
+use Rattle.metric_line.specs.LineFields.{capped_count, fields_of}
 use Rattle.metric_line.specs.Point.{Point}
 use Rattle.metric_line.specs.Stamp.{stamp_of}
-
--- the most bytes of a line
-abbrev pub most_line_bytes : ℕ
-most_line_bytes = 16384
 
 -- what follows where a part is read, and the line's fault where it is not
 abbrev pub where_read : {T E U : Type 0} → Result T E → (E → LineFault) → (T → Result U LineFault) → Result U LineFault
@@ -28,7 +24,7 @@ point_result path value time now =
 -- the point of a line's fields, of which there are to be three
 unfoldable pub point_of_fields : List (List ℕ) → ℕ → Result Point LineFault
 point_of_fields (path ∷ value ∷ time ∷ []) now = point_result path value time now
-point_of_fields fields now = Err (Fields (length fields))
+point_of_fields fields now = Err (Fields (capped_count fields))
 
 -- The point of a metric line of Graphite's plaintext protocol, read at the moment `now`, or the first reason why it has none in
 -- the order fields, path, value, time.

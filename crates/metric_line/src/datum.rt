@@ -1,5 +1,5 @@
-ghost use Rattle.std.specs.Prelude.{◌≡◌, true, FitsSigned};
-ghost use Rattle.std.specs.Int.{w64};
+ghost use Rattle.std.specs.Prelude.{◌≡◌, true};
+ghost use Rattle.fixed_num.specs.Milli.{IsMilli};
 ghost use Rattle.metric_line.specs.Moment.{is_moment};
 
 use fixed_num::Milli;
@@ -15,5 +15,5 @@ pub struct Datum {
     /// The value in thousandths.
     pub value: Milli,
     pub ghost legal: { is_moment time ≡ true },
-    pub ghost fits: { FitsSigned w64 value },
+    pub ghost fits: { IsMilli value },
 }

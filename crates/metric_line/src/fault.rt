@@ -7,7 +7,7 @@ use metric_path::PathFault;
 /// Why a line has no datum: the first that holds.
 #[derive(Clone, Copy, Debug, PartialEq, Eq)]
 pub enum LineFault {
-    /// The line has this many fields, and not three.
+    /// The line has this many fields, and not three; `u32::MAX` stands for all greater counts.
     Fields(u32),
     /// The first field is no legal path. It never holds `NoMemory`.
     Path(PathFault),

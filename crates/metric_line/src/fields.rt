@@ -2,7 +2,7 @@
 
 ghost use Rattle.std.specs.Prelude.{◌≡◌, ◌≢◌, ◌+◌, ◌<◌, ◌≤◌, [], ◌∷◌, false, MatchOption, drop, length, not, position};
 ghost use Rattle.std.specs.List.{position_or_len};
-ghost use Rattle.metric_line.specs.LineFields.{fields_of, is_blank};
+ghost use Rattle.metric_line.specs.LineFields.{capped_count, fields_of, is_blank};
 
 /// The fields of a line that has three.
 #[derive(Clone, Copy)]
@@ -26,10 +26,15 @@ pub(crate) fn three_fields(line: &[u8]) -> Option<Fields<'_>>
     }
 }
 
-/// How many fields a line has.
-pub(crate) fn count_fields(line: &[u8]) -> usize
-    ensures value { result ≡ length (fields_of line.now) }
-    ensures most { result ≤ length line.now + 1 }
+/// How many fields a line has, `u32::MAX` standing for all greater counts.
+pub(crate) fn field_count(line: &[u8]) -> u32
+    ensures { result ≡ capped_count (fields_of line.now) }
+{
+    u32::try_from(count_fields(line)).unwrap_or(u32::MAX)
+}
+
+fn count_fields(line: &[u8]) -> usize
+    ensures { result ≡ length (fields_of line.now) }
 {
     line.split(|b| is_blank(*b))
         .filter(|piece| piece.len() > 0)
@@ -81,9 +86,19 @@ fn blank_in(text: &[u8]) -> Option<usize>
     text.iter().position(|b| is_blank(*b))
 }
 
-#[tactic(auto, unfolding(crate::specs::LineFields::is_blank))]
+// A cross stands at the place of each blank, and a point at every other place.
+static BLANKS: [u8; 256] = *b"\
+    .........x.xxx..................\
+    x...............................\
+    ................................\
+    ................................\
+    ................................\
+    ................................\
+    ................................\
+    ................................";
+
 fn is_blank(b: u8) -> bool
     ensures { result ≡ is_blank b }
 {
-    matches!(b, b'\t' | 0x0B | 0x0C | b'\r' | b' ')
+    BLANKS[b as usize] == b'x'
 }

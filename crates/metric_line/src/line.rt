@@ -1,36 +1,38 @@
 //! Reading a metric line.
 
-ghost use Rattle.std.specs.Prelude.{◌≡◌, ◌≢◌, ◌≤◌, true, IfOk, IfErr, IsOk, length};
-ghost use Rattle.metric_line.specs.LineDatum.{datum_of, most_line_bytes, point_result};
+ghost use Rattle.std.specs.Prelude.{◌≡◌, ◌≢◌, true, IfOk, IfErr, IsOk};
+ghost use Rattle.metric_line.specs.LineDatum.{datum_of, point_result};
 ghost use Rattle.metric_line.specs.Moment.{is_moment};
 ghost use Rattle.metric_line.specs.Seen.{seen};
 
 use crate::Datum;
 use crate::fault::LineFault;
-use crate::fields::{count_fields, three_fields};
+use crate::fields::{field_count, three_fields};
 use crate::stamp::read_stamp;
 use fixed_num::read_milli;
 use metric_path::{MetricPath, fault_of};
 use std::alloc::Global;
 
-/// Reads a metric line of Graphite's plaintext protocol: a path, a value and a time in seconds since the Unix epoch.
+/// Reads a metric line of Graphite's plaintext protocol, of any length: a path, a value and a time in
+/// seconds since the Unix epoch.
 ///
-/// Fields stand between blanks: tabs, vertical tabs, form feeds, carriage returns and spaces. The time `-1` is `now`, and a
-/// fraction of a time is cut. Whether a line is refused does not depend on `now`.
+/// Fields stand between blanks: tabs, vertical tabs, form feeds, carriage returns and spaces. The
+/// time `-1` is `now`, and a fraction of a time is cut. Whether a line is refused does not depend on
+/// `now`.
 ///
 /// # Errors
 ///
-/// The first fault in the order fields, path, value, time; `NoMemory` of a line without a fault.
+/// The first fault in the order fields, path, value, time; `NoMemory` of a line without a fault. The
+/// count of fields that `Fields` tells is at most `u32::MAX`, which stands for all greater ones.
 pub fn read_line(alloc: Global, line: &[u8], now: u32) -> Result<Datum, LineFault>
-    requires moment { is_moment now ≡ true }
-    requires bytes { length line.now ≤ most_line_bytes }
+    requires { is_moment now ≡ true }
     ensures datum { IfOk result (λ datum. datum_of line.now now ≡ Ok (seen datum)) }
     ensures fault { IfErr result (λ fault. fault ≢ LineFault.NoMemory → datum_of line.now now ≡ Err fault) }
     ensures memory { result ≡ Err LineFault.NoMemory → IsOk (datum_of line.now now) }
 {
     match three_fields(line) {
         Some(fields) => read_fields(alloc, fields.path, fields.value, fields.time, now),
-        None => Err(LineFault::Fields(count_fields(line) as u32)),
+        None => Err(LineFault::Fields(field_count(line))),
     }
 }
 
@@ -61,7 +63,7 @@ fn read_fields(
         Ok(time) => time,
         Err(fault) => return Err(LineFault::Time(fault)),
     };
-    match MetricPath::new(alloc, path) {
+    match MetricPath::from_legal(alloc, path) {
         Ok(path) => Ok(Datum { path, time, value }),
         Err(_) => Err(LineFault::NoMemory),
     }

@@ -1,14 +1,14 @@
 //! The time of a metric line.
 
-ghost use Rattle.std.specs.Prelude.{◌≡◌, ◌≤◌, ◌-◌, ◌^◌, true, min, IfOk, IfSome, length, option_map, position};
-ghost use Rattle.std.specs.List.{list_all, position_or_len};
+ghost use Rattle.std.specs.Prelude.{◌≡◌, true, IfOk, IfSome, option_map};
+ghost use Rattle.std.specs.List.{list_all};
 ghost use Rattle.std.specs.Char.{is_ascii_digit};
 ghost use Rattle.std.specs.Str.Parse.{digits_value};
-ghost use Rattle.fixed_num.specs.Decimal.{is_point};
 ghost use Rattle.metric_line.specs.Moment.{is_moment};
 ghost use Rattle.metric_line.specs.Stamp.{is_cut_time, is_digits, is_now, moment_result, stamp_of, whole_digits};
 
 use crate::legal_moment;
+use fixed_num::{all_digits, capped_number, first_point, read_whole};
 
 /// Why a text is not read as a time.
 #[derive(Clone, Copy, Debug, PartialEq, Eq)]
@@ -31,11 +31,14 @@ pub(crate) fn read_stamp(text: &[u8], now: u32) -> Result<u32, StampFault>
     ensures moment { result ≡ stamp_of text.now now }
     ensures legal { IfOk result (λ t. is_moment t ≡ true) }
 {
+    if let Some(seconds) = read_whole(text) {
+        return moment(seconds);
+    }
     if is_now(text) {
         return Ok(now);
     }
     match whole_digits(text) {
-        Some(digits) => moment(digits),
+        Some(digits) => digits_moment(digits),
         None => Err(StampFault::NotNumber),
     }
 }
@@ -71,45 +74,19 @@ fn is_digits(text: &[u8]) -> bool
     !text.is_empty() && all_digits(text)
 }
 
-fn all_digits(text: &[u8]) -> bool
-    ensures { result ≡ list_all is_ascii_digit text.now }
+// A number of seconds as a moment.
+fn moment(seconds: u64) -> Result<u32, StampFault>
+    ensures moment { result ≡ moment_result seconds }
+    ensures legal { IfOk result (λ t. is_moment t ≡ true) }
 {
-    text.iter().all(|b| b.is_ascii_digit())
-}
-
-// The place of the first point, or the text's length.
-fn first_point(text: &[u8]) -> usize
-    ensures place { result ≡ position_or_len is_point text.now }
-    ensures within { result ≤ length text.now }
-{
-    point_in(text).unwrap_or(text.len())
-}
-
-fn point_in(text: &[u8]) -> Option<usize>
-    ensures { result ≡ position is_point text.now }
-{
-    text.iter().position(|b| *b == b'.')
+    legal_moment(seconds).ok_or(StampFault::OutOfRange)
 }
 
 // The moment that digits write, however many there are.
-fn moment(digits: &[u8]) -> Result<u32, StampFault>
+fn digits_moment(digits: &[u8]) -> Result<u32, StampFault>
     requires { list_all is_ascii_digit digits.now ≡ true }
     ensures moment { result ≡ moment_result (digits_value 10 digits.now) }
     ensures legal { IfOk result (λ t. is_moment t ≡ true) }
 {
-    legal_moment(capped_number(digits)).ok_or(StampFault::OutOfRange)
-}
-
-// The number that digits write, or the greatest number where it is above.
-fn capped_number(digits: &[u8]) -> u64
-    requires { list_all is_ascii_digit digits.now ≡ true }
-    ensures { result ≡ min (digits_value 10 digits.now) (2 ^ 64 - 1) }
-{
-    let mut number: u64 = 0;
-    for digit in digits {
-        number = number
-            .saturating_mul(10)
-            .saturating_add(u64::from(digit - b'0'));
-    }
-    number
+    moment(capped_number(digits))
 }

@@ -7,9 +7,9 @@ abbrev pub fnv1a : List ℕ → ℕ
 fnv1a text = fold (λ hash b. (bit_xor hash b * 16777619) % 2 ^ 32) 2166136261 text
 
 -- how many classes there are
-abbrev pub classes : ℕ
-classes = 16
+abbrev pub class_count : ℕ
+class_count = 16
 
 -- the class of the path with this text
 abbrev pub class_of : List ℕ → ℕ
-class_of text = fnv1a text % classes
+class_of text = fnv1a text % class_count

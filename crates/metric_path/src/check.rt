@@ -10,6 +10,17 @@ const MOST_PATH_BYTES: usize = 1024;
 
 const MOST_NODE_BYTES: usize = 240;
 
+// Each byte that a node may hold stands at its own place, and a slash at every other place.
+static NODE_BYTES: [u8; 256] = *b"\
+    ////////////////////////////////\
+    /!/#$%&////+/-//0123456789:/<=>/\
+    @ABCDEFGHIJKLMNOPQRSTUVWXYZ///^_\
+    `abcdefghijklmnopqrstuvwxyz///~/\
+    ////////////////////////////////\
+    ////////////////////////////////\
+    ////////////////////////////////\
+    ////////////////////////////////";
+
 /// The first fault of a text as a path, with `None` for a legal path.
 pub fn fault_of(text: &[u8]) -> Option<PathFault>
     ensures { result ≡ path_fault text.now }
@@ -93,8 +104,5 @@ fn bad_byte(text: &[u8]) -> Option<usize>
 fn is_node_byte(b: u8) -> bool
     ensures { result ≡ is_node_byte b }
 {
-    matches!(
-        b,
-        b'!' | b'#'..=b'&' | b'+' | b'-' | b'0'..=b':' | b'<'..=b'>' | b'@'..=b'Z' | b'^'..=b'z' | b'~'
-    )
+    NODE_BYTES[b as usize] != b'/'
 }

@@ -59,8 +59,20 @@ impl Model for MetricPath {
 impl MetricPath {
     ghost use Rattle.std.specs.Prelude.{◌≡◌, ◌≢◌, ◌<◌, List, ℕ, IfOk, length, slice_get, string_bytes};
     ghost use Rattle.metric_path.specs.Path.{legal_path, nodes_of, path_fault};
-    ghost use Rattle.metric_path.specs.Class.{class_of};
+    ghost use Rattle.metric_path.specs.Class.{class_count, class_of};
     ghost use Rattle.metric_path.specs.FileName.{HasFileName, file_name_of};
+
+    /// The path with a text that was found to be legal.
+    pub fn from_legal(alloc: Global, text: &[u8]) -> Result<MetricPath, AllocError>
+        requires { path_fault text.now ≡ None }
+        ensures { IfOk result (λ path. path ≡ text.now) }
+    {
+        let Ok(text) = str::from_utf8(text) else {
+            unreachable!()
+        };
+        let text = String::from_str(alloc, text)?;
+        Ok(MetricPath { text })
+    }
 
     /// The path with this text, or the text's first fault.
     pub fn new(alloc: Global, text: &[u8]) -> Result<MetricPath, PathFault>
@@ -70,11 +82,10 @@ impl MetricPath {
         if let Some(fault) = fault_of(text) {
             return Err(fault);
         }
-        let Ok(text) = str::from_utf8(text) else {
-            unreachable!()
-        };
-        let text = String::from_str(alloc, text)?;
-        Ok(MetricPath { text })
+        match MetricPath::from_legal(alloc, text) {
+            Ok(path) => Ok(path),
+            Err(_) => Err(PathFault::NoMemory),
+        }
     }
 
     /// The bytes of the path.
@@ -101,10 +112,11 @@ impl MetricPath {
         Ok(MetricPath { text })
     }
 
-    /// The class of the path: the FNV-1a hash of 32 bits of its bytes, modulo 16.
+    /// The class of the path, of [`CLASSES`]: the FNV-1a hash of 32 bits of its bytes, modulo their
+    /// number.
     pub fn class(&self) -> u32
         ensures value { result ≡ class_of self.now }
-        ensures few { result < 16 }
+        ensures few { result < class_count }
     {
         fnv1a(self.text.as_bytes()) % CLASSES
     }

@@ -8,8 +8,8 @@ pub capped_number-requires : goal.capped_number-requires
 capped_number-requires c =
     record { digits = ap (list_all is_ascii_digit) c.cut_at.ensures.front ∙ digits_front c.saturating_sub-keep.result c.args.whole.now c.requires.whole }
 
-pub capped_number-requires-2 : goal.capped_number-requires-2
-capped_number-requires-2 c =
+pub capped_number_after-requires : goal.capped_number_after-requires
+capped_number_after-requires c =
     record { digits = ap (list_all is_ascii_digit) c.cut_at-2.ensures.front ∙ digits_front c.saturating_sub.result c.args.fraction.now c.requires.fraction }
 
 pub returns : goal.returns
@@ -17,5 +17,5 @@ returns c =
     let parts = reached_record c.args.whole.now c.args.fraction.now _ _ _ _ c.args.up c.args.down _ _ _ _ _ _ _ c.requires.whole c.requires.fraction
     c.saturating_sub-keep.ensures c.saturating_sub.ensures c.saturating_sub-zeros.ensures
     c.cut_at.ensures.front c.cut_at.ensures.rest c.cut_at-2.ensures.front c.cut_at-2.ensures.rest
-    c.capped_number.ensures c.capped_number-2.ensures c.capped_tens.ensures c.are_zeros.ensures in
+    c.capped_number.ensures c.capped_number_after.ensures c.capped_tens.ensures c.are_zeros.ensures in
     rw (parts.0, parts.1) refl

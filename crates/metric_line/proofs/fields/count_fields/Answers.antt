@@ -5,9 +5,9 @@ use Rattle.metric_line.specs.LineFields.{fields_of, is_blank}
 use Rattle.metric_line.proofs.FieldLemmas.{has_bytes}
 use Rattle.metric_line.proofs.fields.count_fields.Goals as goal
 
-pub returns-clause-value : goal.returns-clause-value
+pub returns : goal.returns
 unfolding fields_of
-returns-clause-value c =
+returns c =
     count_from_yields_List c.filter.result c.count.result c.count.ensures.ran
     (YieldsList-from_filter _ has_bytes
     (YieldsList-at c.filter.ensures.source (YieldsList-from_slice_split _ is_blank c.args.line.now c.split.ensures.rest c.split.ensures.done c.split.ensures.closure (λ x b q called. search (rules, tests))))

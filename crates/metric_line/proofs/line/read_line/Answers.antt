@@ -15,4 +15,4 @@ returns-in-Some-clause-memory c =
 
 pub returns-in-None-clause-fault : goal.returns-in-None-clause-fault
 returns-in-None-clause-fault c =
-    λ fault. datum_of_others c.args.line.now c.count_fields.result c.args.now c.in-None.ensures c.count_fields.ensures.value
+    λ fault. datum_of_others c.args.line.now c.field_count.result c.args.now c.in-None.ensures c.field_count.ensures

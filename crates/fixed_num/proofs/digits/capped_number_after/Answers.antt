@@ -1,6 +1,6 @@
 use Rattle.std.proofs.Common.{arith}
 use Rattle.fixed_num.proofs.DigitLemmas.{digits_value_after_more}
-use Rattle.fixed_num.proofs.digits.capped_number.Goals as goal
+use Rattle.fixed_num.proofs.digits.capped_number_after.Goals as goal
 
 pub loop-digit-preserved : goal.loop-digit-preserved
 loop-digit-preserved c =

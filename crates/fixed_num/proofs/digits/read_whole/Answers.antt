@@ -1,0 +1,14 @@
+use Rattle.std.proofs.Common.{sym, ◌∙◌, rules, arith}
+use Rattle.fixed_num.proofs.DigitLemmas.{whole_number_empty, whole_number_few, whole_number_long}
+use Rattle.fixed_num.proofs.digits.read_whole.Goals as goal
+use Rattle.fixed_num.proofs.digits.read_whole.Goals.{then-is_empty-via-then-is_empty, then-is_empty-via-else-is_empty+then-text-gt19}
+
+pub returns-then-is_empty : goal.returns-then-is_empty
+returns-then-is_empty c =
+    elim c.then-is_empty.branch [
+      | then-is_empty-via-then-is_empty w ↦ sym (whole_number_empty c.args.text.now (search rules))
+      | then-is_empty-via-else-is_empty+then-text-gt19 w ↦ sym (whole_number_long c.args.text.now w.if-text-gt19.true)
+    ]
+
+pub returns : goal.returns
+returns c = c.few_digits.ensures.value ∙ whole_number_few c.args.text.now (search rules) (omega arith)
