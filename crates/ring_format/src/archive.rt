@@ -35,11 +35,15 @@ pub enum Method {
     AbsMin,
 }
 
-/// How many seconds an archive reaches back.
-pub(crate) fn retention_of(archive: &Archive) -> u64
-    ensures { result ≡ archive.now.step * archive.now.points }
-{
-    u64::from(archive.step) * u64::from(archive.points)
+impl Archive {
+    ghost use Rattle.ring_format.specs.Layout.{retention_of};
+
+    /// How many seconds the archive reaches back: its step times its points.
+    pub fn retention(self) -> u64
+        ensures { result ≡ retention_of self }
+    {
+        u64::from(self.step) * u64::from(self.points)
+    }
 }
 
 /// How many points the archives have in all.

@@ -23,13 +23,18 @@ impl Model for ArchiveList {
 
     ghost view = { λ a. take a.count a.items };
 
-    ghost invariant = { λ a. (a.count ≤ 25) × (length a.items ≡ 25) × (drop a.count a.items ≡ replicate (25 - a.count) (record { step = 0; points = 0 })) };
+    ghost invariant = { λ a. (a.count ≤ 25) × (length a.items ≡ 25)
+        × (drop a.count a.items ≡ replicate (25 - a.count) (record { step = 0; points = 0 })) };
 
     ghost use Rattle.ring_format.specs.Padded.{padded_back};
 
-    ghost inverse = { λ archives. record { items = archives ++ replicate (25 - length archives) (record { step = 0; points = 0 }); count = length archives } };
+    ghost inverse = { λ archives. record {
+      items = archives ++ replicate (25 - length archives) (record { step = 0; points = 0 });
+      count = length archives;
+    } };
 
-    ghost inverse_ok = { λ a h. padded_back (λ items count. record { items = items; count = count }) (record { step = 0; points = 0 }) a.items a.count h.0 h.1 h.2 };
+    ghost inverse_ok = { λ a h. padded_back (λ items count. record { items = items; count = count })
+        (record { step = 0; points = 0 }) a.items a.count h.0 h.1 h.2 };
 }
 
 impl ArchiveList {

@@ -3,7 +3,19 @@ ghost use Rattle.std.specs.Prelude.{◌≡◌, ◌<◌, ◌^◌, ℕ, ℤ, List,
 ghost use Rattle.std.specs.Int.{w64};
 ghost use Rattle.ring_format.specs.Cell.{cell_bytes, cell_of};
 
-use fixed_num::{CELL_BYTES, Milli};
+use fixed_num::Milli;
+
+/// The bytes of a cell in a ring file: its bucket in four bytes, and its value in eight.
+pub const CELL_BYTES: usize = 12;
+
+/// The most cells that are written in one run: those that 4,096 bytes hold whole.
+pub const RUN_CELLS: usize = 341;
+
+/// The most bytes that are written in one run, 4,092: those of [`RUN_CELLS`] cells.
+pub const RUN_BYTES: usize = CELL_BYTES * RUN_CELLS;
+
+/// The bytes of a cell, for places in files.
+pub(crate) const CELL: u64 = CELL_BYTES as u64;
 
 /// Writes a cell's bytes: its bucket in four bytes, and its value in eight, both big-endian.
 pub fn write_cell(bucket: u32, value: Milli, out: &mut [u8; CELL_BYTES])
@@ -26,12 +38,14 @@ pub fn read_cell(bytes: &[u8; CELL_BYTES]) -> (u32, Milli)
 
 /// A cell that was written is read back. The function does nothing: what it ensures is the law.
 pub fn written_cell_is_read()
-    ensures { (bucket : ℕ) (value : ℤ) → bucket < 2 ^ 32 → FitsSigned w64 value → cell_of (cell_bytes bucket value) ≡ (bucket, value) }
+    ensures { (bucket : ℕ) (value : ℤ) → bucket < 2 ^ 32 → FitsSigned w64 value
+        → cell_of (cell_bytes bucket value) ≡ (bucket, value) }
 {}
 
 /// The bytes of a cell that was read are written again. The function does nothing: what it ensures is
 /// the law.
 #[tactic(auto, using(crate::proofs::CellLemmas::cell_is_written))]
 pub fn read_cell_is_written()
-    ensures { (bytes : List ℕ) → length bytes ≡ 12 → ((i : ℕ) → slice_index bytes i < 256) → cell_bytes (cell_of bytes).0 (cell_of bytes).1 ≡ bytes }
+    ensures { (bytes : List ℕ) → length bytes ≡ 12 → ((i : ℕ) → slice_index bytes i < 256)
+        → cell_bytes (cell_of bytes).0 (cell_of bytes).1 ≡ bytes }
 {}

@@ -2,7 +2,7 @@
 ghost use Rattle.std.specs.Prelude.{◌≡◌, ◌^◌, ◌-◌, min, position};
 ghost use Rattle.ring_format.specs.Layout.{layout_fault, neighbours, with_fewest_points, has_bad_step, is_out_of_order, does_not_divide, has_too_few_points, is_too_long, is_no_longer_kept};
 
-use crate::archive::{Archive, point_count, retention_of};
+use crate::archive::{Archive, point_count};
 use crate::fault::LayoutFault;
 use std::iter;
 
@@ -111,13 +111,15 @@ fn too_long(archives: &[Archive]) -> Option<usize>
 {
     archives
         .iter()
-        .position(|archive| retention_of(archive) > MOST_RETENTION)
+        .position(|archive| archive.retention() > MOST_RETENTION)
 }
 
 // The first archive that reaches back no less than the next.
 fn retention_out_of_order(archives: &[Archive]) -> Option<usize>
     ensures { result ≡ position is_no_longer_kept (neighbours archives.now) }
 {
-    archives.iter().zip(archives.iter().skip(1)).position(|(archive, next)| retention_of(archive)
-        >= retention_of(next))
+    archives
+        .iter()
+        .zip(archives.iter().skip(1))
+        .position(|(archive, next)| archive.retention() >= next.retention())
 }

@@ -3,12 +3,19 @@ ghost use Rattle.std.specs.Prelude.{◌≡◌, ◌≤◌, ◌+◌, ◌*◌, ◌+
 ghost use Rattle.ring_format.specs.Layout.{point_count};
 ghost use Rattle.ring_format.specs.Head.{head_bytes, number_bytes, row_bytes, rows_bytes, rows_of};
 
-use crate::archive::Archive;
-use crate::layout::{CELL, Layout, head_size};
+use crate::archive::{Archive, MOST_ARCHIVES};
+use crate::cell::CELL;
+use crate::layout::{Layout, head_size};
 use crate::method::number_of_method;
 
-/// The most bytes of a head: those of 25 archives.
-pub const HEAD_BYTES: usize = 316;
+/// The bytes of the four numbers before the rows of archives.
+pub(crate) const FRONT_BYTES: usize = 16;
+
+/// The bytes of the row of an archive.
+pub(crate) const ROW_BYTES: usize = 12;
+
+/// The most bytes of a head, 316: those of 25 archives.
+pub const HEAD_BYTES: usize = FRONT_BYTES + ROW_BYTES * MOST_ARCHIVES;
 
 /// Writes a layout's head to the front of `out`, and answers its length; what stands behind it is left
 /// as it was.
@@ -33,7 +40,8 @@ pub fn write_head(layout: &Layout, out: &mut [u8; HEAD_BYTES]) -> usize
 // Writes the four numbers before the rows.
 #[tactic(auto, using(crate::proofs::RowLemmas::drop_later))]
 fn put_front(method: u32, retention: u32, factor: u32, count: u32, out: &mut [u8; HEAD_BYTES])
-    ensures written { take 16 out.new ≡ number_bytes method ++ (number_bytes retention ++ (number_bytes factor ++ number_bytes count)) }
+    ensures written { take 16 out.new ≡ number_bytes method
+        ++ (number_bytes retention ++ (number_bytes factor ++ number_bytes count)) }
     ensures behind { drop 16 out.new ≡ drop 16 out.old }
 {
     let second = put_number(method, 0, out);
@@ -50,7 +58,7 @@ fn put_rows(archives: &[Archive], out: &mut [u8; HEAD_BYTES]) -> usize
     ensures written { take result out.new ≡ take 16 out.old ++ rows_bytes (rows_of archives.now) }
     ensures behind { drop result out.new ≡ drop result out.old }
 {
-    let mut at = 16;
+    let mut at = FRONT_BYTES;
     let mut offset = head_size(archives.len());
     for archive in archives {
         at = put_row(offset as u32, archive, at, out);

@@ -5,10 +5,12 @@ ghost use Rattle.ring_format.specs.Layout.{LayoutValue, layout_fault};
 ghost use Rattle.ring_format.specs.LayoutFile.{file_size_of};
 ghost use Rattle.ring_format.specs.Head.{archive_at, archives_result, count_in, head_bytes, head_result, is_short, is_zero, last_retention, misplaced_archive, number_at, placed_result};
 
-use crate::archive::{Archive, Method, retention_of};
+use crate::archive::{Archive, MOST_ARCHIVES, Method};
 use crate::archive_list::ArchiveList;
+use crate::cell::CELL;
 use crate::fault::HeadFault;
-use crate::layout::{CELL, Layout, file_size_of, head_size};
+use crate::head::{FRONT_BYTES, ROW_BYTES};
+use crate::layout::{Layout, file_size_of, head_size};
 use crate::method::method_of;
 
 /// The layout of a file of `size` bytes, or the first fault of its head. The bytes are the file's first
@@ -18,12 +20,15 @@ pub fn read_head(bytes: &[u8], size: u64) -> Result<Layout, HeadFault>
     ensures value { result ≡ head_result bytes.now size }
 
     // An accepted file begins with its layout's own head, and has its layout's size.
-    ensures read { IfOk result (λ layout. (take (length (head_bytes layout)) bytes.now ≡ head_bytes layout)
-        × (size ≡ file_size_of layout.archives) × (layout_fault layout.archives layout.factor ≡ None)) }
+    ensures read { IfOk result (λ layout.
+        (take (length (head_bytes layout)) bytes.now ≡ head_bytes layout)
+        × (size ≡ file_size_of layout.archives)
+        × (layout_fault layout.archives layout.factor ≡ None)) }
 
     // A file that begins with a lawful layout's head, and has its size, is accepted.
     ensures written { (layout : LayoutValue) → layout_fault layout.archives layout.factor ≡ None
-        → take (length (head_bytes layout)) bytes.now ≡ head_bytes layout → size ≡ file_size_of layout.archives → result ≡ Ok layout }
+        → take (length (head_bytes layout)) bytes.now ≡ head_bytes layout
+        → size ≡ file_size_of layout.archives → result ≡ Ok layout }
 {
     layout_of_head(bytes, size)
 }
@@ -44,7 +49,7 @@ fn layout_of_head(bytes: &[u8], size: u64) -> Result<Layout, HeadFault>
         return Err(HeadFault::Method);
     };
     let count = number_at(bytes, 12);
-    if count < 1 || count > 25 {
+    if count < 1 || count > MOST_ARCHIVES as u32 {
         return Err(HeadFault::Count);
     }
     read_archives(method, count as usize, bytes, size)
@@ -54,7 +59,7 @@ fn layout_of_head(bytes: &[u8], size: u64) -> Result<Layout, HeadFault>
 fn begins_with_zeros(bytes: &[u8]) -> bool
     ensures { result ≡ list_all is_zero (take 16 bytes.now) }
 {
-    bytes.iter().take(16).all(|b| *b == 0)
+    bytes.iter().take(FRONT_BYTES).all(|b| *b == 0)
 }
 
 // Whether the file ends before its four numbers or its rows do.
@@ -62,11 +67,11 @@ fn is_short(bytes: &[u8], size: u64) -> bool
     requires { length bytes.now ≡ min 316 size }
     ensures { result ≡ is_short bytes.now size }
 {
-    if size < 16 {
+    if size < FRONT_BYTES as u64 {
         return true;
     }
     let count = number_at(bytes, 12);
-    count <= 25 && size < head_size(count as usize)
+    count <= MOST_ARCHIVES as u32 && size < head_size(count as usize)
 }
 
 // The layout with this method, or the first fault of what the rows tell.
@@ -117,8 +122,8 @@ fn archives_in(count: usize, bytes: &[u8]) -> ArchiveList
 {
     let mut archives = ArchiveList::new();
     for i in 0..count {
-        let step = number_at(bytes, 20 + 12 * i);
-        let points = number_at(bytes, 24 + 12 * i);
+        let step = number_at(bytes, FRONT_BYTES + 4 + ROW_BYTES * i);
+        let points = number_at(bytes, FRONT_BYTES + 8 + ROW_BYTES * i);
         archives.push(Archive { step, points });
     }
     archives
@@ -132,7 +137,7 @@ fn misplaced_archive(bytes: &[u8], archives: &[Archive]) -> Option<u32>
 {
     let mut offset = head_size(archives.len());
     for (i, archive) in archives.iter().enumerate() {
-        if u64::from(number_at(bytes, 16 + 12 * i)) != offset {
+        if u64::from(number_at(bytes, FRONT_BYTES + ROW_BYTES * i)) != offset {
             return Some(i as u32);
         }
         offset += CELL * u64::from(archive.points);
@@ -145,7 +150,7 @@ fn last_retention(archives: &[Archive]) -> u64
     ensures { result ≡ last_retention archives.now }
 {
     match archives.last() {
-        Some(archive) => retention_of(archive),
+        Some(archive) => archive.retention(),
         None => 0,
     }
 }

@@ -4,11 +4,12 @@ ghost use Rattle.ring_format.specs.Layout.{layout_fault, layout_result, point_co
 ghost use Rattle.ring_format.specs.Patch.{IsPlace};
 ghost use Rattle.ring_format.specs.LayoutFile.{file_size_of, head_size, offset_of};
 
-use crate::archive::{Archive, Method, point_count, retention_of};
+use crate::archive::{Archive, Method, point_count};
 use crate::archive_list::ArchiveList;
+use crate::cell::CELL;
 use crate::fault::LayoutFault;
 use crate::fault_search::fault_of;
-use fixed_num::CELL_BYTES;
+use crate::head::{FRONT_BYTES, ROW_BYTES};
 use std::marker::Model;
 
 /// A lawful layout: one to 25 archives from the finest to the coarsest, the method by which finer
@@ -125,15 +126,15 @@ impl Layout {
         ensures value { option_map retention_of (slice_get self.now.archives i) ≡ Some result }
         ensures most { result ≤ 4000000000 }
     {
-        let archive = self.archive(i);
-        retention_of(&archive) as u32
+        self.archive(i).retention() as u32
     }
 
     /// Where the archive at a place begins in a file of this layout.
     pub fn offset(&self, i: u32) -> u32
         requires { i < length self.now.archives }
         ensures value { result ≡ offset_of self.now.archives i }
-        ensures within { IfSome (slice_get self.now.archives i) (λ archive. result + 12 * archive.points ≤ file_size_of self.now.archives) }
+        ensures within { IfSome (slice_get self.now.archives i)
+            (λ archive. result + 12 * archive.points ≤ file_size_of self.now.archives) }
     {
         offset_in(self.archives(), i as usize)
     }
@@ -146,7 +147,8 @@ fn offset_in(archives: &[Archive], i: usize) -> u32
     requires few { length archives.now ≤ 25 }
     requires points { point_count archives.now ≤ 4000000 }
     ensures value { result ≡ offset_of archives.now i }
-    ensures within { IfSome (slice_get archives.now i) (λ archive. result + 12 * archive.points ≤ file_size_of archives.now) }
+    ensures within { IfSome (slice_get archives.now i)
+        (λ archive. result + 12 * archive.points ≤ file_size_of archives.now) }
 {
     let points = point_count(&archives[..i]);
     (head_size(archives.len()) + CELL * points) as u32
@@ -160,13 +162,10 @@ pub(crate) fn file_size_of(archives: &[Archive]) -> u64
     head_size(archives.len()) + CELL * point_count(archives)
 }
 
-/// The bytes of a cell.
-pub(crate) const CELL: u64 = CELL_BYTES as u64;
-
 /// The bytes of a head.
 pub(crate) fn head_size(archive_count: usize) -> u64
     requires { archive_count ≤ 25 }
     ensures { result ≡ head_size archive_count }
 {
-    16 + 12 * archive_count as u64
+    (FRONT_BYTES + ROW_BYTES * archive_count) as u64
 }

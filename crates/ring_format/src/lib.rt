@@ -18,7 +18,10 @@ mod patch;
 mod slot;
 
 pub use archive::{Archive, MOST_ARCHIVES, Method};
-pub use cell::{read_cell, read_cell_is_written, write_cell, written_cell_is_read};
+pub use cell::{
+    CELL_BYTES, RUN_BYTES, RUN_CELLS, read_cell, read_cell_is_written, write_cell,
+    written_cell_is_read,
+};
 pub use fault::{HeadFault, LayoutFault};
 pub use head::{HEAD_BYTES, write_head};
 pub use head_reading::read_head;

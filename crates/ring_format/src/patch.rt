@@ -42,7 +42,12 @@ impl Model for Patch {
 
     ghost Value = { PatchValue };
 
-    ghost view = { λ a. record { path = a.path; layout = a.layout; fresh = a.fresh; cells = a.cells.entries } };
+    ghost view = { λ a. record {
+      path = a.path;
+      layout = a.layout;
+      fresh = a.fresh;
+      cells = a.cells.entries;
+    } };
 
     ghost invariant = { λ a. All (IsPlace a.layout) (keys_of a.cells.entries) };
 }
@@ -65,12 +70,17 @@ impl Patch {
     /// Lays a cell, in place of one with the same archive and slot. At `Err` the patch is as before.
     pub fn lay(&mut self, cell: CellWrite) -> Result<(), NoMemory>
         requires { IsPlace self.old.layout (cell.archive, cell.slot) }
-        ensures ok { OnOk result (self.new ≡ record self.old { cells = with_cell self.old.cells (cell.archive, cell.slot) (cell.bucket, cell.value) }) }
+        ensures ok { OnOk result (self.new ≡ record self.old {
+          cells =
+              with_cell self.old.cells (cell.archive, cell.slot) (cell.bucket, cell.value);
+        }) }
         ensures err { OnErr result (self.new ≡ self.old) }
 
         // The place has the new cell, and each other place has what it had.
-        ensures here { OnOk result (cell_at self.new.cells (cell.archive, cell.slot) ≡ Some (cell.bucket, cell.value)) }
-        ensures others { OnOk result ((place : ℕ × ℕ) → place ≢ (cell.archive, cell.slot) → cell_at self.new.cells place ≡ cell_at self.old.cells place) }
+        ensures here { OnOk result
+            (cell_at self.new.cells (cell.archive, cell.slot) ≡ Some (cell.bucket, cell.value)) }
+        ensures others { OnOk result ((place : ℕ × ℕ) → place ≢ (cell.archive, cell.slot)
+            → cell_at self.new.cells place ≡ cell_at self.old.cells place) }
     {
         self.cells
             .insert((cell.archive, cell.slot), (cell.bucket, cell.value))?;

@@ -1,1 +1,2 @@
 pub mod PickedValues
+pub mod LawLemmas

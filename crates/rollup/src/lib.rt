@@ -8,9 +8,14 @@ ghost use Rattle.rollup.specs.Rollup.{is_enough, rolled};
 use fixed_num::Milli;
 use ring_format::Method;
 
+mod laws;
 mod picked;
 mod sums;
 
+pub use laws::{
+    abs_max_is_the_earliest_farthest, abs_min_is_the_earliest_nearest, max_is_the_greatest,
+    min_is_the_least,
+};
 use picked::{farthest, greatest, latest, least, nearest};
 use sums::{mean_over, total};
 

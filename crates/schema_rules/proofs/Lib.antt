@@ -4,5 +4,7 @@ pub mod SplitLemmas
 pub mod PatternLemmas
 pub mod FactorLemmas
 pub mod LayoutLemmas
+pub mod FinderLemmas
+pub mod RetentionLemmas
 pub mod Cross
 pub mod RulesCross

@@ -8,8 +8,8 @@ use Rattle.schema_rules.specs.contracts.schema.Schema as Schema
 use Rattle.schema_rules.specs.contracts.schema.Schema.TheInside as SchemaInside
 use Rattle.schema_rules.specs.contracts.aggregation.Aggregation as Aggregation
 use Rattle.schema_rules.specs.contracts.aggregation.Aggregation.TheInside as AggregationInside
-use Rattle.schema_rules.specs.contracts.rules.Lists as Lists
-use Rattle.schema_rules.specs.contracts.rules.Lists.TheInside as ListsInside
+use Rattle.schema_rules.specs.contracts.lists.Lists as Lists
+use Rattle.schema_rules.specs.contracts.lists.Lists.TheInside as ListsInside
 use Rattle.schema_rules.specs.contracts.rules.Rules as Rules
 use Rattle.schema_rules.specs.contracts.rules.Rules.TheInside as RulesInside
 use Rattle.schema_rules.proofs.Cross.{regex-send, regex-sync}

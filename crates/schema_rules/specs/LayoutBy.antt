@@ -1,5 +1,5 @@
 -- The layout that the rules give a path.
-use Rattle.std.specs.Prelude.{ℕ, List, [], ◌∷◌, find, Option}
+use Rattle.std.specs.Prelude.{ℕ, List, [], ◌∷◌, find, map, Option}
 use Rattle.std.specs.Option.{option_map_or}
 use Rattle.ring_format.specs.declared.archive.Archive.{Archive}
 use Rattle.ring_format.specs.Layout.{LayoutValue}
@@ -18,14 +18,21 @@ schema_for schemas path = find (λ schema. is_found schema.pattern path) schemas
 abbrev pub aggregation_for : List AggregationValue → List ℕ → Option AggregationValue
 aggregation_for aggregations path = find (λ aggregation. is_found aggregation.pattern path) aggregations
 
-abbrev pub archives_for : List SchemaValue → List ℕ → List Archive
-archives_for schemas path = option_map_or (λ schema. schema.archives) (schema_for schemas path) default_archives
+-- the patterns of sections
+abbrev pub patterns_of_schemas : List SchemaValue → List (List ℕ)
+patterns_of_schemas schemas = map (λ schema. schema.pattern) schemas
 
--- The layout of a path: the archives of the first schema section whose pattern is found in it, and the method and the
--- factor of the first such aggregation section, each with its default.
-unfoldable pub layout_by : RulesValue → List ℕ → LayoutValue
-layout_by rules path = record {
-  archives = archives_for rules.schemas path;
-  method = option_map_or (λ aggregation. aggregation.method) (aggregation_for rules.aggregations path) default_method;
-  factor = option_map_or (λ aggregation. aggregation.factor) (aggregation_for rules.aggregations path) default_factor;
+abbrev pub patterns_of_aggregations : List AggregationValue → List (List ℕ)
+patterns_of_aggregations aggregations = map (λ aggregation. aggregation.pattern) aggregations
+
+-- the layout with the archives of a section, and the method and the factor of one, each with its default
+unfoldable pub layout_under : Option SchemaValue → Option AggregationValue → LayoutValue
+layout_under schema aggregation = record {
+  archives = option_map_or (λ schema. schema.archives) schema default_archives;
+  method = option_map_or (λ aggregation. aggregation.method) aggregation default_method;
+  factor = option_map_or (λ aggregation. aggregation.factor) aggregation default_factor;
 }
+
+-- The layout of a path: that with the first section of each file whose pattern is found in it.
+unfoldable pub layout_by : RulesValue → List ℕ → LayoutValue
+layout_by rules path = layout_under (schema_for rules.schemas path) (aggregation_for rules.aggregations path)

@@ -5,11 +5,10 @@ ghost use Rattle.schema_rules.specs.RuleSections.{aggregation_result, aggregatio
 ghost use Rattle.schema_rules.specs.RulesOf.{Stops};
 
 use crate::fault::{RuleCause, Stop};
-use crate::pattern::Pattern;
+use crate::pattern::{Pattern, Search};
 use crate::schema::{DEFAULT_FACTOR, DEFAULT_METHOD, push_rule};
 use crate::section::Section;
 use fixed_num::read_millionths;
-use metric_path::MetricPath;
 use ring_format::Method;
 use std::alloc::{AllocError, Global};
 use std::marker::Model;
@@ -34,8 +33,6 @@ impl Model for Aggregation {
 }
 
 impl Aggregation {
-    ghost use Rattle.schema_rules.specs.Patterns.{is_found};
-
     /// The rule of the section with this number.
     #[tactic(auto, unfolding(crate::specs::RuleSections::aggregation_result))]
     pub(crate) fn read(
@@ -67,11 +64,11 @@ impl Aggregation {
         }))
     }
 
-    /// Whether the section's pattern is found in a path.
-    pub(crate) fn is_for(&self, alloc: Global, path: &MetricPath) -> Result<bool, AllocError>
-        ensures { IfOk result (λ found. found ≡ is_found self.now.pattern path.now) }
+    /// The section's pattern made ready to be searched in paths.
+    pub(crate) fn search(&self, alloc: Global) -> Result<Search<'_>, AllocError>
+        ensures { IfOk result (λ search. search ≡ self.now.pattern) }
     {
-        self.pattern.is_found(alloc, path)
+        self.pattern.search(alloc)
     }
 
     /// The section's factor, in millionths.

@@ -1,7 +1,7 @@
 //! The sections of a file.
-ghost use Rattle.std.specs.Prelude.{◌≡◌, ◌≤◌, ◌+◌, IfOk, IfErr, length, Ok};
+ghost use Rattle.std.specs.Prelude.{◌≡◌, ◌≤◌, ◌<◌, ◌+◌, IfOk, IfErr, length, Ok, Err};
 ghost use Rattle.schema_rules.specs.RuleLines.{sections_of};
-ghost use Rattle.schema_rules.specs.RulesOf.{Stops, file_sections, or_bad_line};
+ghost use Rattle.schema_rules.specs.RulesOf.{Stops, file_sections, most_file_bytes, or_bad_line};
 
 use crate::fault::{RuleCause, Stop};
 use crate::section::Sections;
@@ -17,6 +17,8 @@ pub(crate) fn file_sections<'a>(alloc: Global, file: &'a [u8]) -> Result<Section
     ensures sections { IfOk result (λ sections. file_sections file.now ≡ Ok sections) }
     ensures stop { IfErr result (Stops (file_sections file.now)) }
     ensures few { IfOk result (λ sections. length sections ≤ 1048577) }
+    ensures long { most_file_bytes < length file.now
+        → result ≡ Err (Stop.Cause RuleCause.TooLong) }
 {
     if file.len() > MOST_FILE_BYTES {
         return Err(Stop::Cause(RuleCause::TooLong));

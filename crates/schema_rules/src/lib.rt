@@ -8,6 +8,9 @@
 mod aggregation;
 mod fault;
 mod file;
+mod finder;
+mod laws;
+mod lists;
 mod pattern;
 mod retention;
 mod rules;
@@ -17,6 +20,8 @@ mod text;
 mod unit;
 
 pub use fault::{RuleCause, RuleFault, RuleFile};
+pub use finder::LayoutFinder;
+pub use laws::archives_are_those_of_the_pieces;
 pub use rules::Rules;
 
 #[cfg(test)]

@@ -3,7 +3,7 @@ ghost use Rattle.std.specs.Prelude.{◌≡◌, Some, None, IfOk, if◌then◌els
 ghost use Rattle.schema_rules.specs.Patterns.{is_found, is_readable};
 
 use metric_path::MetricPath;
-use regex::{Error, Regex};
+use regex::{Error, Matcher, Regex};
 use std::alloc::{AllocError, Global};
 use std::marker::Model;
 
@@ -29,7 +29,8 @@ impl Pattern {
     /// The pattern with this text: `None` exactly where the text is no regular expression, or nests too
     /// deeply.
     pub(crate) fn new(alloc: Global, text: &str) -> Result<Option<Pattern>, AllocError>
-        ensures { IfOk result (λ pattern. pattern ≡ (if is_readable text.now then Some text.now else None)) }
+        ensures { IfOk result
+            (λ pattern. pattern ≡ (if is_readable text.now then Some text.now else None)) }
     {
         match Regex::new(alloc, text) {
             Ok(regex) => return Ok(Some(Pattern { regex })),
@@ -38,17 +39,51 @@ impl Pattern {
         }
     }
 
-    /// Whether the pattern is found in a path.
-    pub(crate) fn is_found(&self, alloc: Global, path: &MetricPath) -> Result<bool, AllocError>
-        ensures { IfOk result (λ found. found ≡ is_found self.now path.now) }
+    /// The pattern made ready to be searched in paths.
+    pub(crate) fn search(&self, alloc: Global) -> Result<Search<'_>, AllocError>
+        ensures { IfOk result (λ search. search ≡ self.now) }
     {
-        self.is_in(alloc, path.as_str())
+        let matcher = self.regex.matcher(alloc)?;
+        Ok(Search {
+            pattern: self,
+            matcher,
+        })
+    }
+}
+
+/// A pattern that is ready to be searched in paths. A search takes no memory that it could want. Contracts
+/// see the pattern's text.
+#[derive(Drop)]
+pub(crate) struct Search<'r> {
+    pattern: &'r Pattern,
+    matcher: Matcher<'r>,
+}
+
+impl<'r> Model for Search<'r> {
+    ghost use Rattle.std.specs.Prelude.{List, ℕ};
+    ghost use Rattle.regex.specs.Strings.{matcher_pattern};
+    ghost use Rattle.schema_rules.specs.Patterns.{SearchesFor};
+
+    ghost Value = { List ℕ };
+
+    ghost view = { λ s. s.pattern.now };
+
+    ghost invariant = { λ s. SearchesFor s.pattern.now (matcher_pattern s.matcher) };
+}
+
+impl<'r> Search<'r> {
+    /// Whether the pattern is found in a path.
+    pub(crate) fn is_found(&mut self, path: &MetricPath) -> bool
+        ensures found { result ≡ is_found self.old path.now }
+        ensures same { self.new ≡ self.old }
+    {
+        self.is_in(path.as_str())
     }
 
-    fn is_in(&self, alloc: Global, text: &str) -> Result<bool, AllocError>
-        ensures { IfOk result (λ found. found ≡ is_found self.now text.now) }
+    fn is_in(&mut self, text: &str) -> bool
+        ensures found { result ≡ is_found self.old text.now }
+        ensures same { self.new ≡ self.old }
     {
-        let mut matcher = self.regex.matcher(alloc)?;
-        Ok(matcher.is_match(text))
+        self.matcher.is_match(text)
     }
 }

@@ -66,7 +66,8 @@ pub(crate) fn archives_of(alloc: Global, text: &[u8]) -> Result<Option<Vec<Archi
 
 #[tactic(auto, unfolding(crate::specs::Retentions::archives_from))]
 fn archives_in(alloc: Global, text: &[u8]) -> Result<Option<InOrder>, AllocError>
-    ensures { IfOk result (λ archives. archives ≡ archives_from [] 0 (slice_split is_comma text.now)) }
+    ensures { IfOk result
+        (λ archives. archives ≡ archives_from [] 0 (slice_split is_comma text.now)) }
 {
     let mut archives = InOrder::new(alloc);
     let mut count = 0;
@@ -89,7 +90,8 @@ fn archives_in(alloc: Global, text: &[u8]) -> Result<Option<InOrder>, AllocError
 // What stands before the first comma of a text, and what follows it.
 fn next_piece(text: &[u8]) -> Option<(&[u8], &[u8])>
     ensures { MatchOption result (slice_split is_comma text.now ≡ text.now ∷ []) (λ parts.
-        (slice_split is_comma text.now ≡ parts.0.now ∷ slice_split is_comma parts.1.now) × (length parts.1.now < length text.now)) }
+        (slice_split is_comma text.now ≡ parts.0.now ∷ slice_split is_comma parts.1.now)
+        × (length parts.1.now < length text.now)) }
 {
     match comma_in(text) {
         Some(at) => return Some((&text[..at], &text[at + 1..])),

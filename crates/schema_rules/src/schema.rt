@@ -4,10 +4,9 @@ ghost use Rattle.schema_rules.specs.RuleSections.{lawful_schema, schema_result, 
 ghost use Rattle.schema_rules.specs.RulesOf.{Stops};
 
 use crate::fault::{RuleCause, Stop};
-use crate::pattern::Pattern;
+use crate::pattern::{Pattern, Search};
 use crate::retention::archives_of;
 use crate::section::Section;
-use metric_path::MetricPath;
 use ring_format::{Archive, Layout, Method};
 use std::alloc::{AllocError, Global};
 use std::marker::Model;
@@ -40,7 +39,6 @@ impl Model for Schema {
 impl Schema {
     ghost use Rattle.std.specs.Prelude.{None};
     ghost use Rattle.ring_format.specs.Layout.{layout_fault};
-    ghost use Rattle.schema_rules.specs.Patterns.{is_found};
 
     /// The rule of the section with this number.
     #[tactic(auto, unfolding(crate::specs::RuleSections::schema_result))]
@@ -70,8 +68,10 @@ impl Schema {
     // The rule with these archives.
     #[tactic(auto, unfolding(crate::specs::RuleSections::lawful_schema))]
     fn lawful(number: u32, pattern: Pattern, archives: &[Archive]) -> Result<Schema, RuleCause>
-        ensures rule { IfOk result (λ rule. lawful_schema number pattern archives.now ≡ Ok (Some rule)) }
-        ensures cause { IfErr result (λ cause. lawful_schema number pattern archives.now ≡ Err cause) }
+        ensures rule { IfOk result
+            (λ rule. lawful_schema number pattern archives.now ≡ Ok (Some rule)) }
+        ensures cause { IfErr result
+            (λ cause. lawful_schema number pattern archives.now ≡ Err cause) }
     {
         match Layout::new(archives, DEFAULT_METHOD, DEFAULT_FACTOR) {
             Ok(layout) => return Ok(Schema { pattern, layout }),
@@ -79,11 +79,11 @@ impl Schema {
         }
     }
 
-    /// Whether the section's pattern is found in a path.
-    pub(crate) fn is_for(&self, alloc: Global, path: &MetricPath) -> Result<bool, AllocError>
-        ensures { IfOk result (λ found. found ≡ is_found self.now.pattern path.now) }
+    /// The section's pattern made ready to be searched in paths.
+    pub(crate) fn search(&self, alloc: Global) -> Result<Search<'_>, AllocError>
+        ensures { IfOk result (λ search. search ≡ self.now.pattern) }
     {
-        self.pattern.is_found(alloc, path)
+        self.pattern.search(alloc)
     }
 
     /// The section's archives from the finest to the coarsest.

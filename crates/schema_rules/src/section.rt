@@ -22,7 +22,12 @@ impl<'a> Model for Section<'a> {
 
     ghost Value = { SectionValue };
 
-    ghost view = { λ s. record { pattern = s.pattern.now; retentions = s.retentions.now; factor = option_copied s.factor; method = option_copied s.method } };
+    ghost view = { λ s. record {
+      pattern = s.pattern.now;
+      retentions = s.retentions.now;
+      factor = option_copied s.factor;
+      method = option_copied s.method;
+    } };
 }
 
 impl<'a> Section<'a> {
@@ -124,7 +129,8 @@ impl<'a> Sections<'a> {
     /// cannot stand there.
     #[tactic(auto, unfolding(crate::specs::RuleLines::after_line))]
     pub(crate) fn take_line(&mut self, line: &'a [u8]) -> Result<bool, AllocError>
-        ensures sections { IfOk result (λ fits. (if fits then Some self.new else None) ≡ after_line self.old line.now) }
+        ensures sections { IfOk result
+            (λ fits. (if fits then Some self.new else None) ≡ after_line self.old line.now) }
         ensures few { IfOk result (λ _. length self.new ≤ length self.old + 1) }
     {
         let Some(text) = text_in(line) else {
@@ -149,7 +155,8 @@ impl<'a> Sections<'a> {
     // Sets a key's value in the last section: `false` exactly where there is none.
     #[tactic(auto, unfolding(crate::specs::RuleLines::with_setting))]
     fn set_in_last(&mut self, key: &[u8], value: &'a str) -> bool
-        ensures sections { (if result then Some self.new else None) ≡ with_setting self.old (key.now, value.now) }
+        ensures sections { (if result then Some self.new else None)
+            ≡ with_setting self.old (key.now, value.now) }
         ensures count { length self.new ≡ length self.old }
     {
         if self.items.is_empty() {

@@ -29,7 +29,7 @@ pub(crate) fn without_last_blanks(text: &[u8]) -> &[u8]
 }
 
 #[tactic(auto, unfolding(crate::specs::RuleLines::without_first_blanks))]
-pub(crate) fn without_first_blanks(text: &[u8]) -> &[u8]
+fn without_first_blanks(text: &[u8]) -> &[u8]
     ensures { result.now ≡ without_first_blanks text.now }
 {
     &text[first_blanks(text)..]
@@ -66,7 +66,8 @@ fn last_no_blank_in(text: &[u8]) -> Option<usize>
 /// The first line of a text with a line feed, and what follows it: `None` where the text is its last line.
 pub(crate) fn next_line(text: &[u8]) -> Option<(&[u8], &[u8])>
     ensures { MatchOption result (lines_of text.now ≡ text.now ∷ []) (λ parts.
-        (lines_of text.now ≡ parts.0.now ∷ lines_of parts.1.now) × (length parts.1.now < length text.now)) }
+        (lines_of text.now ≡ parts.0.now ∷ lines_of parts.1.now)
+        × (length parts.1.now < length text.now)) }
 {
     match lf_in(text) {
         Some(at) => return Some((without_carriage_return(&text[..at]), &text[at + 1..])),
@@ -93,7 +94,8 @@ fn without_carriage_return(line: &[u8]) -> &[u8]
 
 /// The text of a line that is UTF-8.
 pub(crate) fn text_in(line: &[u8]) -> Option<&str>
-    ensures { option_map (λ text. text.now) result ≡ (if is_utf8 line.now then Some line.now else None) }
+    ensures { option_map (λ text. text.now) result
+        ≡ (if is_utf8 line.now then Some line.now else None) }
 {
     match str::from_utf8(line) {
         Ok(text) => return Some(text),

@@ -1,7 +1,7 @@
 use Rattle.std.proofs.Common.{◌≡◌, None}
 use Rattle.ring_format.specs.Layout.{layout_fault}
 use Rattle.schema_rules.proofs.LayoutLemmas.{lawful_with}
-use Rattle.schema_rules.proofs.rules.lawful_layout.Goals as goal
+use Rattle.schema_rules.proofs.lists.lawful_layout.Goals as goal
 
 pub unreachable-requires : goal.unreachable-requires
 unreachable-requires c =
