@@ -1,1 +1,6 @@
+pub mod MetricLemmas
 pub mod PickLemmas
+pub mod PickingLemmas
+pub mod QueueLemmas
+pub mod RankLemmas
+pub mod SortLemmas

@@ -58,7 +58,7 @@ inserted_all order m (x ∷ xs) = by (is_lt (order x m)) (inserted_all order m x
     by true more = IsPermutation-trans _ _ _ (IsPermutation-middle (m ∷ []) x xs) (IsPermutation-cons x _ _ more)
     by false more = IsPermutation-refl _
 
-sorted_all : (order : Metric → Metric → Ordering) (xs : Metrics) → IsPermutation xs (sorted_by order xs)
+pub sorted_all : (order : Metric → Metric → Ordering) (xs : Metrics) → IsPermutation xs (sorted_by order xs)
 sorted_all order [] = IsPermutation-refl []
 sorted_all order (x ∷ xs) = IsPermutation-trans _ _ _ (IsPermutation-cons x _ _ (sorted_all order xs)) (inserted_all order x (sorted_by order xs))
 

@@ -1,1 +1,4 @@
 pub mod Pick
+pub mod Picking
+pub mod Queue
+pub mod Rank

@@ -2,6 +2,11 @@
 #![tactic(auto)]
 
 mod laws;
+mod picker;
+mod queue;
+mod rank;
 mod strategy;
+mod waiting;
 
+pub use picker::Picker;
 pub use strategy::Strategy;
