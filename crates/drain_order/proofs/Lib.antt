@@ -4,3 +4,4 @@ pub mod PickingLemmas
 pub mod QueueLemmas
 pub mod RankLemmas
 pub mod SortLemmas
+pub mod StayLemmas

@@ -1,7 +1,7 @@
 -- The place of the path that is picked from the queue.
-use Rattle.std.proofs.Common.{◌≡◌, ◌∙◌, ◌<◌, ◌≤◌, ℕ, Bool, true, false, cond, List, [], ◌∷◌, Option, None, Some, drop, get_or, length, map, nat_lt, slice_get, refl, sym, ap, arith, lt-ltb, true≢false, is_some, inl, inr, if◌then◌else◌, subst}
+use Rattle.std.proofs.Common.{◌≡◌, ◌∙◌, ◌<◌, ◌≤◌, ℕ, Bool, true, false, cond, List, [], ◌∷◌, Option, None, Some, drop, get_or, length, map, nat_lt, remove, slice_get, refl, sym, ap, arith, lt-ltb, true≢false, is_some, inl, inr, if◌then◌else◌, subst}
 use Rattle.std.specs.Prelude.{IsSome, position}
-use Rattle.std.specs.List.{All, position_or_len}
+use Rattle.std.specs.List.{All, IsDistinct, position_or_len}
 use Rattle.std.specs.Str.{bytes_eq}
 use Rattle.std.specs.Map.{keys_of}
 use Rattle.std.proofs.lemmas.Bool.{cases_order}
@@ -19,6 +19,7 @@ use Rattle.drain_order.specs.Picking.{Picking, Picks, TellsPick, after_pick}
 use Rattle.drain_order.specs.declared.strategy.Strategy.{Strategy}
 use Rattle.drain_order.specs.declared.strategy.Strategy.TheVariants.{Sorted}
 use Rattle.drain_order.proofs.PickLemmas.{sorted_all}
+use Rattle.drain_order.proofs.StayLemmas.{front_taken}
 
 same_bytes : (xs : List ℕ) → bytes_eq xs xs ≡ true
 same_bytes xs = (bytes_eq-Decides xs xs).1 refl
@@ -64,9 +65,9 @@ kept_queue false queue seen e some = sym e
 
 -- the place of the path in front of the queue
 pub picks_front : (old new : Picking) (metrics : Metrics) (queue : List (List ℕ)) (path : List ℕ) (place : Option ℕ)
-    → old.strategy ≡ Sorted → queue ≡ queue_now old.queue metrics → AllPending queue metrics → slice_get queue 0 ≡ Some path
+    → old.strategy ≡ Sorted → queue ≡ queue_now old.queue metrics → AllPending queue metrics → IsDistinct bytes_eq queue → slice_get queue 0 ≡ Some path
     → place ≡ place_of metrics path → new ≡ record old { settled = Some (drop 1 queue) } → Picks old new metrics place
-picks_front old new metrics queue path place sorted now pending front at state = by place at
+picks_front old new metrics queue path place sorted now pending once front at state = by place at
   where
     here : IsSome (place_of metrics path)
     here = subst (λ (p : List ℕ). IsSome (place_of metrics p)) (get_or_from_slice_get queue 0 path path front) (pending 0 path (slice_get_within queue 0 path front))
@@ -81,4 +82,8 @@ picks_front old new metrics queue path place sorted now pending front at state =
     by None e = absurd (true≢false (sym (ap is_some e ∙ here)))
     by (Some i) e =
         let names = place_names metrics path i (sym e) in
-        record { told = (names.0, names.1 ∙ picked); state = state ∙ ap (λ q. record old { settled = Some q }) after }
+        record {
+          told = (names.0, names.1 ∙ picked);
+          state = state ∙ ap (λ q. record old { settled = Some q }) after;
+          rest = subst (λ (q : List (List ℕ)). AllPending q (remove metrics i)) after (front_taken metrics queue path i pending once front names.1);
+        }

@@ -1,6 +1,6 @@
 //! What holds of every pick. The functions do nothing: what they ensure is the law.
-ghost use Rattle.std.specs.Prelude.{◌≡◌, ℕ, List, [], None, Some};
-ghost use Rattle.point_cache.specs.Pending.{Metrics};
+ghost use Rattle.std.specs.Prelude.{◌≡◌, ℕ, ℤ, List, [], None, Some};
+ghost use Rattle.point_cache.specs.Pending.{Metrics, with_put};
 ghost use Rattle.drain_order.specs.Pick.{AllPending, IsFirst, IsInOrder, by_age, by_count, pick, queue_now};
 ghost use Rattle.drain_order.specs.declared.strategy.Strategy.{Strategy};
 ghost use Rattle.drain_order.specs.declared.strategy.Strategy.TheVariants.{Max, TimeSorted};
@@ -32,4 +32,9 @@ pub fn something_pending_is_picked()
 #[tactic(auto, using(crate::proofs::PickLemmas::empty_then_none))]
 pub fn nothing_pending_is_not_picked()
     ensures { (strategy : Strategy) (queue : List (List ℕ)) → AllPending queue [] → pick strategy queue [] ≡ None }
+{}
+
+/// A put leaves every path of a queue pending.
+pub fn queue_stays_pending_at_puts()
+    ensures { (queue : List (List ℕ)) (metrics : Metrics) (path : List ℕ) (time : ℕ) (value : ℤ) → AllPending queue metrics → AllPending queue (with_put metrics path time value) }
 {}

@@ -23,13 +23,15 @@ pub struct Picker {
 
 impl Model for Picker {
     ghost use Rattle.std.specs.Prelude.{[], None, Some, if◌then◌else◌, drop};
+    ghost use Rattle.std.specs.List.{IsDistinct};
+    ghost use Rattle.std.specs.Str.{bytes_eq};
     ghost use Rattle.drain_order.specs.Picking.{HasQueueIfSorted, Picking};
 
     ghost Value = { Picking };
 
     ghost view = { λ p. record { strategy = p.strategy; queue = if p.is_made then [] else p.queue; settled = if p.is_picked then Some (drop 1 p.queue) else None } };
 
-    ghost invariant = { λ p. HasQueueIfSorted p.strategy p.queue };
+    ghost invariant = { λ p. HasQueueIfSorted p.strategy p.queue × IsDistinct bytes_eq p.queue };
 }
 
 impl Picker {

@@ -1,4 +1,7 @@
 ghost use Rattle.std.specs.Prelude.{◌≡◌, ◌≢◌, ◌<◌, [], IfOk, IsTrue, ◌↔◌, Some, drop, length, map, option_map, slice_get};
+ghost use Rattle.std.specs.List.{IsDistinct};
+ghost use Rattle.std.specs.Str.{bytes_eq};
+ghost use Rattle.point_cache.specs.Pending.{paths_of};
 ghost use Rattle.drain_order.specs.Pick.{queue_now};
 ghost use Rattle.drain_order.specs.Queue.{waiting_of, waiting_paths};
 
@@ -39,7 +42,8 @@ impl Queue {
 
     /// A queue of all metrics with pending points, most points first, and then by path.
     pub(crate) fn make(alloc: Global, cache: &PointCache) -> Result<Queue, AllocError>
-        ensures { IfOk result (λ queue. queue ≡ queue_now [] cache.now.metrics) }
+        ensures paths { IfOk result (λ queue. queue ≡ queue_now [] cache.now.metrics) }
+        ensures once { IfOk result (IsDistinct bytes_eq) }
     {
         let waiting = sorted(alloc, cache)?;
         Ok(Queue { waiting, next: 0 })
@@ -75,7 +79,8 @@ impl Queue {
 
 /// All metrics with pending points, in the order of the queue.
 fn sorted(alloc: Global, cache: &PointCache) -> Result<Vec<Waiting>, AllocError>
-    ensures { IfOk result (λ all. waiting_paths all.items ≡ queue_now [] cache.now.metrics) }
+    ensures paths { IfOk result (λ all. waiting_paths all.items ≡ queue_now [] cache.now.metrics) }
+    ensures once { IsDistinct bytes_eq (paths_of cache.now.metrics) }
 {
     let mut all = arrived(alloc, cache)?;
     all.sort_unstable();
@@ -84,7 +89,8 @@ fn sorted(alloc: Global, cache: &PointCache) -> Result<Vec<Waiting>, AllocError>
 
 /// All metrics with pending points, in order of arrival.
 fn arrived(alloc: Global, cache: &PointCache) -> Result<Vec<Waiting>, AllocError>
-    ensures { IfOk result (λ all. all.items ≡ map waiting_of cache.now.metrics) }
+    ensures all { IfOk result (λ all. all.items ≡ map waiting_of cache.now.metrics) }
+    ensures once { IsDistinct bytes_eq (paths_of cache.now.metrics) }
 {
     let count = cache.metrics();
     let mut all = Vec::with_capacity(alloc, count)?;

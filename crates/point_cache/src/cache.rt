@@ -1,5 +1,6 @@
 ghost use Rattle.std.specs.Prelude.{◌≡◌, ◌+◌, ◌<◌, ◌≤◌, [], None, Some, IfSome, length, position, remove, slice_get};
 ghost use Rattle.point_cache.specs.Points.{IsRising};
+ghost use Rattle.std.specs.List.{IsDistinct};
 ghost use Rattle.std.specs.Str.{bytes_eq};
 ghost use Rattle.indexmap.specs.IndexMap.{get, keys};
 ghost use Rattle.point_cache.specs.Pending.{Cache, Counts, EachHasPoints, Puts, PutsMetric, ReplacesMetric, added, paths_of, place_of, points_at, points_count, points_of};
@@ -70,6 +71,7 @@ impl PointCache {
     pub fn metrics(&self) -> usize
         ensures metrics { result ≡ length self.now.metrics }
         ensures each { EachHasPoints self.now.metrics }
+        ensures once { IsDistinct bytes_eq (paths_of self.now.metrics) }
     {
         self.metrics.len()
     }

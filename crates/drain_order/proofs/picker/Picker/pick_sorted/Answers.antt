@@ -14,5 +14,5 @@ returns-clause-picks c =
     picks_front c.args.self.now _ c.args.cache.now.metrics c.self-2.inside.queue c.first.result.now c.place_of.result c.requires.sorted
     (standing c.args.cache.now.metrics c.self-2.inside.queue c.first.result.now c.first.ensures ∙ ap (λ (q : List (List ℕ)). queue_now q c.args.cache.now.metrics) (sym kept))
     (rw kept at c.requires.pending)
-    c.first.ensures c.place_of.ensures.place
+    c.self-2.invariant.1 c.first.ensures c.place_of.ensures.place
     (λ j. record { strategy = strategy j; queue = queue j; settled = Some (drop 1 c.self-2.inside.queue) })
