@@ -1,0 +1,4 @@
+pub mod Pick
+pub mod Picking
+pub mod Queue
+pub mod Rank
