@@ -11,3 +11,6 @@ mod server;
 pub use ends::{ServiceEnd, Stop};
 pub use serve::{MOST_INPUT_BYTES, serve_lines};
 pub use server::LineServer;
+
+#[cfg(test)]
+mod tests;
