@@ -1,5 +1,5 @@
 -- A time by its parts before and behind the point.
-use Rattle.std.proofs.Common.{◌≡◌, ℕ, ◌<◌, ◌-◌, Bool, true, false, codes, cond, lt-ltb, ltb-true, ◌&&◌, ◌||◌, not, List, length, take, drop, refl, sym, ap, ◌∙◌, arith, eqb, ltb, Some, None, length-drop}
+use Rattle.std.proofs.Common.{◌≡◌, ℕ, ◌<◌, ◌-◌, Bool, true, false, codes, lt-ltb, ltb-true, ◌&&◌, ◌||◌, not, List, length, take, drop, refl, sym, ap, ◌∙◌, arith, eqb, ltb, Some, None, length-drop}
 use Rattle.std.specs.List.{list_all, list_any, position_or_len}
 use Rattle.std.specs.Char.{is_ascii_digit}
 use Rattle.std.proofs.lemmas.Bool.Decides.{nat_tests}
