@@ -3,7 +3,7 @@ ghost use Rattle.std.specs.Prelude.{◌≡◌, ◌≤◌, ◌+◌, ◌*◌, ◌+
 ghost use Rattle.ring_format.specs.Layout.{point_count};
 ghost use Rattle.ring_format.specs.Head.{head_bytes, number_bytes, row_bytes, rows_bytes, rows_of};
 
-use crate::archive::{Archive, MOST_ARCHIVES};
+use crate::archive::Archive;
 use crate::cell::CELL;
 use crate::layout::{Layout, head_size};
 use crate::method::number_of_method;
@@ -15,7 +15,7 @@ pub(crate) const FRONT_BYTES: usize = 16;
 pub(crate) const ROW_BYTES: usize = 12;
 
 /// The most bytes of a head, 316: those of 25 archives.
-pub const HEAD_BYTES: usize = FRONT_BYTES + ROW_BYTES * MOST_ARCHIVES;
+pub const HEAD_BYTES: usize = 316;
 
 /// Writes a layout's head to the front of `out`, and answers its length; what stands behind it is left
 /// as it was.
