@@ -1,6 +1,6 @@
 -- The paths of a queue stay pending: after a put, and after the metric in front is taken.
-use Rattle.std.proofs.Common.{◌≡◌, ◌≢◌, ◌∙◌, ◌<◌, ◌||◌, ℕ, ℤ, Bool, true, false, if◌then◌else◌, List, [], ◌∷◌, Some, None, drop, get_or, length, map, remove, slice_get, suc, zero, refl, sym, ap, arith, is_some, subst, Option, Result, Ok, Err, IfOk, IfSome, OnErr, true≢false, unwrap_or}
-use Rattle.std.specs.List.{All, AllByRecursion, IsDistinct, list_any}
+use Rattle.std.proofs.Common.{◌≡◌, ◌≢◌, ◌∙◌, ◌||◌, ℕ, ℤ, Bool, true, false, if◌then◌else◌, List, [], ◌∷◌, Some, None, drop, get_or, remove, slice_get, suc, zero, refl, sym, ap, arith, is_some, subst, Option, Result, Ok, Err, IfOk, IfSome, OnErr, true≢false, unwrap_or}
+use Rattle.std.specs.List.{IsDistinct, list_any}
 use Rattle.std.specs.Str.{bytes_eq}
 use Rattle.std.proofs.lemmas.List.Elements.{All-from_recursion}
 use Rattle.std.proofs.lemmas.List.Sorted.{IsPermutation-map}
@@ -13,7 +13,7 @@ use Rattle.indexmap.proofs.MapLemmas.{distinct-drop, distinct_permutation, some_
 use Rattle.point_cache.specs.Pending.{Cache, Metrics, Puts, paths_of, place_of, with_put}
 use Rattle.point_cache.specs.declared.put.Put.{Put}
 use Rattle.point_cache.specs.declared.put.Put.TheVariants.{Full, NoMemory, Replaced, Stored}
-use Rattle.drain_order.specs.Pick.{AllPending, Metric, by_count, queue_after, queue_now, sorted_by}
+use Rattle.drain_order.specs.Pick.{AllPending, Metric, by_count, queue_after, queue_now}
 use Rattle.drain_order.specs.Picking.{HasQueueIfSorted, Picking, Picks}
 use Rattle.drain_order.specs.declared.strategy.Strategy.{Strategy}
 use Rattle.drain_order.specs.declared.strategy.Strategy.TheVariants.{Max, Sorted, TimeSorted, Naive}
