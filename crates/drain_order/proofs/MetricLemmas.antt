@@ -1,5 +1,5 @@
 -- The parts of a metric at a place.
-use Rattle.std.proofs.Common.{◌≡◌, ◌∙◌, ◌<◌, ℕ, ℤ, List, [], ◌∷◌, Some, length, get_or, slice_get, suc, zero, refl, sym, arith}
+use Rattle.std.proofs.Common.{◌≡◌, ◌<◌, ℕ, ℤ, List, [], ◌∷◌, Some, length, get_or, slice_get, suc, zero, refl, arith}
 use Rattle.std.proofs.lemmas.Option.{slice_get_within}
 use Rattle.std.specs.Map.{values_of}
 use Rattle.point_cache.specs.Pending.{Metrics, paths_of}

@@ -1,9 +1,8 @@
 -- The place of the path that is picked from the queue.
-use Rattle.std.proofs.Common.{◌≡◌, ◌∙◌, ◌<◌, ◌≤◌, ℕ, Bool, true, false, cond, List, [], ◌∷◌, Option, None, Some, drop, get_or, length, map, nat_lt, remove, slice_get, refl, sym, ap, arith, lt-ltb, true≢false, is_some, inl, inr, if◌then◌else◌, subst}
+use Rattle.std.proofs.Common.{◌≡◌, ◌∙◌, ◌<◌, ◌≤◌, ℕ, Bool, true, false, List, [], ◌∷◌, Option, None, Some, drop, get_or, length, nat_lt, remove, slice_get, refl, sym, ap, arith, lt-ltb, true≢false, is_some, inl, inr, if◌then◌else◌, subst}
 use Rattle.std.specs.Prelude.{IsSome, position}
-use Rattle.std.specs.List.{All, IsDistinct, position_or_len}
+use Rattle.std.specs.List.{IsDistinct, position_or_len}
 use Rattle.std.specs.Str.{bytes_eq}
-use Rattle.std.specs.Map.{keys_of}
 use Rattle.std.proofs.lemmas.Bool.{cases_order}
 use Rattle.std.proofs.lemmas.List.{get_or-map}
 use Rattle.std.proofs.lemmas.List.Elements.{All-map}
@@ -15,8 +14,7 @@ use Rattle.std.proofs.lemmas.Option.{get_or_from_slice_get, slice_get-get_or, sl
 use Rattle.std.proofs.lemmas.Slice.Eq.{bytes_eq-Decides}
 use Rattle.point_cache.specs.Pending.{Metrics, paths_of, place_of}
 use Rattle.drain_order.specs.Pick.{AllPending, Metric, by_count, pick, queue_after, queue_now, sorted_by}
-use Rattle.drain_order.specs.Picking.{Picking, Picks, TellsPick, after_pick}
-use Rattle.drain_order.specs.declared.strategy.Strategy.{Strategy}
+use Rattle.drain_order.specs.Picking.{Picking, Picks, TellsPick}
 use Rattle.drain_order.specs.declared.strategy.Strategy.TheVariants.{Sorted}
 use Rattle.drain_order.proofs.PickLemmas.{sorted_all}
 use Rattle.drain_order.proofs.StayLemmas.{front_taken}

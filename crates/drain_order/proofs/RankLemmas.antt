@@ -1,5 +1,5 @@
 -- The walk that finds the first metric by rank.
-use Rattle.std.proofs.Common.{◌≡◌, ◌∙◌, ◌<◌, ◌+◌, ℕ, true, false, [], ◌∷◌, Some, length, get_or, slice_get, sym, ap, arith}
+use Rattle.std.proofs.Common.{◌≡◌, ◌∙◌, ◌<◌, ◌+◌, ℕ, true, false, [], ◌∷◌, Some, length, get_or, slice_get, ap, arith}
 use Rattle.std.specs.Cmp.{IsTotalOrder, IsStrictWeakOrder}
 use Rattle.std.specs.List.{IsFirstBest}
 use Rattle.std.specs.Ordering.{is_lt}

@@ -1,6 +1,6 @@
 -- The paths of a queue stay pending: after a put, and after the metric in front is taken.
-use Rattle.std.proofs.Common.{◌≡◌, ◌≢◌, ◌∙◌, ◌<◌, ◌||◌, ℕ, ℤ, Bool, true, false, if◌then◌else◌, List, [], ◌∷◌, Some, None, drop, get_or, length, map, remove, slice_get, suc, zero, refl, sym, ap, arith, is_some, subst, true≢false, unwrap_or}
-use Rattle.std.specs.List.{All, AllByRecursion, IsDistinct, list_any}
+use Rattle.std.proofs.Common.{◌≡◌, ◌≢◌, ◌∙◌, ◌||◌, ℕ, ℤ, Bool, true, false, if◌then◌else◌, List, [], ◌∷◌, Some, None, drop, get_or, remove, slice_get, suc, zero, refl, sym, ap, arith, is_some, subst, Option, Result, Ok, Err, IfOk, IfSome, OnErr, true≢false, unwrap_or}
+use Rattle.std.specs.List.{IsDistinct, list_any}
 use Rattle.std.specs.Str.{bytes_eq}
 use Rattle.std.proofs.lemmas.List.Elements.{All-from_recursion}
 use Rattle.std.proofs.lemmas.List.Sorted.{IsPermutation-map}
@@ -10,9 +10,11 @@ use Rattle.std.proofs.lemmas.Slice.Eq.{bytes_eq-Decides}
 use Rattle.std.proofs.lemmas.Cmp.{nat_list_eq_equiv}
 use Rattle.indexmap.specs.IndexMap.{insert_entry}
 use Rattle.indexmap.proofs.MapLemmas.{distinct-drop, distinct_permutation, some_index}
-use Rattle.point_cache.specs.Pending.{Metrics, paths_of, place_of, with_put}
-use Rattle.drain_order.specs.Pick.{AllPending, Metric, by_count, queue_after, queue_now, sorted_by}
-use Rattle.drain_order.specs.Picking.{HasQueueIfSorted}
+use Rattle.point_cache.specs.Pending.{Cache, Metrics, Puts, paths_of, place_of, with_put}
+use Rattle.point_cache.specs.declared.put.Put.{Put}
+use Rattle.point_cache.specs.declared.put.Put.TheVariants.{Full, NoMemory, Replaced, Stored}
+use Rattle.drain_order.specs.Pick.{AllPending, Metric, by_count, queue_after, queue_now}
+use Rattle.drain_order.specs.Picking.{HasQueueIfSorted, Picking, Picks}
 use Rattle.drain_order.specs.declared.strategy.Strategy.{Strategy}
 use Rattle.drain_order.specs.declared.strategy.Strategy.TheVariants.{Max, Sorted, TimeSorted, Naive}
 use Rattle.drain_order.proofs.PickLemmas.{sorted_all}
@@ -55,6 +57,16 @@ pub put_keeps_pending : (queue : List (List ℕ)) (metrics : Metrics) (path : Li
 put_keeps_pending queue metrics path time value pending k d lt =
     let q = get_or queue k d in
     any_is_pending (with_put metrics path time value) q ∙ any_put (bytes_eq q) metrics path _ (sym (any_is_pending metrics q) ∙ pending k d lt)
+
+-- whatever a put makes of a cache, the paths of a queue stay pending
+pub puts_keep_pending : (queue : List (List ℕ)) (old new : Cache) (path : List ℕ) (time : ℕ) (value : ℤ) (put : Put) → Puts old new path time value put
+    → AllPending queue old.metrics → AllPending queue new.metrics
+puts_keep_pending queue old new path time value Stored puts pending =
+    subst (λ (c : Cache). AllPending queue c.metrics) (sym puts.1.1) (put_keeps_pending queue old.metrics path time value pending)
+puts_keep_pending queue old new path time value Replaced puts pending =
+    subst (λ (c : Cache). AllPending queue c.metrics) (sym puts.1) (put_keeps_pending queue old.metrics path time value pending)
+puts_keep_pending queue old new path time value Full puts pending = subst (λ (c : Cache). AllPending queue c.metrics) (sym puts.1.1) pending
+puts_keep_pending queue old new path time value NoMemory puts pending = subst (λ (c : Cache). AllPending queue c.metrics) (sym puts.1.1) pending
 
 other_bytes : (xs ys : List ℕ) → bytes_eq xs ys ≡ false → bytes_eq ys xs ≡ false
 other_bytes xs ys h = by (bytes_eq ys xs) refl
@@ -107,3 +119,17 @@ rest_if_sorted Naive queue e = ap (drop 1) e
 pub none_once : IsDistinct bytes_eq []
 unfolding IsDistinct
 none_once = tt
+
+-- a pick leaves the queue
+pub pick_keeps_queue : {E : Type 0} (old new : Picking) (metrics : Metrics) (result : Result (Option ℕ) E) → IfOk result (Picks old new metrics)
+    → OnErr result (new ≡ old) → new.queue ≡ old.queue
+pick_keeps_queue old new metrics (Ok None) picks err = ap (λ (p : Picking). p.queue) picks.state
+pick_keeps_queue old new metrics (Ok (Some place)) picks err = ap (λ (p : Picking). p.queue) picks.state
+pick_keeps_queue old new metrics (Err e) picks err = ap (λ (p : Picking). p.queue) err
+
+-- once the metric is taken and the pick is settled, the paths of the queue are pending
+pub drained_keeps_pending : (old picked now : Picking) (metrics : Metrics) (place : ℕ) → Picks old picked metrics (Some place)
+    → IfSome picked.settled (λ queue. now ≡ record { strategy = picked.strategy; queue = queue; settled = None }) → AllPending now.queue (remove metrics place)
+drained_keeps_pending old picked now metrics place picks settled =
+    let used = subst (λ (s : Option (List (List ℕ))). IfSome s (λ queue. now ≡ record { strategy = picked.strategy; queue = queue; settled = None })) (ap (λ (p : Picking). p.settled) picks.state) settled in
+    subst (λ (q : List (List ℕ)). AllPending q (remove metrics place)) (sym (ap (λ (p : Picking). p.queue) used)) picks.rest

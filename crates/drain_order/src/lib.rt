@@ -10,3 +10,6 @@ mod waiting;
 
 pub use picker::Picker;
 pub use strategy::Strategy;
+
+#[cfg(test)]
+mod tests;

@@ -1,4 +1,4 @@
-use Rattle.std.proofs.Common.{◌≡◌, ◌+◌, ◌∙◌, sym, ap, arith, length}
+use Rattle.std.proofs.Common.{◌≡◌, ◌+◌, ◌∙◌, ap, length}
 use Rattle.point_cache.proofs.PendingLemmas.{counts_new}
 use Rattle.point_cache.proofs.cache.put_first.Goals as goal
 

@@ -1,4 +1,4 @@
-use Rattle.std.proofs.Common.{◌≡◌, ◌∙◌, [], List, ℕ, Some, ap, drop, sym}
+use Rattle.std.proofs.Common.{◌∙◌, List, ℕ, Some, ap, drop, sym}
 use Rattle.drain_order.specs.Pick.{queue_now}
 use Rattle.drain_order.specs.Picking.{Picking}
 use Rattle.drain_order.proofs.PickingLemmas.{made_pending, picks_front}

@@ -1,5 +1,5 @@
 use Rattle.std.proofs.Common.{◌≡◌, ◌∙◌, [], Bool, List, ℕ, Some, ap, drop, if◌then◌else◌, sym, true≢false}
-use Rattle.drain_order.specs.Pick.{AllPending, queue_now}
+use Rattle.drain_order.specs.Pick.{queue_now}
 use Rattle.drain_order.specs.Picking.{Picking}
 use Rattle.drain_order.proofs.PickingLemmas.{kept_queue, picks_front, standing}
 use Rattle.drain_order.proofs.picker.Picker.pick_sorted.Goals as goal
