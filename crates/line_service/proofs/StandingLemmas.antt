@@ -1,25 +1,20 @@
 -- How a service gets on, line by line and piece by piece.
-use Rattle.std.proofs.Common.{◌≡◌, ℕ, ◌+◌, ◌<◌, ◌≤◌, ◌^◌, List, [], ◌∷◌, ◌++◌, Option, Some, None, length, refl, sym, ap, ◌∙◌, subst, append_assoc, append-nil, arith, length-append}
+use Rattle.std.proofs.Common.{◌≡◌, ℕ, ◌+◌, ◌<◌, ◌^◌, List, [], ◌∷◌, ◌++◌, Option, Some, length, refl, sym, ap, ◌∙◌, subst, append_assoc, append-nil, arith, length-append}
 use Rattle.std.specs.Io.KnownBytes.{Consumes, Keeps, IsAtEnd}
-use Rattle.line_frame.specs.Lines.{Line, Whole, TooLong, Framing, HandsOut, lines, open_text}
+use Rattle.line_frame.specs.Lines.{Line, Whole, TooLong, Framing, lines, open_text}
 use Rattle.line_frame.specs.Calls.{Feeds, HandsNext}
 use Rattle.line_frame.specs.declared.framer.Framed.{Framed}
 use Rattle.line_frame.specs.declared.framer.Framed.TheVariants as framed
-use Rattle.line_frame.proofs.FramingLemmas.{HandsOut-none}
 use Rattle.line_frame.proofs.LineLemmas.{lines-append}
 use Rattle.outside_io.proofs.Known.{Consumes-none, Consumes-more, Consumes-kept}
 use Rattle.line_service.specs.declared.ends.Stop.{Stop}
 use Rattle.line_service.specs.declared.ends.ServiceEnd.TheVariants as end
 use Rattle.line_service.specs.declared.serve.PieceFault.TheVariants as piece
-use Rattle.line_service.specs.Service.{At, Serves, Stops, StepOf, Chain, ServesFirst, StopsAt, Service}
-use Rattle.line_service.specs.Standing.{ServesFramed, StopsFramed, ServesTo, Served, TakesPiece, BreaksOff, Reached}
+use Rattle.line_service.specs.Service.{At, Serves, Stops, StepOf, Chain, StopsAt, Service}
+use Rattle.line_service.specs.Standing.{ServesFramed, StopsFramed, ServesTo, TakesPiece, BreaksOff, Reached}
 use Rattle.line_service.proofs.ChainLemmas.{chain_append, chain_more}
 
 -- ---- the lines that wait
-
--- no line was served yet
-pub serves_to_none : {P : Type 0} (step : P → Line → P → Type 0) (f : Framing) (p : P) → ServesTo step f p f p
-serves_to_none step f p = record { handed = []; split = refl; chain = refl; open_line = refl }
 
 -- one more line is served
 serves_to_line : {P : Type 0} (step : P → Line → P → Type 0) (f f1 f2 : Framing) (p p1 p2 : P) (line : Line)
@@ -38,16 +33,6 @@ serves_to_framed serves framed.Line f f1 f2 p p1 p2 s hands same does =
     serves_to_line (StepOf serves) f f1 f2 p p1 p2 (Whole hands.0) s hands.1 same (does (Whole hands.0) (hands.0, (hands.2, refl)))
 serves_to_framed serves framed.TooLong f f1 f2 p p1 p2 s hands same does =
     serves_to_line (StepOf serves) f f1 f2 p p1 p2 TooLong s hands.0 same (does TooLong refl)
-
--- no line waits any more
-pub serves_to_end : {P : Type 0} (step : P → Line → P → Type 0) (f f1 f2 : Framing) (p p1 : P)
-    → ServesTo step f p f1 p1 → HandsNext None f1 f2 → f2.open_line ≡ f1.open_line → ServesTo step f p f2 p1
-serves_to_end step f f1 f2 p p1 s hands same = record {
-  handed = s.handed;
-  split = s.split ∙ ap (λ (ls : List Line). s.handed ++ ls) (hands.0 ∙ sym hands.1);
-  chain = s.chain;
-  open_line = same ∙ s.open_line;
-}
 
 -- the server stops at the line that was handed out
 pub stops_framed : {L : Type 0} (serves : Serves L) (stops : Stops L) (stop : Stop) (handed : Framed) (f f1 f2 : Framing) (p p1 p2 : At L)
@@ -115,20 +100,6 @@ breaks_stop serves stops stop f f1 p p2 bytes feeds s from taken served =
 
 -- ---- the input
 
--- before the first read
-pub reached_none : {P : Type 0} (step : P → Line → P → Type 0) (left : Option (List ℕ)) (p : P) (f : Framing)
-    → f ≡ record { waiting = []; open_line = Whole []; current = [] } → Reached step left p 0 left f p
-reached_none step left p f new = record {
-  taken = [];
-  consumed = Consumes-none left;
-  counted = refl;
-  served = record {
-    hands = subst (HandsOut [] []) (sym new) HandsOut-none;
-    chain = refl;
-    all = ap (λ (f : Framing). f.waiting) new;
-  };
-}
-
 -- one more piece was read, and its lines were served
 pub reached_more : {P : Type 0} (step : P → Line → P → Type 0) (left left1 left2 : Option (List ℕ)) (p p1 p2 : P) (f1 f2 : Framing) (count n : ℕ) (bytes : List ℕ)
     → Reached step left p count left1 f1 p1 → Consumes left1 left2 bytes → length bytes ≡ n → TakesPiece step f1 p1 bytes f2 p2
@@ -155,11 +126,6 @@ pub ends_failed : {L : Type 0} (serves : Serves L) (stops : Stops L) (left left1
     → Reached (StepOf serves) left p count left1 f1 p1 → Keeps left1 left2 → Service serves stops end.ReadFault left p left2 p1
 ends_failed serves stops left left1 left2 p p1 f1 count r keeps =
     (r.taken, (Consumes-kept left left1 left2 r.taken r.consumed keeps, r.served.chain))
-
--- the most bytes were taken
-pub ends_limit : {L : Type 0} (serves : Serves L) (stops : Stops L) (left left1 : Option (List ℕ)) (p p1 : At L) (f1 : Framing) (count : ℕ)
-    → Reached (StepOf serves) left p count left1 f1 p1 → count ≡ 2 ^ 40 → Service serves stops end.Limit left p left1 p1
-ends_limit serves stops left left1 p p1 f1 count r most = (r.taken, (r.consumed, (r.served.chain, r.counted ∙ most)))
 
 -- no memory for a piece
 pub ends_memory : {L : Type 0} (serves : Serves L) (stops : Stops L) (left left1 left2 : Option (List ℕ)) (p p1 p2 : At L) (f1 : Framing) (count : ℕ) (bytes : List ℕ)

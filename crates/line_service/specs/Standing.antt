@@ -1,5 +1,5 @@
 -- Where a service stands in the middle of its input.
-use Rattle.std.specs.Prelude.{◌≡◌, ◌≢◌, ℕ, List, [], ◌∷◌, ◌++◌, Option, length, Some}
+use Rattle.std.specs.Prelude.{◌≡◌, ◌≢◌, ℕ, List, [], ◌∷◌, ◌++◌, Option, length}
 use Rattle.std.specs.Io.KnownBytes.{Consumes}
 use Rattle.line_frame.specs.Lines.{Line, Whole, TooLong, Framing, HandsOut, lines}
 use Rattle.line_frame.specs.declared.framer.Framed.{Framed}
