@@ -1,6 +1,6 @@
-ghost use Rattle.std.specs.Prelude.{◌≡◌, [], IfOk, IfErr};
+ghost use Rattle.std.specs.Prelude.{◌≡◌, ◌+◌, [], IfOk, IfErr, length};
 ghost use Rattle.point_cache.specs.Points.{IsRising, IsPlaceOf, IsPlaceFor, PutsAt};
-ghost use Rattle.point_cache.specs.Pending.{PutsPoint};
+ghost use Rattle.point_cache.specs.Pending.{PutsPoint, ReplacesPoint, added};
 
 use crate::Put;
 use fixed_num::Milli;
@@ -44,11 +44,27 @@ impl Points {
         self.pairs.as_slice()
     }
 
+    /// How many points there are.
+    pub fn len(&self) -> usize
+        ensures { result ≡ length self.now }
+    {
+        self.pairs.len()
+    }
+
     /// Puts a point: at a time that is there its value is replaced, which takes no memory.
     pub fn put(&mut self, time: u32, value: Milli) -> Put
-        ensures { PutsPoint self.old self.new time value result }
+        ensures put { PutsPoint self.old self.new time value result }
+        ensures count { length self.new ≡ length self.old + added result }
     {
         put_pair(&mut self.pairs, time, value)
+    }
+
+    /// Puts a point where no new one has room: `Full` where its time is not there.
+    pub(crate) fn replace(&mut self, time: u32, value: Milli) -> Put
+        ensures put { ReplacesPoint self.old self.new time value result }
+        ensures count { length self.new ≡ length self.old + added result }
+    {
+        replace_pair(&mut self.pairs, time, value)
     }
 }
 
@@ -57,6 +73,7 @@ fn put_pair(pairs: &mut Vec<(u32, Milli)>, time: u32, value: Milli) -> Put
     requires { IsRising pairs.old.items }
     ensures put { PutsPoint pairs.old.items pairs.new.items time value result }
     ensures rising { IsRising pairs.new.items }
+    ensures count { length pairs.new.items ≡ length pairs.old.items + added result }
 {
     match find(pairs, time) {
         Ok(place) => {
@@ -67,6 +84,22 @@ fn put_pair(pairs: &mut Vec<(u32, Milli)>, time: u32, value: Milli) -> Put
             Ok(()) => Put::Stored,
             Err(_) => Put::NoMemory,
         },
+    }
+}
+
+/// Replaces a pair of pairs of rising time.
+fn replace_pair(pairs: &mut Vec<(u32, Milli)>, time: u32, value: Milli) -> Put
+    requires { IsRising pairs.old.items }
+    ensures put { ReplacesPoint pairs.old.items pairs.new.items time value result }
+    ensures rising { IsRising pairs.new.items }
+    ensures count { length pairs.new.items ≡ length pairs.old.items + added result }
+{
+    match find(pairs, time) {
+        Ok(place) => {
+            pairs[place] = (time, value);
+            Put::Replaced
+        }
+        Err(_) => Put::Full,
     }
 }
 
