@@ -107,26 +107,34 @@ layout_known false given None layout known = absurd (none-some layout known)
 layout_known false given (Some k) layout known = sym (same_some k.layout layout known)
 
 -- the layouts and the disk of a class after a drain
-pub holds_after : (fresh : Bool) (given : LayoutValue) (opening : Image) (class : ℕ) (layouts layouts' : LayoutsByPath) (known known' : Option Image) (kept : List ℕ → Option Kept) (path : List ℕ) (layout : LayoutValue) (now : ℕ) (points : List (ℕ × ℤ))
-    → layout_fault layout.archives layout.factor ≡ None → IsOfClass class path → read_before fresh given (kept path) layout → IndexedWith layouts layouts' path layout
+pub holds_after : (fresh : Bool) (given : LayoutValue) (told : Option Image) (class : ℕ) (layouts layouts' : LayoutsByPath) (known known' : Option Image) (kept : List ℕ → Option Kept) (path : List ℕ) (layout : LayoutValue) (now : ℕ) (points : List (ℕ × ℤ))
+    → IfSome known (λ image. layout_fault layout.archives layout.factor ≡ None) → IsOfClass class path → read_before fresh given (kept path) layout → IndexedWith layouts layouts' path layout
     → WhereKnown known known' (λ before after. DrainsFile fresh before after (file_name_of path) layout now points)
-    → HoldsKept opening class layouts known kept → HoldsKept opening class layouts' known' (with_drained kept path given now points)
-holds_after fresh given opening class layouts layouts' None known' kept path layout now points lawful one was indexed drains holds = absurd holds.files
-holds_after fresh given opening class layouts layouts' (Some before) None kept path layout now points lawful one was indexed drains holds = absurd drains
-holds_after fresh given opening class layouts layouts' (Some before) (Some after) kept path layout now points lawful one was indexed drains holds = record {
+    → HoldsKept told class layouts known kept → HoldsKept told class layouts' known' (with_drained kept path given now points)
+holds_after fresh given told class layouts layouts' known known' kept path layout now points lawful one was indexed drains holds = record {
   index = index_after class given layouts layouts' kept path layout now points (layout_known fresh given (kept path) layout was) indexed holds.index;
-  files = stands_after fresh given opening before after kept class path layout now points lawful one was holds.files drains;
+  files = files_after told known known' lawful holds.files drains;
 }
+  where
+    files_after : (t k k' : Option Image) → IfSome k (λ image. layout_fault layout.archives layout.factor ≡ None) → WhereKnown t k (λ opening now. Stands opening now kept class)
+        → WhereKnown k k' (λ before after. DrainsFile fresh before after (file_name_of path) layout now points)
+        → WhereKnown t k' (λ opening now'. Stands opening now' (with_drained kept path given now points) class)
+    files_after None None None l files d = tt
+    files_after None None (Some after) l files d = absurd d
+    files_after None (Some before) k' l files d = absurd files
+    files_after (Some opening) None k' l files d = absurd files
+    files_after (Some opening) (Some before) None l files d = absurd d
+    files_after (Some opening) (Some before) (Some after) l files d = stands_after fresh given opening before after kept class path layout now points l one was files d
 
 no_layout : (kept : Option Kept) → None ≡ option_map (λ (k : Kept). k.layout) kept → kept ≡ None
 no_layout None e = refl
 no_layout (Some k) e = absurd (none-some k.layout e)
 
 -- what the layouts tell of a path: a metric without a layout has no file, and one with a layout has one of it
-pub was_fresh : (given : LayoutValue) (opening : Image) (class : ℕ) (layouts : LayoutsByPath) (known : Option Image) (kept : List ℕ → Option Kept) (path : List ℕ) → IsOfClass class path → None ≡ lookup (bytes_eq path) layouts
-    → HoldsKept opening class layouts known kept → read_before true given (kept path) given
-was_fresh given opening class layouts known kept path one none holds = (no_layout (kept path) (none ∙ holds.index path one), refl)
+pub was_fresh : (given : LayoutValue) (told : Option Image) (class : ℕ) (layouts : LayoutsByPath) (known : Option Image) (kept : List ℕ → Option Kept) (path : List ℕ) → IsOfClass class path → None ≡ lookup (bytes_eq path) layouts
+    → HoldsKept told class layouts known kept → read_before true given (kept path) given
+was_fresh given told class layouts known kept path one none holds = (no_layout (kept path) (none ∙ holds.index path one), refl)
 
-pub was_kept : (given : LayoutValue) (opening : Image) (class : ℕ) (layouts : LayoutsByPath) (known : Option Image) (kept : List ℕ → Option Kept) (path : List ℕ) (layout : LayoutValue) → IsOfClass class path
-    → Some layout ≡ lookup (bytes_eq path) layouts → HoldsKept opening class layouts known kept → read_before false given (kept path) layout
-was_kept given opening class layouts known kept path layout one found holds = sym (holds.index path one) ∙ sym found
+pub was_kept : (given : LayoutValue) (told : Option Image) (class : ℕ) (layouts : LayoutsByPath) (known : Option Image) (kept : List ℕ → Option Kept) (path : List ℕ) (layout : LayoutValue) → IsOfClass class path
+    → Some layout ≡ lookup (bytes_eq path) layouts → HoldsKept told class layouts known kept → read_before false given (kept path) layout
+was_kept given told class layouts known kept path layout one found holds = sym (holds.index path one) ∙ sym found
