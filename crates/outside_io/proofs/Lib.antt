@@ -1,3 +1,4 @@
 pub mod Known
 pub mod Ranges
 mod FileNames
+pub mod FrameLemmas

@@ -1,4 +1,5 @@
 pub mod Faults
+pub mod Frames
 pub mod Calls
 pub mod Source
 pub mod Sink
