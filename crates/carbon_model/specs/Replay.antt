@@ -103,6 +103,10 @@ DrainsClasses s pass (suc class) now entries =
     (before : List Entry) × (last : List Entry) × ((entries ≡ before ++ last)
     × (DrainsClasses s pass class now before × DrainsClass (replay s before) pass class now last))
 
+-- all classes are
+unfoldable pub DrainsAll : State → ℕ → ℕ → List Entry → Type 0
+DrainsAll s pass now entries = DrainsClasses s pass 16 now entries
+
 -- the classes below this one are drained whole, and some metrics of this one
 abbrev pub DrainsUpTo : State → ℕ → ℕ → ℕ → List Entry → Type 0
 DrainsUpTo s pass class now entries =

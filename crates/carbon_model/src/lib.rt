@@ -5,5 +5,5 @@
 mod laws;
 mod series;
 
-pub use laws::{fronts_are_legal, replay_in_parts};
+pub use laws::{classes_are_independent, fronts_are_legal, replay_in_parts};
 pub use series::{Series, Values};

@@ -11,7 +11,7 @@ use Rattle.metric_line.specs.declared.fault.LineFault.{LineFault}
 use Rattle.metric_line.specs.LineDatum.{datum_of}
 use Rattle.metric_line.specs.Point.{Point}
 use Rattle.line_frame.specs.Lines.{Line, Whole, TooLong}
-use Rattle.carbon_model.specs.declared.question.Question.{Question}
+use Rattle.carbon_script.specs.declared.question.Question.{Question}
 
 -- A line is a metric line, with its point or the reason why it is refused, or too long to be read; or it sets the clock, asks, has all
 -- drained, or is an unknown command.

@@ -3,7 +3,7 @@ use Rattle.std.specs.Prelude.{ℕ, ◌+◌, ◌-◌, ◌^◌, min}
 use Rattle.carbon_history.specs.declared.entry.PutEnd.{PutEnd}
 use Rattle.metric_line.specs.declared.fault.LineFault.{LineFault}
 use Rattle.metric_line.specs.declared.fault.LineFault.TheVariants.{Fields, Path, Value, Time, NoMemory}
-use Rattle.carbon_model.specs.declared.counts.Counts.{Counts}
+use Rattle.carbon_script.specs.declared.counts.Counts.{Counts}
 use Rattle.carbon_history.specs.declared.entry.PutEnd.TheVariants.{Stored, Replaced, Full}
 
 abbrev pub no_counts : Counts

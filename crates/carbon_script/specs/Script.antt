@@ -1,26 +1,26 @@
 -- The run of a script: what a carbon on one thread does with lines and commands.
-use Rattle.std.specs.Prelude.{◌≡◌, ℕ, zero, suc, ◌+◌, ◌-◌, ◌==◌, Bool, true, false, max, List, [], ◌∷◌, ◌++◌, length, map, fold, codes, decimal, count_by, if◌then◌else◌}
+use Rattle.std.specs.Prelude.{◌≡◌, ◌⊎◌, ◌≤◌, ℕ, ◌+◌, ◌==◌, Bool, true, false, max, List, [], ◌∷◌, ◌++◌, length, fold, codes, decimal, count_by, if◌then◌else◌}
 use Rattle.line_frame.specs.Lines.{Line, lines}
 use Rattle.line_frame.specs.Machine.{Runs}
+use Rattle.metric_path.specs.Class.{class_of}
 use Rattle.metric_line.specs.Point.{Point}
-use Rattle.ring_format.specs.Layout.{LayoutValue}
 use Rattle.carbon_history.specs.declared.entry.Entry.{Entry}
 use Rattle.carbon_history.specs.declared.entry.Entry.TheVariants as entry
 use Rattle.carbon_history.specs.declared.entry.PutEnd.{PutEnd}
 use Rattle.carbon_model.specs.State.{State}
-use Rattle.carbon_model.specs.RingFiles.{opening_state}
-use Rattle.outside_io.specs.Image.{Image}
-use Rattle.carbon_model.specs.Replay.{IsLegal, after, replay}
-use Rattle.carbon_model.specs.Answer.{answer_text, series_at}
-use Rattle.carbon_model.specs.Command.{Command, Metric, Refused, Long, Clock, Ask, DrainAll, Bad, command_of}
-use Rattle.carbon_model.specs.declared.counts.Counts.{Counts}
-use Rattle.carbon_model.specs.declared.question.Question.{Question}
-use Rattle.carbon_model.specs.Counts.{no_counts, counted, refused, overlong}
+use Rattle.carbon_model.specs.Replay.{DrainsAll, DrainsUpTo, IsLegal, replay}
+use Rattle.carbon_model.specs.Series.{series_at}
+use Rattle.carbon_script.specs.Answer.{answer_text}
+use Rattle.carbon_script.specs.Command.{Command, Metric, Refused, Long, Clock, Ask, DrainAll, Bad, command_of}
+use Rattle.carbon_script.specs.Counts.{no_counts, counted, refused, overlong}
+use Rattle.carbon_script.specs.declared.counts.Counts.{Counts}
+use Rattle.carbon_script.specs.declared.question.Question.{Question}
 
--- where a script stands: the state, its clock, its counts, and the entries that it made
+-- Where a script stands: the state, its clock, which classes owe the rest of a drain that was begun, its counts, and the entries that it made.
 pub record Machine : Type 0 where
   pub state : State
   pub clock : ℕ
+  pub owes : ℕ → Bool
   pub counts : Counts
   pub entries : List Entry
 
@@ -28,9 +28,17 @@ pub record Machine : Type 0 where
 abbrev pub first_clock : ℕ
 first_clock = 1700000000
 
--- where a script under these rules begins over disks with these images
-abbrev pub opening : (List ℕ → LayoutValue) → (ℕ → Image) → Machine
-opening rules images = record { state = opening_state rules images; clock = first_clock; counts = no_counts; entries = [] }
+-- where a script begins in a state
+abbrev pub opening : State → Machine
+opening state = record { state = state; clock = first_clock; owes = λ class. false; counts = no_counts; entries = [] }
+
+-- the machine after more entries, which change its state
+abbrev pub with_entries : Machine → List Entry → Machine
+with_entries m entries = record m { state = replay m.state entries; entries = m.entries ++ entries }
+
+-- and with no class that owes anything
+abbrev pub settled : Machine → Machine
+settled m = record m { owes = λ class. false }
 
 -- the number of a question in a pass, and 0 of anything else
 abbrev pub ask_number : ℕ → Entry → ℕ
@@ -50,6 +58,10 @@ put_entry point end = entry.Put 0 point.path point.time point.value end
 abbrev pub ask_entry : Machine → Entry
 ask_entry m = entry.Ask 0 (greatest_ask 0 m.entries + 1) 1 m.clock
 
+-- the entry of a failed disk of a class
+abbrev pub fault_entry : ℕ → Entry
+fault_entry class = entry.Fault 0 class
+
 unfoldable pub bad_command : List ℕ
 bad_command = codes "bad command\n"
 
@@ -61,25 +73,6 @@ reply_text m q = answer_text q.path (series_at m.state q.path m.clock q.from q.u
 abbrev pub count_text : List ℕ → ℕ → List ℕ
 count_text word n = word ++ decimal n
 
--- ---- drains
-
--- the machine after more entries, which change its state
-abbrev pub with_entries : Machine → List Entry → Machine
-with_entries m entries = record { state = replay m.state entries; clock = m.clock; counts = m.counts; entries = m.entries ++ entries }
-
--- the drains of all pending metrics of a class, as it picks them
-abbrev pub class_drains : Machine → ℕ → List Entry
-class_drains m class = map (λ metric. entry.Drain 0 metric.0 m.clock) (m.state.pending class)
-
--- the machine after the drains of the first so many classes, in order
-abbrev pub classes_drained : Machine → ℕ → Machine
-classes_drained m zero = m
-classes_drained m (suc n) = with_entries (classes_drained m n) (class_drains (classes_drained m n) n)
-
--- all is drained
-unfoldable pub all_drained : Machine → Machine
-all_drained m = classes_drained m 16
-
 -- how many drains that were
 unfoldable pub drained_word : List ℕ
 drained_word = codes "drained "
@@ -87,28 +80,49 @@ drained_word = codes "drained "
 abbrev pub drained_text : ℕ → List ℕ
 drained_text n = count_text drained_word n ++ codes "\n"
 
-abbrev pub drain_text : Machine → List ℕ
-drain_text m = drained_text (length (all_drained m).entries - length m.entries)
-
 -- ---- the steps
 
 -- What a script may do at a command, and what it writes. A point is put as the history allows, a line that is refused or too long is
--- counted, a question is one entry and is answered, and all that is pending is drained.
+-- counted, a question is one entry and is answered, and all that is pending is drained, class by class, each metric as its class picks it.
 abbrev pub Does : Machine → Command → Machine → List ℕ → Type 0
 Does m (Metric point) next said =
     (end : PutEnd) × (IsLegal m.state (put_entry point end)
-    × (next ≡ record { state = after m.state (put_entry point end); clock = m.clock; counts = counted m.counts end; entries = m.entries ++ put_entry point end ∷ [] })
-    × (said ≡ []))
-Does m (Refused fault) next said = (next ≡ record { state = m.state; clock = m.clock; counts = refused m.counts fault; entries = m.entries }) × (said ≡ [])
-Does m Long next said = (next ≡ record { state = m.state; clock = m.clock; counts = overlong m.counts; entries = m.entries }) × (said ≡ [])
-Does m (Clock t) next said = (next ≡ record { state = m.state; clock = t; counts = m.counts; entries = m.entries }) × (said ≡ [])
-Does m (Ask q) next said =
-    (next ≡ record { state = m.state; clock = m.clock; counts = m.counts; entries = m.entries ++ ask_entry m ∷ [] }) × (said ≡ reply_text m q)
-Does m DrainAll next said = (next ≡ all_drained m) × (said ≡ drain_text m)
+    × ((next ≡ record (with_entries m (put_entry point end ∷ [])) { counts = counted m.counts end }) × (said ≡ [])))
+Does m (Refused fault) next said = (next ≡ record m { counts = refused m.counts fault }) × (said ≡ [])
+Does m Long next said = (next ≡ record m { counts = overlong m.counts }) × (said ≡ [])
+Does m (Clock t) next said = (next ≡ record m { clock = t }) × (said ≡ [])
+Does m (Ask q) next said = (next ≡ with_entries m (ask_entry m ∷ [])) × (said ≡ reply_text m q)
+Does m DrainAll next said =
+    (drains : List Entry) × (DrainsAll m.state 0 m.clock drains
+    × ((next ≡ settled (with_entries m drains)) × (said ≡ drained_text (length drains))))
 Does m Bad next said = (next ≡ m) × (said ≡ bad_command)
 
 abbrev pub Steps : Machine → Line → Machine → List ℕ → Type 0
 Steps m line next said = Does m (command_of line m.clock) next said
+
+-- ---- commands that are cut short
+
+-- The disk of a class fails: at the question about a metric of it, which is entered before the fault; or among the drains of the class, once
+-- those of the classes before it are made.
+abbrev pub FailsAt : Machine → Command → ℕ → Machine → Type 0
+FailsAt m (Ask q) class next = (class_of q.path ≡ class) × (next ≡ with_entries m (ask_entry m ∷ fault_entry class ∷ []))
+FailsAt m DrainAll class next =
+    (drains : List Entry) × (DrainsUpTo m.state 0 class m.clock drains × (next ≡ with_entries m (drains ++ fault_entry class ∷ [])))
+FailsAt m (Metric point) class next = ⊥
+FailsAt m (Refused fault) class next = ⊥
+FailsAt m Long class next = ⊥
+FailsAt m (Clock t) class next = ⊥
+FailsAt m Bad class next = ⊥
+
+-- Memory runs out: nothing was done, or some of the drains.
+abbrev pub RunsShort : Machine → Command → Machine → Type 0
+RunsShort m DrainAll next = (class : ℕ) × (drains : List Entry) × (DrainsUpTo m.state 0 class m.clock drains × (next ≡ with_entries m drains))
+RunsShort m (Ask q) next = next ≡ m
+RunsShort m (Metric point) next = next ≡ m
+RunsShort m (Refused fault) next = next ≡ m
+RunsShort m Long next = next ≡ m
+RunsShort m (Clock t) next = next ≡ m
+RunsShort m Bad next = next ≡ m
 
 abbrev pub is_drain : Entry → Bool
 is_drain (entry.Drain pass path now) = true
@@ -154,8 +168,25 @@ refusals_text c = count_text fields_word c.fields ++ (count_text path_word c.pat
 abbrev pub summary_text : Machine → List ℕ
 summary_text m = puts_text m.counts ++ (refusals_text m.counts ++ (count_text drains_word (count_by is_drain m.entries) ++ codes "\n"))
 
+-- ---- the whole run
+
 -- From `start` the script of these bytes comes to the machine `end`, and writes this text: that of its lines in order, and, once all that is
 -- still pending was drained, the summary.
 abbrev pub ScriptRun : Machine → List ℕ → Machine → List ℕ → Type 0
 ScriptRun start input end text =
-    (last : Machine) × (said : List ℕ) × (Runs Steps start (lines input) last said × (end ≡ all_drained last) × (text ≡ said ++ summary_text end))
+    (last : Machine) × (said : List ℕ) × (count : List ℕ) × (Runs Steps start (lines input) last said
+    × (Does last DrainAll end count × (text ≡ said ++ summary_text end)))
+
+-- Of the lines of these bytes the script served the first ones, and came to the machine `last`; the next command was this one, that of the
+-- next line or, behind the last line of an input that has come to its end, the drain of all that is still pending.
+abbrev pub IsNext : List Line → ℕ → Command → Type 0
+IsNext [] now command = command ≡ DrainAll
+IsNext (line ∷ others) now command = command ≡ command_of line now
+
+pub record ServesUpTo (start : Machine) (input : List ℕ) (last : Machine) (command : Command) : Type 0 where
+  pub handed : List Line
+  pub others : List Line
+  pub said : List ℕ
+  pub runs : Runs Steps start handed last said
+  pub split : lines input ≡ handed ++ others
+  pub next : IsNext others last.clock command

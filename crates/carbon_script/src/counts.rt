@@ -26,7 +26,7 @@ pub struct Counts {
 }
 
 impl Counts {
-    ghost use Rattle.carbon_model.specs.Counts.{no_counts, counted, refused, overlong};
+    ghost use Rattle.carbon_script.specs.Counts.{no_counts, counted, refused, overlong};
 
     /// No lines.
     pub const fn none() -> Counts

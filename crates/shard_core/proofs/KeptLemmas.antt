@@ -14,7 +14,7 @@ use Rattle.archive_update.specs.Batch.{batch}
 use Rattle.carbon_model.specs.State.{Kept, layout_or, rings_of}
 use Rattle.carbon_model.specs.RingFiles.{IsOfClass, SameKept, Stands, head_of, is_sound, kept_in, kept_on, kept_with}
 use Rattle.carbon_model.specs.Replay.{kept_after, with_drained}
-use Rattle.shard_core.specs.Shard.{HoldsKept, LayoutsByPath}
+use Rattle.shard_core.specs.Shard.{HoldsKept, IndexedWith, LayoutsByPath, SameLayouts}
 use Rattle.shard_core.specs.Drained.{DrainsFile, ReadBefore}
 use Rattle.shard_core.proofs.FileLemmas.{ring_is_kept, ring_is_sound, same_text}
 
@@ -87,11 +87,6 @@ stands_after fresh given opening before after kept class path layout now points 
       others = λ name far. drains.others name (λ e. far path one (sym e)) ∙ stands.others name far;
     }
 
--- one path has this layout now, and every other has what it had
-abbrev pub IndexedWith : LayoutsByPath → LayoutsByPath → List ℕ → LayoutValue → Type 0
-IndexedWith old new path layout =
-    (lookup (bytes_eq path) new ≡ Some layout) × ((other : List ℕ) → bytes_eq other path ≡ false → lookup (bytes_eq other) new ≡ lookup (bytes_eq other) old)
-
 index_after : (class : ℕ) (given : LayoutValue) (old new : LayoutsByPath) (kept : List ℕ → Option Kept) (path : List ℕ) (layout : LayoutValue) (now : ℕ) (points : List (ℕ × ℤ)) → layout ≡ layout_or given (kept path)
     → IndexedWith old new path layout → ((p : List ℕ) → IsOfClass class p → lookup (bytes_eq p) old ≡ option_map (λ k. k.layout) (kept p))
     → (p : List ℕ) → IsOfClass class p → lookup (bytes_eq p) new ≡ option_map (λ k. k.layout) (with_drained kept path given now points p)
@@ -138,3 +133,11 @@ was_fresh given told class layouts known kept path one none holds = (no_layout (
 pub was_kept : (given : LayoutValue) (told : Option Image) (class : ℕ) (layouts : LayoutsByPath) (known : Option Image) (kept : List ℕ → Option Kept) (path : List ℕ) (layout : LayoutValue) → IsOfClass class path
     → Some layout ≡ lookup (bytes_eq path) layouts → HoldsKept told class layouts known kept → read_before false given (kept path) layout
 was_kept given told class layouts known kept path layout one found holds = sym (holds.index path one) ∙ sym found
+
+-- what was noted and taken back changes nothing
+pub kept_stays : (told : Option Image) (class : ℕ) (layouts layouts' : LayoutsByPath) (known known' : Option Image) (kept : List ℕ → Option Kept) → SameLayouts layouts layouts' → known' ≡ known
+    → HoldsKept told class layouts known kept → HoldsKept told class layouts' known' kept
+kept_stays told class layouts layouts' known known' kept same image holds = record {
+  index = λ path one. same path ∙ holds.index path one;
+  files = subst (λ (k : Option Image). WhereKnown told k (λ opening now. Stands opening now kept class)) (sym image) holds.files;
+}

@@ -11,16 +11,18 @@ use Rattle.point_cache.specs.Pending.{Cache, after_put, points_count, points_of,
 use Rattle.point_cache.specs.declared.put.Put.{Put}
 use Rattle.point_cache.specs.declared.put.Put.TheVariants.{Stored, Replaced, Full, NoMemory}
 use Rattle.carbon_model.specs.State.{Kept, Metrics, SamePart, State, picked, points_in, with_pending}
-use Rattle.carbon_model.specs.RingFiles.{SameKept, Stands, kept_on}
+use Rattle.carbon_model.specs.RingFiles.{IsOfClass, SameKept, Stands, kept_on}
 use Rattle.carbon_model.specs.Replay.{drained}
 use Rattle.schema_rules.specs.RulesOf.{RulesValue}
-use Rattle.shard_core.specs.Shard.{Drains, Holds, LayoutsByPath}
-use Rattle.shard_core.specs.View.{StandsFor, Stays}
+use Rattle.shard_core.specs.Shard.{Drains, Holds, HoldsKept, LayoutsByPath, Shows}
+use Rattle.carbon_model.specs.Series.{series_at}
+use Rattle.carbon_model.specs.declared.series.Series.{Series}
+use Rattle.shard_core.specs.View.{OnlyCache, StandsFor, Stays}
 use Rattle.std.proofs.lemmas.Option.{slice_get-get_or}
 use Rattle.std.proofs.Math.ListN.{get_or}
 use Rattle.outside_io.specs.Faults.{Rose}
 use Rattle.ring_archive.specs.declared.fault.RingFault.{RingFault}
-use Rattle.shard_core.specs.Shards.{DrainsNext, FailedAt, HoldsAll, NoFewer, PutsInto, StayAll, faults_at}
+use Rattle.shard_core.specs.Shards.{DrainsNext, FailedAt, HoldsAll, NoFewer, PutsInto, ShowsAt, StayAll, faults_at}
 use Rattle.shard_core.specs.declared.shard.Shard.{Shard}
 use Rattle.shard_core.proofs.FileLemmas.{same_text}
 
@@ -49,10 +51,10 @@ same_part class s = record {
   strategy = refl;
 }
 
-stands_alike : (opening now : Image) (kept kept' : List ℕ → Option Kept) (class : ℕ) → ((p : List ℕ) → class_of p ≡ class → kept p ≡ kept' p)
+stands_alike : (opening now : Image) (kept kept' : List ℕ → Option Kept) (class : ℕ) → ((p : List ℕ) → IsOfClass class p → kept p ≡ kept' p)
     → Stands opening now kept class → Stands opening now kept' class
 stands_alike opening now kept kept' class same stands = record {
-  rings = λ p one. subst (λ (k : Option Kept). SameKept (kept_on now p) k) (same p one.here) (stands.rings p one);
+  rings = λ p one. subst (λ (k : Option Kept). SameKept (kept_on now p) k) (same p one) (stands.rings p one);
   sound = stands.sound;
   others = stands.others;
 }
@@ -64,16 +66,20 @@ known_more None (Some now) P Q known more = absurd known
 known_more (Some opening) None P Q known more = absurd known
 known_more (Some opening) (Some now) P Q known more = more opening now known
 
+pub kept_alike : (told : Option Image) (class : ℕ) (layouts : LayoutsByPath) (known : Option Image) (kept kept' : List ℕ → Option Kept) → ((p : List ℕ) → IsOfClass class p → kept p ≡ kept' p)
+    → HoldsKept told class layouts known kept → HoldsKept told class layouts known kept'
+kept_alike told class layouts known kept kept' same holds = record {
+  index = λ p one. holds.index p one ∙ ap (λ (k : Option Kept). option_map (λ x. x.layout) k) (same p one);
+  files = known_more told known (λ opening now. Stands opening now kept class) (λ opening now. Stands opening now kept' class) holds.files
+      (λ opening now stands. stands_alike opening now kept kept' class same stands);
+}
+
 pub holds_alike : (told : Option Image) (class : ℕ) (rules : RulesValue) (cache : Cache) (layouts : LayoutsByPath) (known : Option Image) (s s' : State) → SamePart class s s'
     → Holds told class rules cache layouts known s → Holds told class rules cache layouts known s'
 holds_alike told class rules cache layouts known s s' same holds = record {
   pending = holds.pending ∙ same.pending;
   queue = sym same.queue ∙ holds.queue;
-  kept = record {
-    index = λ p one. holds.kept.index p one ∙ ap (λ (k : Option Kept). option_map (λ x. x.layout) k) (same.kept p one.here);
-    files = known_more told known (λ opening now. Stands opening now s.kept class) (λ opening now. Stands opening now s'.kept class) holds.kept.files
-        (λ opening now stands. stands_alike opening now s.kept s'.kept class same.kept stands);
-  };
+  kept = kept_alike told class layouts known s.kept s'.kept (λ p one. same.kept p one.here) holds.kept;
   rules = λ p one. sym (same.rules p one) ∙ holds.rules p one;
   limit = holds.limit ∙ same.limit;
   strategy = sym same.strategy ∙ holds.strategy;
@@ -172,19 +178,12 @@ held_put told class rules cache layouts known s path t v one holds = record {
   strategy = holds.strategy;
 }
 
--- a shard of which only the cache changed
-pub record Put1 {D : Type 0} {d : Ghosts D} (old new : Shard D d) : Type 0 where
-  pub class : new.class ≡ old.class
-  pub given : new.given ≡ old.given
-  pub layouts : new.layouts ≡ old.layouts
-  pub disk : new.disk ≡ old.disk
-
-put_stands : {D : Type 0} {d : Ghosts D} (told : Option Image) (old new : Shard D d) (s : State) (path : List ℕ) (t : ℕ) (v : ℤ) → Put1 old new → class_of path ≡ old.class → new.cache ≡ after_put old.cache path t v
+put_stands : {D : Type 0} {d : Ghosts D} (told : Option Image) (old new : Shard D d) (s : State) (path : List ℕ) (t : ℕ) (v : ℤ) → OnlyCache old new → class_of path ≡ old.class → new.cache ≡ after_put old.cache path t v
     → StandsFor told old s → StandsFor told new (with_pending s (class_of path) (with_put (s.pending (class_of path)) path t v))
 put_stands {d = d} told old new s path t v same one cache holds =
     rw (same.class, same.given, same.layouts, same.disk, cache) (held_put told old.class old.given old.cache old.layouts (d.image old.disk) s path t v one holds)
 
-unchanged_stands : {D : Type 0} {d : Ghosts D} (old new : Shard D d) → Put1 old new → new.cache ≡ old.cache → Stays old new
+unchanged_stands : {D : Type 0} {d : Ghosts D} (old new : Shard D d) → OnlyCache old new → new.cache ≡ old.cache → Stays old new
 unchanged_stands old new same cache told s holds = rw (same.class, same.given, same.layouts, same.disk, cache) holds
 
 -- what the cache has of a path is what the state has
@@ -211,7 +210,7 @@ seen {d = d} told shard s path t one holds = record {
 
 -- a point that was stored or replaced
 put_goes_in : {D : Type 0} {d : Ghosts D} (shards : List (Shard D d)) (told : ℕ → Option Image) (k : ℕ) (old new : Shard D d) (s : State) (path : List ℕ) (t : ℕ) (v : ℤ) → k < length shards → AreInOrder shards → slice_get shards k ≡ Some old
-    → class_of path ≡ k → old.class ≡ k → Put1 old new → new.cache ≡ after_put old.cache path t v → HoldsAll told shards s
+    → class_of path ≡ k → old.class ≡ k → OnlyCache old new → new.cache ≡ after_put old.cache path t v → HoldsAll told shards s
     → HoldsAll told (slice_set shards k new) (with_pending s (class_of path) (with_put (s.pending (class_of path)) path t v))
 put_goes_in shards told k old new s path t v within order there one class same cache holds =
     holds_with shards told k new s _ within order
@@ -220,26 +219,26 @@ put_goes_in shards told k old new s path t v within order there one class same c
 
 -- a put into the shard of its class
 pub puts_into : {D : Type 0} {d : Ghosts D} (put : Put) (shards : List (Shard D d)) (told : ℕ → Option Image) (k : ℕ) (old new : Shard D d) (s : State) (path : List ℕ) (t : ℕ) (v : ℤ) → k < length shards → AreInOrder shards
-    → slice_get shards k ≡ Some old → class_of path ≡ k → Put1 old new → Puts old.cache new.cache path t v put → HoldsAll told shards s → PutsInto put s path t v (HoldsAll told (slice_set shards k new))
-puts_into Stored shards told k old new s path t v within order there one same puts holds pass =
+    → slice_get shards k ≡ Some old → class_of path ≡ k → OnlyCache old new → Puts old.cache new.cache path t v put → HoldsAll told shards s → PutsInto put s path t v (HoldsAll told (slice_set shards k new))
+puts_into Stored shards told k old new s path t v within order there one same puts holds = λ pass.
     let class = subst (λ o. IfSome o (λ shard. shard.class ≡ k)) there (order k) in
     let sees = seen (told k) old s path t (one ∙ sym class) (shard_at shards told k old s there holds) in (
       (sees.known ∙ puts.0, omega (arith, sees.count, sees.limit, puts.1.0)),
       put_goes_in shards told k old new s path t v within order there one class same puts.1.1 holds,
     )
-puts_into Replaced shards told k old new s path t v within order there one same puts holds pass =
+puts_into Replaced shards told k old new s path t v within order there one same puts holds = λ pass.
     let class = subst (λ o. IfSome o (λ shard. shard.class ≡ k)) there (order k) in
     let sees = seen (told k) old s path t (one ∙ sym class) (shard_at shards told k old s there holds) in (
       sees.known ∙ puts.0,
       put_goes_in shards told k old new s path t v within order there one class same puts.1 holds,
     )
-puts_into Full shards told k old new s path t v within order there one same puts holds pass =
+puts_into Full shards told k old new s path t v within order there one same puts holds = λ pass.
     let class = subst (λ o. IfSome o (λ shard. shard.class ≡ k)) there (order k) in
     let sees = seen (told k) old s path t (one ∙ sym class) (shard_at shards told k old s there holds) in (
       (sees.known ∙ puts.0, omega (arith, sees.count, sees.limit, puts.1.0)),
       stays_with shards k old new within order there (unchanged_stands old new same puts.1.1) told s holds,
     )
-puts_into NoMemory shards told k old new s path t v within order there one same puts holds pass =
+puts_into NoMemory shards told k old new s path t v within order there one same puts holds = λ pass.
     let class = subst (λ o. IfSome o (λ shard. shard.class ≡ k)) there (order k) in
     let sees = seen (told k) old s path t (one ∙ sym class) (shard_at shards told k old s there holds) in (
       (sees.known ∙ puts.0, omega (arith, sees.count, sees.limit, puts.1.0)),
@@ -314,3 +313,11 @@ drains_next (Ok None) shards k old new now within order there same given drains 
 drains_next (Ok (Some path)) shards k old new now within order there same given drains idle = λ told s holds.
     let class = subst (λ o. IfSome o (λ shard. shard.class ≡ k)) there (order k) in
     drain_some shards told k old new s path now within order there class same given drains holds
+
+-- ---- questions
+
+pub shows_at : {D : Type 0} {d : Ghosts D} (r : Result (Option Series) RingFault) (shards : List (Shard D d)) (k : ℕ) (shard : Shard D d) (path : List ℕ) (now from until : ℕ) → slice_get shards k ≡ Some shard → k ≡ class_of path
+    → IfOk r (Shows shard.class shard.given shard.cache shard.layouts (d.image shard.disk) path now from until) → IfOk r (ShowsAt shards path now from until)
+shows_at (Err fault) shards k shard path now from until there one shows = tt
+shows_at (Ok series) shards k shard path now from until there one shows = λ told s holds.
+    subst (λ (j : ℕ). IfSome (told j) (λ opening. series ≡ series_at s path now from until)) one (shows (told k) s (shard_at shards told k shard s there holds))

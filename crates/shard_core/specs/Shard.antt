@@ -1,5 +1,5 @@
 -- What a shard holds, and the state that it stands for.
-use Rattle.std.specs.Prelude.{◌≡◌, ℕ, true, Some, None, [], All, List, ℤ, Option, option_map, IfSome, IsSomeAnd}
+use Rattle.std.specs.Prelude.{◌≡◌, ℕ, true, false, Some, None, [], All, List, ℤ, Option, option_map, IfSome, IsSomeAnd}
 use Rattle.std.specs.Map.{lookup}
 use Rattle.std.specs.Str.{bytes_eq}
 use Rattle.outside_io.specs.Image.{Image, WhereKnown}
@@ -22,6 +22,16 @@ use Rattle.carbon_model.specs.declared.series.Series.{Series}
 -- the layouts of the metrics that have a file
 abbrev pub LayoutsByPath : Type 0
 LayoutsByPath = List (List ℕ × LayoutValue)
+
+-- one path has this layout now, and every other has what it had
+abbrev pub IndexedWith : LayoutsByPath → LayoutsByPath → List ℕ → LayoutValue → Type 0
+IndexedWith old new path layout =
+    (lookup (bytes_eq path) new ≡ Some layout)
+    × ((other : List ℕ) → bytes_eq other path ≡ false → lookup (bytes_eq other) new ≡ lookup (bytes_eq other) old)
+
+-- every path has the layout that it had, or none as before
+abbrev pub SameLayouts : LayoutsByPath → LayoutsByPath → Type 0
+SameLayouts old new = (path : List ℕ) → lookup (bytes_eq path) new ≡ lookup (bytes_eq path) old
 
 -- these are layouts that the rules give
 abbrev pub AreGiven : RulesValue → LayoutsByPath → Type 0
@@ -65,11 +75,6 @@ abbrev pub DrainsKept : ℕ → LayoutsByPath → Option Image → List ℕ → 
 DrainsKept class layouts known path given now points layouts' known' =
     (told : Option Image) (kept : List ℕ → Option Kept) → HoldsKept told class layouts known kept
     → HoldsKept told class layouts' known' (with_drained kept path given now points)
-
--- whatever is kept for which the layouts and the disk stood, they stand for it still
-abbrev pub StaysKept : ℕ → LayoutsByPath → Option Image → LayoutsByPath → Option Image → Type 0
-StaysKept class layouts known layouts' known' =
-    (told : Option Image) (kept : List ℕ → Option Kept) → HoldsKept told class layouts known kept → HoldsKept told class layouts' known' kept
 
 -- what is shown of a path in whatever state the shard stands for, where its disk tells what it holds
 abbrev pub Shows : ℕ → RulesValue → Cache → LayoutsByPath → Option Image → List ℕ → ℕ → ℕ → ℕ → Option Series → Type 0

@@ -1,18 +1,18 @@
 -- The shards of all classes, and the state that they stand for together.
-use Rattle.std.specs.Prelude.{◌≡◌, ◌≤◌, ◌<◌, ℕ, ℤ, false, List, [], length, Option, Some, None, IfSome, IsSome, slice_get, option_and_then}
+use Rattle.std.specs.Prelude.{◌≡◌, ◌≤◌, ◌<◌, ℕ, ℤ, List, [], length, Option, Some, None, IfSome, IsSome, slice_get, option_and_then}
 use Rattle.std.specs.Option.{option_map_or}
 use Rattle.outside_io.specs.Image.{Image, WhereKnown}
 use Rattle.outside_io.specs.Faults.{Rose}
 use Rattle.outside_io.specs.declared.disk.Disk.{Ghosts}
 use Rattle.metric_path.specs.Class.{class_of}
-use Rattle.point_cache.specs.Points.{has_time}
-use Rattle.point_cache.specs.Pending.{points_count}
 use Rattle.point_cache.specs.declared.put.Put.{Put}
 use Rattle.point_cache.specs.declared.put.Put.TheVariants.{Stored, Replaced, Full, NoMemory}
 use Rattle.carbon_history.specs.declared.entry.Entry.TheVariants as entry
 use Rattle.carbon_history.specs.declared.entry.PutEnd.TheVariants as end
-use Rattle.carbon_model.specs.State.{State, points_in}
+use Rattle.carbon_model.specs.State.{State}
 use Rattle.carbon_model.specs.RingFiles.{Stands}
+use Rattle.carbon_model.specs.Series.{series_at}
+use Rattle.carbon_model.specs.declared.series.Series.{Series}
 use Rattle.carbon_model.specs.Replay.{IsLegal, after}
 use Rattle.shard_core.specs.View.{StandsFor}
 use Rattle.shard_core.specs.declared.shard.Shard.{Shard}
@@ -42,6 +42,20 @@ abbrev pub DrainsNext : Option (List ℕ) → State → ℕ → ℕ → (State �
 DrainsNext None s class now holds = (s.pending class ≡ []) × holds s
 DrainsNext (Some path) s class now holds =
     (class_of path ≡ class) × ((pass : ℕ) → IsLegal s (entry.Drain pass path now) × holds (after s (entry.Drain pass path now)))
+
+-- the same of the shards, whatever state they stood for
+abbrev pub PutsAt : {D : Type 0} {d : Ghosts D} → List (Shard D d) → List (Shard D d) → List ℕ → ℕ → ℤ → Put → Type 0
+PutsAt old new path time value put =
+    (told : ℕ → Option Image) (s : State) → HoldsAll told old s → PutsInto put s path time value (HoldsAll told new)
+
+abbrev pub DrainsAt : {D : Type 0} {d : Ghosts D} → List (Shard D d) → List (Shard D d) → ℕ → ℕ → Option (List ℕ) → Type 0
+DrainsAt old new class now picked =
+    (told : ℕ → Option Image) (s : State) → HoldsAll told old s → DrainsNext picked s class now (HoldsAll told new)
+
+-- what is shown of a path, where the disk of its class tells what it holds
+abbrev pub ShowsAt : {D : Type 0} {d : Ghosts D} → List (Shard D d) → List ℕ → ℕ → ℕ → ℕ → Option Series → Type 0
+ShowsAt shards path now from until series =
+    (told : ℕ → Option Image) (s : State) → HoldsAll told shards s → IfSome (told (class_of path)) (λ opening. series ≡ series_at s path now from until)
 
 -- how many metrics of a class have pending points
 abbrev pub pending_at : {D : Type 0} {d : Ghosts D} → List (Shard D d) → ℕ → ℕ
