@@ -1,7 +1,5 @@
 pub mod State
 pub mod RingFiles
 pub mod Replay
-pub mod Answer
-pub mod Command
-pub mod Counts
-pub mod Script
+pub mod Found
+pub mod Series

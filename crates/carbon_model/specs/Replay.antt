@@ -1,5 +1,5 @@
 -- Which entries may come in a state, and the state after them.
-use Rattle.std.specs.Prelude.{◌≡◌, ℕ, ℤ, ◌==◌, true, false, List, [], ◌∷◌, Option, Some, None, if◌then◌else◌}
+use Rattle.std.specs.Prelude.{◌≡◌, ℕ, ℤ, zero, suc, ◌<◌, ◌≤◌, ◌==◌, Bool, true, false, List, [], ◌∷◌, ◌++◌, filter, Option, Some, None, if◌then◌else◌}
 use Rattle.std.specs.Str.{bytes_eq}
 use Rattle.std.specs.Map.{remove_entry}
 use Rattle.carbon_history.specs.declared.entry.Entry.{Entry}
@@ -7,29 +7,30 @@ use Rattle.carbon_history.specs.declared.entry.Entry.TheVariants.{Put, Drain, As
 use Rattle.carbon_history.specs.declared.entry.PutEnd.TheVariants.{Stored, Replaced, Full}
 use Rattle.metric_path.specs.Class.{class_of}
 use Rattle.point_cache.specs.Points.{has_time}
-use Rattle.point_cache.specs.Pending.{with_put}
+use Rattle.point_cache.specs.Pending.{points_count, with_put}
+use Rattle.drain_order.specs.Pick.{queue_after}
 use Rattle.archive_update.specs.Batch.{batch}
 use Rattle.ring_format.specs.Layout.{LayoutValue}
-use Rattle.carbon_model.specs.State.{Kept, Metrics, State, layout_or, points_in, rings_of, with_pending}
+use Rattle.carbon_model.specs.State.{Kept, State, layout_or, picked, points_in, rings_of, with_pending}
 
--- the metric that is drained next: the first with pending points
-abbrev pub picked : Metrics → Option (List ℕ)
-picked [] = None
-picked (m ∷ ms) = Some m.0
-
--- A put is told as replaced exactly where the metric has a pending point of its time, and else as stored; there is no limit on
--- pending points. The metric that is drained is the one that its class picks.
+-- A put replaces exactly where the metric has a pending point of its time. Else it finds its class full exactly where as many points of
+-- it are pending as may be, and is stored where there are fewer. The metric that is drained is the one that its class picks.
 abbrev pub IsLegal : State → Entry → Type 0
-IsLegal s (Put pass path time value Stored) = has_time (points_in s path) time ≡ false
+IsLegal s (Put pass path time value Stored) =
+    (has_time (points_in s path) time ≡ false) × (points_count (s.pending (class_of path)) < s.limit)
 IsLegal s (Put pass path time value Replaced) = has_time (points_in s path) time ≡ true
-IsLegal s (Put pass path time value Full) = ⊥
-IsLegal s (Drain pass path now) = picked (s.pending (class_of path)) ≡ Some path
+IsLegal s (Put pass path time value Full) =
+    (has_time (points_in s path) time ≡ false) × (s.limit ≤ points_count (s.pending (class_of path)))
+IsLegal s (Drain pass path now) = picked s (class_of path) ≡ Some path
 IsLegal s (Ask pass number try now) = Unit {0}
 IsLegal s (Fault pass class) = Unit {0}
 
 -- what is kept of a metric once its points are drained into its archives, or into empty ones of the layout that it is given where it had none
 abbrev pub kept_after : LayoutValue → Option Kept → ℕ → List (ℕ × ℤ) → Kept
-kept_after given kept now points = record { layout = layout_or given kept; rings = batch (layout_or given kept) now points (rings_of kept) }
+kept_after given kept now points = record {
+  layout = layout_or given kept;
+  rings = batch (layout_or given kept) now points (rings_of kept);
+}
 
 -- the same of all paths, of which this one is drained
 abbrev pub with_drained : (List ℕ → Option Kept) → List ℕ → LayoutValue → ℕ → List (ℕ × ℤ) → List ℕ → Option Kept
@@ -37,13 +38,14 @@ with_drained kept path given now points = λ p. if bytes_eq p path then Some (ke
 
 -- the state after the points of a path are drained: none of it are pending, and its archives have the batch of them
 abbrev pub drained : State → List ℕ → ℕ → State
-drained s path now = record {
+drained s path now = record s {
   pending = λ k. if k == class_of path then remove_entry (bytes_eq path) (s.pending k) else s.pending k;
+  queue = λ k. if k == class_of path then queue_after s.strategy (s.queue k) (s.pending k) else s.queue k;
   kept = with_drained s.kept path (s.rules path) now (points_in s path);
-  rules = s.rules;
+  drains = λ p. if bytes_eq p path then suc (s.drains p) else s.drains p;
 }
 
--- a put changes the pending points of its path alone; a question and a fault change nothing
+-- a put changes the pending points of its path alone; one that found its class full, a question and a fault change nothing
 abbrev pub after : State → Entry → State
 after s (Put pass path time value Stored) = with_pending s (class_of path) (with_put (s.pending (class_of path)) path time value)
 after s (Put pass path time value Replaced) = with_pending s (class_of path) (with_put (s.pending (class_of path)) path time value)
@@ -61,3 +63,52 @@ replay s (entry ∷ others) = replay (after s entry) others
 abbrev pub IsLegalHistory : State → List Entry → Type 0
 IsLegalHistory s [] = Unit {0}
 IsLegalHistory s (entry ∷ others) = IsLegal s entry × IsLegalHistory (after s entry) others
+
+-- ---- the entries of a class
+
+-- whether an entry is about a class: a question is about none
+abbrev pub is_about : ℕ → Entry → Bool
+is_about class (Put pass path time value end) = class_of path == class
+is_about class (Drain pass path now) = class_of path == class
+is_about class (Ask pass number try now) = false
+is_about class (Fault pass of_class) = of_class == class
+
+abbrev pub about_class : ℕ → List Entry → List Entry
+about_class class entries = filter (is_about class) entries
+
+-- ---- drains of whole classes
+
+-- a drain of a metric of this class at this moment, made by this pass
+abbrev pub IsDrainOf : ℕ → ℕ → ℕ → Entry → Type 0
+IsDrainOf pass class now (Drain by path at) = (by ≡ pass) × ((class_of path ≡ class) × (at ≡ now))
+IsDrainOf pass class now (Put by path time value end) = ⊥
+IsDrainOf pass class now (Ask by number try at) = ⊥
+IsDrainOf pass class now (Fault by of_class) = ⊥
+
+-- some metrics of a class are drained, each the one that the class picks then
+abbrev pub DrainsSome : State → ℕ → ℕ → ℕ → List Entry → Type 0
+DrainsSome s pass class now [] = Unit {0}
+DrainsSome s pass class now (entry ∷ others) =
+    IsDrainOf pass class now entry × (IsLegal s entry × DrainsSome (after s entry) pass class now others)
+
+-- all of them are: after these drains nothing of the class is pending. As the pick is a function, there is one such list and no other.
+pub record DrainsClass (s : State) (pass class now : ℕ) (entries : List Entry) : Type 0 where
+  pub drains : DrainsSome s pass class now entries
+  pub none_pending : (replay s entries).pending class ≡ []
+
+-- the first classes, so many, are drained in order, each whole
+abbrev pub DrainsClasses : State → ℕ → ℕ → ℕ → List Entry → Type 0
+DrainsClasses s pass zero now entries = entries ≡ []
+DrainsClasses s pass (suc class) now entries =
+    (before : List Entry) × (last : List Entry) × ((entries ≡ before ++ last)
+    × (DrainsClasses s pass class now before × DrainsClass (replay s before) pass class now last))
+
+-- all classes are
+unfoldable pub DrainsAll : State → ℕ → ℕ → List Entry → Type 0
+DrainsAll s pass now entries = DrainsClasses s pass 16 now entries
+
+-- the classes below this one are drained whole, and some metrics of this one
+abbrev pub DrainsUpTo : State → ℕ → ℕ → ℕ → List Entry → Type 0
+DrainsUpTo s pass class now entries =
+    (before : List Entry) × (last : List Entry) × ((entries ≡ before ++ last)
+    × (DrainsClasses s pass class now before × DrainsSome (replay s before) pass class now last))

@@ -1,7 +1,9 @@
 -- What the files of a disk mean.
-use Rattle.std.specs.Prelude.{◌≡◌, ◌≢◌, ℕ, Bool, true, false, List, [], length, take, option_and_then, Option, Some, None, Result, Ok, Err, IfSome}
+use Rattle.std.specs.Prelude.{◌≡◌, ◌≢◌, ℕ, zero, Bool, true, false, List, [], length, take, option_and_then, Option, Some, None, Result, Ok, Err, IfSome}
 use Rattle.outside_io.specs.Image.{Image}
 use Rattle.metric_path.specs.Path.{path_fault}
+use Rattle.metric_path.specs.declared.path.PathFault.{PathFault}
+use Rattle.drain_order.specs.declared.strategy.Strategy.{Strategy}
 use Rattle.metric_path.specs.Class.{class_of}
 use Rattle.metric_path.specs.FileName.{file_name_of}
 use Rattle.ring_format.specs.Layout.{LayoutValue}
@@ -55,6 +57,30 @@ pub record Stands (opening now : Image) (kept : List ℕ → Option Kept) (class
   pub sound : (path : List ℕ) → IsOfClass class path → IfSome (now (file_name_of path)) (λ file. is_sound file ≡ true)
   pub others : (name : List ℕ) → ((path : List ℕ) → IsOfClass class path → file_name_of path ≢ name) → now name ≡ opening name
 
--- the state that the disks show, one for each class, under the rules of the run: nothing is pending
-abbrev pub opening_state : (List ℕ → LayoutValue) → (ℕ → Image) → State
-opening_state rules images = record { pending = λ class. []; kept = λ path. kept_on (images (class_of path)) path; rules = rules }
+-- ---- the opening
+
+-- what is kept of a text under what is kept on the disk of its class: a text that is no path has no file
+abbrev pub of_legal : Option PathFault → Option Kept → Option Kept
+of_legal None kept = kept
+of_legal (Some fault) kept = None
+
+abbrev pub kept_at : Image → List ℕ → Option Kept
+kept_at image path = of_legal (path_fault path) (kept_on image path)
+
+-- what is fixed for a run
+pub record Settings : Type 0 where
+  pub rules : List ℕ → LayoutValue
+  pub limit : ℕ
+  pub strategy : Strategy
+
+-- A state in which a run may begin over disks of which each tells its image, or none: nothing is pending and nothing was drained, and what
+-- is kept is what the files mean, of each class whose disk tells them.
+pub record Opens (settings : Settings) (told : ℕ → Option Image) (s : State) : Type 0 where
+  pub pending : (class : ℕ) → s.pending class ≡ []
+  pub queue : (class : ℕ) → s.queue class ≡ []
+  pub drains : (path : List ℕ) → s.drains path ≡ 0
+  pub kept : (path : List ℕ) → IfSome (told (class_of path)) (λ image. s.kept path ≡ kept_at image path)
+  pub legal : (path : List ℕ) → IfSome (path_fault path) (λ fault. s.kept path ≡ None)
+  pub rules : (path : List ℕ) → s.rules path ≡ settings.rules path
+  pub limit : s.limit ≡ settings.limit
+  pub strategy : s.strategy ≡ settings.strategy

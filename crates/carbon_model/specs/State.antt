@@ -1,7 +1,9 @@
 -- What carbon holds, apart from how it is held.
-use Rattle.std.specs.Prelude.{ℕ, ℤ, ◌==◌, List, Option, Some, None, if◌then◌else◌}
+use Rattle.std.specs.Prelude.{◌≡◌, ℕ, ℤ, ◌==◌, List, Option, Some, None, if◌then◌else◌}
 use Rattle.metric_path.specs.Class.{class_of}
 use Rattle.point_cache.specs.Pending.{points_of}
+use Rattle.drain_order.specs.Pick.{pick}
+use Rattle.drain_order.specs.declared.strategy.Strategy.{Strategy}
 use Rattle.ring_format.specs.Layout.{LayoutValue}
 use Rattle.ring_archive.specs.Ring.{Rings}
 
@@ -15,20 +17,28 @@ pub record Kept : Type 0 where
   pub rings : Rings
 
 pub record State : Type 0 where
-  -- of each class, its metrics with pending points
+  -- of each class, its metrics with pending points, and the paths that its drains take next where they go by a queue
   pub pending : ℕ → Metrics
-  -- of each path, what is kept
+  pub queue : ℕ → List (List ℕ)
+  -- of each path, what is kept, and how often it was drained
   pub kept : List ℕ → Option Kept
-  -- the layout that the rules of the run give each path
+  pub drains : List ℕ → ℕ
+  -- what is fixed for a run: the layout that the rules give each path, how many points of a class may be pending, and the drain order
   pub rules : List ℕ → LayoutValue
+  pub limit : ℕ
+  pub strategy : Strategy
 
 -- the state with these metrics in a class, and all else as it is
 abbrev pub with_pending : State → ℕ → Metrics → State
-with_pending s class metrics = record { pending = λ k. if k == class then metrics else s.pending k; kept = s.kept; rules = s.rules }
+with_pending s class metrics = record s { pending = λ k. if k == class then metrics else s.pending k }
 
 -- the pending points of a path
 abbrev pub points_in : State → List ℕ → List (ℕ × ℤ)
 points_in s path = points_of (s.pending (class_of path)) path
+
+-- the metric of a class that is drained next: none exactly where nothing of it is pending
+abbrev pub picked : State → ℕ → Option (List ℕ)
+picked s class = pick s.strategy (s.queue class) (s.pending class)
 
 -- ---- layouts and archives
 
@@ -49,3 +59,15 @@ layout_of s path = layout_or (s.rules path) (s.kept path)
 abbrev pub rings_of : Option Kept → Rings
 rings_of None = no_rings
 rings_of (Some kept) = kept.rings
+
+-- ---- parts
+
+-- Two states agree in all that belongs to a class: what is pending of it, its queue, and what is kept of its paths.
+pub record SamePart (class : ℕ) (s t : State) : Type 0 where
+  pub pending : s.pending class ≡ t.pending class
+  pub queue : s.queue class ≡ t.queue class
+  pub kept : (path : List ℕ) → class_of path ≡ class → s.kept path ≡ t.kept path
+  pub drains : (path : List ℕ) → class_of path ≡ class → s.drains path ≡ t.drains path
+  pub rules : (path : List ℕ) → class_of path ≡ class → s.rules path ≡ t.rules path
+  pub limit : s.limit ≡ t.limit
+  pub strategy : s.strategy ≡ t.strategy

@@ -1,14 +1,22 @@
-ghost use Rattle.std.specs.Prelude.{◌≡◌, List, ◌++◌};
+ghost use Rattle.std.specs.Prelude.{◌≡◌, ◌↔◌, ℕ, List, ◌++◌};
 ghost use Rattle.carbon_history.specs.declared.entry.Entry.{Entry as Event};
-ghost use Rattle.carbon_model.specs.State.{State};
-ghost use Rattle.carbon_model.specs.Replay.{IsLegalHistory, replay};
+ghost use Rattle.carbon_model.specs.State.{SamePart, State};
+ghost use Rattle.carbon_model.specs.Replay.{IsLegalHistory, about_class, replay};
 
 /// A front of a legal history is legal, and the rest is legal from the state after it.
 pub fn fronts_are_legal()
-    ensures { (s : State) (front rest : List Event) → IsLegalHistory s (front ++ rest) → IsLegalHistory s front × IsLegalHistory (replay s front) rest }
+    ensures { (s : State) (front rest : List Event) → IsLegalHistory s (front ++ rest)
+        → IsLegalHistory s front × IsLegalHistory (replay s front) rest }
 {}
 
 /// The state after two lists of entries is the state after the second, from that after the first.
 pub fn replay_in_parts()
     ensures { (s : State) (front rest : List Event) → replay s (front ++ rest) ≡ replay (replay s front) rest }
+{}
+
+/// The classes are independent: a history is legal exactly where the entries about each class are, and the part of a class in its
+/// replay is that in the replay of its own entries.
+pub fn classes_are_independent()
+    ensures legal { (s : State) (h : List Event) → IsLegalHistory s h ↔ ((class : ℕ) → IsLegalHistory s (about_class class h)) }
+    ensures part { (s : State) (h : List Event) (class : ℕ) → SamePart class (replay s h) (replay s (about_class class h)) }
 {}

@@ -2,12 +2,8 @@
 //! the laws of these definitions.
 #![tactic(auto)]
 
-mod counts;
 mod laws;
-mod question;
 mod series;
 
-pub use counts::Counts;
-pub use laws::{fronts_are_legal, replay_in_parts};
-pub use question::Question;
+pub use laws::{classes_are_independent, fronts_are_legal, replay_in_parts};
 pub use series::{Series, Values};

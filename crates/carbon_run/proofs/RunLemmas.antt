@@ -1,25 +1,31 @@
--- From shards to disks.
-use Rattle.std.proofs.Common.{◌≡◌, ◌⊎◌, inl, inr, ℕ, zero, suc, ◌<◌, ◌≤◌, List, [], ◌∷◌, length, map, Option, Some, None, IfSome, IsSomeAnd, option_map, refl, subst, arith}
+-- From shards to disks, and from the end of a script to the end of a run.
+use Rattle.std.proofs.Common.{◌≡◌, ◌⊎◌, inl, inr, ◌∙◌, ℕ, zero, suc, ◌+◌, ◌<◌, ◌≤◌, List, [], ◌∷◌, ◌++◌, length, map, Option, Some, None, IfSome, option_map, append_assoc, refl, sym, ap, subst, arith}
 use Rattle.std.specs.Prelude.{slice_get}
 use Rattle.std.specs.Option.{option_map_or}
 use Rattle.std.specs.Io.KnownBytes.{Appends}
-use Rattle.outside_io.specs.Image.{Image}
+use Rattle.outside_io.specs.Image.{Image, WhereKnown}
 use Rattle.outside_io.specs.Faults.{Rose}
 use Rattle.outside_io.specs.declared.disk.Disk.{Ghosts}
+use Rattle.outside_io.proofs.Known.{Appends-more, Appends-none}
+use Rattle.carbon_history.specs.declared.entry.Entry.{Entry}
 use Rattle.carbon_model.specs.State.{State}
 use Rattle.carbon_model.specs.RingFiles.{Stands}
-use Rattle.std.specs.Prelude.{string_bytes}
-use Rattle.outside_io.proofs.Known.{Appends-more}
-use Rattle.carbon_script.specs.Standing.{AppendsSome}
-use Rattle.carbon_run.specs.Texts.{EndsWith}
-use Rattle.carbon_run.specs.Runs.{AreSound, Tells, TellsDamage}
-use Rattle.shard_core.specs.StartFaults.{IsDamagedFile}
-use Rattle.shard_core.specs.declared.fault.StartFault.{StartFault}
-use Rattle.shard_core.specs.declared.fault.StartFault.TheVariants.{Damaged, DiskFault, NoMemory}
-use Rattle.shard_core.specs.Shards.{DisksStand, FailedAt, HoldsAll, TellsImages, disk_faults, faults_at}
+use Rattle.carbon_model.specs.Replay.{IsLegalHistory, replay}
+use Rattle.schema_rules.specs.RulesOf.{RulesValue}
+use Rattle.shard_core.specs.Opening.{StartsAll}
+use Rattle.shard_core.specs.Shards.{AllTold, DisksStand, FailedAt, HoldsAll, disk_faults, faults_at, told_of}
 use Rattle.shard_core.specs.View.{StandsFor}
 use Rattle.shard_core.specs.declared.shard.Shard.{Shard}
 use Rattle.shard_core.proofs.ShardsLemmas.{AreInOrder}
+use Rattle.carbon_script.specs.Command.{Command}
+use Rattle.carbon_script.specs.Script.{Does, FailsAt, Machine, RunsShort, ScriptRun, ServesUpTo, opening}
+use Rattle.carbon_script.specs.Sessions.{AppendsSome, CutShort, Ends, EndsAs, Means}
+use Rattle.carbon_script.specs.declared.serve.ScriptEnd.{ScriptEnd}
+use Rattle.carbon_script.specs.declared.serve.ScriptEnd.TheVariants as end
+use Rattle.carbon_script.specs.declared.session.Session.{Session}
+use Rattle.carbon_script.proofs.LegalLemmas.{Stays, does_stay, fails_stay, none_pending, opening_stays, runs_stay, short_stays}
+use Rattle.carbon_run.specs.Texts.{EndsWith}
+use Rattle.carbon_run.specs.Runs.{Answer, EndCause, EndFrom, Leads, Leaves, Scripted, ShardsRun, Streams, Takes, TellsAlone, TellsEnd, TellsLast}
 
 -- the disk at a place
 disk_at : {D : Type 0} {d : Ghosts D} (shards : List (Shard D d)) (k : ℕ) → slice_get (map (λ shard. shard.disk) shards) k ≡ option_map (λ shard. shard.disk) (slice_get shards k)
@@ -27,70 +33,141 @@ disk_at [] k = refl
 disk_at (s ∷ ss) zero = refl
 disk_at (s ∷ ss) (suc k) = disk_at ss k
 
-stands_at : {D : Type 0} {d : Ghosts D} (o : Option (Shard D d)) (opening : Image) (k : ℕ) (s : State) → IfSome o (λ shard. shard.class ≡ k) → IfSome o (λ shard. StandsFor opening shard s)
-    → IfSome (option_map (λ shard. shard.disk) o) (λ disk. IsSomeAnd (d.image disk) (λ now. Stands opening now s.kept k))
-stands_at None opening k s class holds = tt
-stands_at {d = d} (Some shard) opening k s class holds = subst (λ (c : ℕ). IsSomeAnd (d.image shard.disk) (λ now. Stands opening now s.kept c)) class holds.kept.files
+stands_at : {D : Type 0} {d : Ghosts D} (o : Option (Shard D d)) (told : Option Image) (k : ℕ) (s : State) → IfSome o (λ shard. shard.class ≡ k) → IfSome o (λ shard. StandsFor told shard s)
+    → IfSome (option_map (λ shard. shard.disk) o) (λ disk. WhereKnown told (d.image disk) (λ opening now. Stands opening now s.kept k))
+stands_at None told k s class holds = tt
+stands_at {d = d} (Some shard) told k s class holds = subst (λ (c : ℕ). WhereKnown told (d.image shard.disk) (λ opening now. Stands opening now s.kept c)) class holds.kept.files
 
 -- the disks of shards that stand for a state do so alone
-pub disks_stand : {D : Type 0} {d : Ghosts D} (opening : ℕ → Image) (shards : List (Shard D d)) (s : State) → AreInOrder shards → HoldsAll opening shards s
-    → DisksStand (λ disk. d.image disk) opening (map (λ shard. shard.disk) shards) s
-disks_stand opening shards s order holds k = rw (disk_at shards k) (stands_at (slice_get shards k) (opening k) k s (order k) (holds k))
+pub disks_stand : {D : Type 0} {d : Ghosts D} (told : ℕ → Option Image) (shards : List (Shard D d)) (s : State) → AreInOrder shards → HoldsAll told shards s → DisksStand d.image told (map (λ shard. shard.disk) shards) s
+disks_stand told shards s order holds k = rw (disk_at shards k) (stands_at (slice_get shards k) (told k) k s (order k) (holds k))
 
-faults_in : {D : Type 0} {d : Ghosts D} (o : Option (Shard D d)) → option_map_or (λ disk. d.faults disk) (option_map (λ shard. shard.disk) o) 0 ≡ option_map_or (λ shard. d.faults shard.disk) o 0
+faults_in : {D : Type 0} {d : Ghosts D} (o : Option (Shard D d)) → option_map_or d.faults (option_map (λ shard. shard.disk) o) 0 ≡ option_map_or (λ shard. d.faults shard.disk) o 0
 faults_in None = refl
 faults_in (Some shard) = refl
 
 -- their counts of failed calls are those of the shards
-pub faults_of : {D : Type 0} {d : Ghosts D} (shards : List (Shard D d)) (k : ℕ) → disk_faults (λ disk. d.faults disk) (map (λ shard. shard.disk) shards) k ≡ faults_at shards k
+pub faults_of : {D : Type 0} {d : Ghosts D} (shards : List (Shard D d)) (k : ℕ) → disk_faults d.faults (map (λ shard. shard.disk) shards) k ≡ faults_at shards k
 faults_of shards k = rw (disk_at shards k) (faults_in (slice_get shards k))
 
--- a count that rose rose from any earlier one
-pub rose_from : (first before now : ℕ) → first ≤ before → Rose before now → Rose first now
-rose_from first before now later rose = omega (arith, later, rose)
+-- ---- what is told
 
--- ---- the ends of runs
+last_told : (status : ℕ) (line : List ℕ) (answer : ℕ) (a b c : Option (List ℕ)) → AppendsSome a b → TellsLast status line answer b c → TellsLast status line answer a c
+last_told status line answer a b c some tells = record {
+  either = tells.either;
+  told = λ is. let at = tells.told is in (some.0 ++ at.0, subst (λ (t : List ℕ). Appends a c t) (sym (append_assoc some.0 at.0 line)) (Appends-more a b c some.0 (at.0 ++ line) some.1 at.1));
+}
 
-pub ends_with : (a b c : Option (List ℕ)) (line : List ℕ) → AppendsSome a b → Appends b c line → EndsWith a c line
-ends_with a b c line some wrote = (some.0, Appends-more a b c some.0 line some.1 wrote)
+pub end_told : (reason : ScriptEnd) (answer : ℕ) (a b c : Option (List ℕ)) → AppendsSome a b → TellsEnd reason answer b c → TellsEnd reason answer a c
+end_told end.Done answer a b c some tells = tells
+end_told end.ReadFault answer a b c some tells = last_told _ _ answer a b c some tells
+end_told end.WriteFault answer a b c some tells = tells
+end_told (end.DiskFault class) answer a b c some tells = last_told _ _ answer a b c some tells
+end_told end.InputLimit answer a b c some tells = last_told _ _ answer a b c some tells
+end_told end.NoMemory answer a b c some tells = last_told _ _ answer a b c some tells
 
-pub failed_rose : {D : Type 0} {d : Ghosts D} (a b : List (Shard D d)) (k : ℕ) → FailedAt a b k → Rose (faults_at a k) (faults_at b k)
-unfolding FailedAt
-failed_rose a b k failed = failed
+-- a line alone is the last
+pub alone_last : (status : ℕ) (line : List ℕ) (answer : ℕ) (before after : Option (List ℕ)) → TellsAlone status line answer before after → TellsLast status line answer before after
+alone_last status line answer before after tells = record { either = tells.either; told = λ is. ([], tells.told is); }
 
-pub if_some_more : {X : Type 0} (o : Option X) (P Q : X → Type 0) → IfSome o P → ((x : X) → P x → Q x) → IfSome o Q
-if_some_more None P Q holds more = tt
-if_some_more (Some x) P Q holds more = more x holds
+-- ---- the end of a script is that of its run
 
-not_both : (status n m : ℕ) → (status ≡ n) ⊎ (status ≡ m) → (status ≡ n → ⊥) → (status ≡ m → ⊥) → ⊥
-not_both status n m (inl e) a b = a e
-not_both status n m (inr e) a b = b e
+-- what the session leaves, once its disks are handed back
+record Handed {D : Type 0} {d : Ghosts D} (session : Session D d) (answer : Answer D) : Type 0 where
+  history : answer.history ≡ session.store.history.entries
+  disks : (told : ℕ → Option Image) (s : State) → HoldsAll told session.store.shards.items.items s → DisksStand d.image told answer.disks s
 
--- the damage that a refusal tells
-pub damage_told : {D : Type 0} (image : D → Option Image) (disks : List D) (fault : StartFault) (class status : ℕ) (before after : Option (List ℕ)) → class < 16 → Tells fault class status before after → status ≡ 4
-    → AreSound image disks class → ((images : ℕ → Image) → TellsImages image disks images → IsDamagedFile fault (Some (images class)) class) → TellsDamage image disks before after
-damage_told image disks (Damaged name) class status before after few told four sound damaged = (class, string_bytes name, (few, (told.1 four, (sound, damaged))))
-damage_told image disks DiskFault class status before after few told four sound damaged = absurd (not_both status 5 7 told.0 (λ e. omega (arith, e, four)) (λ e. omega (arith, e, four)))
-damage_told image disks NoMemory class status before after few told four sound damaged = absurd (not_both status 8 7 told.0 (λ e. omega (arith, e, four)) (λ e. omega (arith, e, four)))
+leaves : {D : Type 0} {d : Ghosts D} (told : ℕ → Option Image) (session : Session D d) (m : Machine) (answer : Answer D) → Handed session answer → Means told session m → Leaves d told m answer
+leaves told session m answer handed means = record {
+  history = handed.history ∙ means.store.entries;
+  disks = handed.disks told m.state means.store.shards;
+}
 
--- ---- a class of which a disk failed
+-- nothing more is written behind a script that is done
+abbrev SameIfDone : ScriptEnd → Option (List ℕ) → Option (List ℕ) → Type 0
+SameIfDone end.Done written after = after ≡ written
+SameIfDone end.ReadFault written after = Unit {0}
+SameIfDone end.WriteFault written after = Unit {0}
+SameIfDone (end.DiskFault class) written after = Unit {0}
+SameIfDone end.InputLimit written after = Unit {0}
+SameIfDone end.NoMemory written after = Unit {0}
 
-below_or : (k n : ℕ) → (k < n) ⊎ (n ≤ k)
-below_or k zero = inr (omega arith)
-below_or zero (suc n) = inl (omega arith)
-below_or (suc k) (suc n) = elim (below_or k n) [
-  | inl less ↦ inl (omega (arith, less))
-  | inr more ↦ inr (omega (arith, more))
-]
+pub leads : {D : Type 0} {d : Ghosts D} (reason : ScriptEnd) (told : ℕ → Option Image) (start : State) (taken : List ℕ) (session : Session D d) (written : Option (List ℕ)) (streams : Streams) (answer : Answer D)
+    → answer.history ≡ session.store.history.entries → ((told : ℕ → Option Image) (s : State) → HoldsAll told session.store.shards.items.items s → DisksStand d.image told answer.disks s) → SameIfDone reason written streams.written'
+    → EndsAs reason told (opening start) taken streams.written session written → Leads d told reason (opening start) taken streams answer
+leads {d = d} end.Done told start taken session written streams answer history disks same ends =
+    let at = ends.2 in (
+      ends.0,
+      (
+        ends.1,
+        (
+          at.0,
+          (
+            leaves told session ends.0 answer (record { history = history; disks = disks }) at.1.0,
+            (
+              λ all. subst (λ (t : List ℕ). Appends streams.written streams.written' t) (at.1.1.same all) (subst (λ (w : Option (List ℕ)). Appends streams.written w at.1.1.text) (sym same) at.1.1.wrote),
+              λ k few. none_pending at.0.0 ends.0 at.0.2 at.0.3.1.0 k few,
+            ),
+          ),
+        ),
+      ),
+    )
+leads end.ReadFault told start taken session written streams answer history disks same ends = (ends.0, (ends.1, (ends.2.0, leaves told session ends.0 answer (record { history = history; disks = disks }) ends.2.1)))
+leads end.InputLimit told start taken session written streams answer history disks same ends = (ends.0, (ends.1, (ends.2.0, leaves told session ends.0 answer (record { history = history; disks = disks }) ends.2.1)))
+leads end.WriteFault told start taken session written streams answer history disks same ends =
+    let cut = ends.2.1 in
+    (ends.0, (ends.1, (cut.0, (cut.1, (ends.2.0, (cut.2.0, leaves told session cut.0 answer (record { history = history; disks = disks }) cut.2.1))))))
+leads (end.DiskFault class) told start taken session written streams answer history disks same ends =
+    let cut = ends.2.1 in
+    (ends.0, (ends.1, (cut.0, (ends.2.0, (cut.1.0, history ∙ cut.1.1)))))
+leads end.NoMemory told start taken session written streams answer history disks same ends =
+    let cut = ends.2.1 in
+    (ends.0, (ends.1, (cut.0, (ends.2.0, (cut.1.0, leaves told session cut.0 answer (record { history = history; disks = disks }) cut.1.1)))))
 
-none_failed : {D : Type 0} {d : Ghosts D} (shards : List (Shard D d)) (k : ℕ) → length shards ≤ k → faults_at shards k ≡ 0
-none_failed [] k beyond = refl
-none_failed (s ∷ ss) zero beyond = absurd (omega (arith, beyond))
-none_failed (s ∷ ss) (suc k) beyond = none_failed ss k (omega (arith, beyond))
+-- ---- the history is legal
 
--- it is a class
-pub failed_class : {D : Type 0} {d : Ghosts D} (old new : List (Shard D d)) (k : ℕ) → length new ≡ 16 → Rose (faults_at old k) (faults_at new k) → k < 16
-failed_class old new k many rose = elim (below_or k 16) [
-  | inl few ↦ few
-  | inr beyond ↦ absurd (omega (arith, none_failed new k (omega (arith, many, beyond)), rose))
-]
+legal_at : (start : State) (m : Machine) (history : List Entry) → history ≡ m.entries → Stays start m → IsLegalHistory start history
+legal_at start m history same stays = subst (λ (es : List Entry). IsLegalHistory start es) (sym same) stays.legal
+
+serves_stay : (start : State) (taken : List ℕ) (last : Machine) (command : Command) → ServesUpTo (opening start) taken last command → Stays start last
+serves_stay start taken last command serves = runs_stay start (opening start) serves.handed last serves.said serves.runs (opening_stays start)
+
+pub leads_legally : {D : Type 0} {d : Ghosts D} (reason : ScriptEnd) (told : ℕ → Option Image) (start : State) (taken : List ℕ) (streams : Streams) (answer : Answer D) → Leads d told reason (opening start) taken streams answer → IsLegalHistory start answer.history
+leads_legally end.Done told start taken streams answer leads =
+    let run = leads.2.0 in
+    legal_at start leads.0 answer.history leads.2.1.0.history (does_stay start run.0 _ leads.0 run.2 run.3.1.0 (runs_stay start (opening start) _ run.0 run.1 run.3.0 (opening_stays start)))
+leads_legally end.ReadFault told start taken streams answer leads = legal_at start leads.0 answer.history leads.2.1.history (runs_stay start (opening start) _ leads.0 leads.1 leads.2.0 (opening_stays start))
+leads_legally end.InputLimit told start taken streams answer leads = legal_at start leads.0 answer.history leads.2.1.history (runs_stay start (opening start) _ leads.0 leads.1 leads.2.0 (opening_stays start))
+leads_legally end.WriteFault told start taken streams answer leads =
+    legal_at start leads.2 answer.history leads.3.1.1.history (does_stay start leads.0 leads.1 leads.2 leads.3.0 leads.3.1.1.0 (serves_stay start taken leads.0 leads.1 leads.3.1.0))
+leads_legally (end.DiskFault class) told start taken streams answer leads =
+    legal_at start leads.2 answer.history leads.3.1.1 (fails_stay start leads.0 leads.1 class leads.2 leads.3.1.0 (serves_stay start taken leads.0 leads.1 leads.3.0))
+leads_legally end.NoMemory told start taken streams answer leads =
+    legal_at start leads.2 answer.history leads.3.1.1.history (short_stays start leads.0 leads.1 leads.2 leads.3.1.0 (serves_stay start taken leads.0 leads.1 leads.3.0))
+
+-- ---- from the shards to the run
+
+cause_from : {D : Type 0} {d : Ghosts D} (reason : ScriptEnd) (shards : List (Shard D d)) (disks disks' : List D) → ((k : ℕ) → disk_faults d.faults disks k ≤ faults_at shards k) → EndFrom reason shards disks' → EndCause d reason disks disks'
+cause_from end.Done shards disks disks' later cause = tt
+cause_from end.ReadFault shards disks disks' later cause = tt
+cause_from end.WriteFault shards disks disks' later cause = tt
+cause_from (end.DiskFault class) shards disks disks' later cause = omega (arith, later class, cause)
+cause_from end.InputLimit shards disks disks' later cause = tt
+cause_from end.NoMemory shards disks disks' later cause = tt
+
+pub scripted : {D : Type 0} {d : Ghosts D} (rules : RulesValue) (disks : List D) (shards : List (Shard D d)) (streams : Streams) (answer : Answer D) → StartsAll rules disks shards → ((k : ℕ) → disk_faults d.faults disks k ≤ faults_at shards k)
+    → ShardsRun shards streams answer → Scripted d rules streams disks answer
+scripted {d = d} rules disks shards streams answer starts later run =
+    let led = run.leads (told_of d.image disks) starts.state starts.holds in record {
+      sound = starts.sound;
+      start = starts.state;
+      opens = starts.opens;
+      reason = run.reason;
+      tells = run.tells;
+      taken = run.taken;
+      consumed = run.consumed;
+      takes = run.takes;
+      leads = led;
+      legal = leads_legally run.reason (told_of d.image disks) starts.state run.taken streams answer led;
+      cause = cause_from run.reason shards disks answer.disks later run.cause;
+    }

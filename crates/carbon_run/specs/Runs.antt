@@ -1,107 +1,217 @@
--- What a run over disks comes to.
-use Rattle.std.specs.Prelude.{◌≡◌, ◌<◌, ◌⊎◌, ℕ, List, [], Option, IfSome, Ok, Err, string_bytes}
+-- What a run of carbon comes to.
+use Rattle.std.specs.Prelude.{◌≡◌, ◌<◌, ◌^◌, ◌⊎◌, ℕ, List, [], Option, IfSome, Ok, Err, length, string_bytes}
+use Rattle.std.specs.Io.KnownBytes.{Appends, Consumes, IsAtEnd}
+use Rattle.outside_io.specs.Image.{Image}
+use Rattle.outside_io.specs.Faults.{Rose}
 use Rattle.outside_io.specs.declared.disk.Disk.{Ghosts}
+use Rattle.outside_io.specs.declared.source.Source.{Ghosts as SourceGhosts}
+use Rattle.outside_io.specs.declared.sink.Sink.{Ghosts as SinkGhosts}
+use Rattle.carbon_history.specs.Book.{Book}
+use Rattle.line_frame.specs.Lines.{lines}
+use Rattle.line_frame.specs.Machine.{Runs as RunsLines}
+use Rattle.carbon_history.specs.declared.entry.Entry.{Entry}
+use Rattle.carbon_model.specs.State.{State}
+use Rattle.carbon_model.specs.RingFiles.{Opens}
+use Rattle.carbon_model.specs.Replay.{IsLegalHistory, replay}
+use Rattle.schema_rules.specs.RulesOf.{RulesValue}
+use Rattle.shard_core.specs.Opening.{AreSound, RefusesAll, settings_of}
+use Rattle.shard_core.specs.Shards.{AllTold, DisksStand, HoldsAll, disk_faults, faults_at, told_of}
 use Rattle.shard_core.specs.declared.shard.Shard.{Shard}
 use Rattle.shard_core.specs.declared.opening.Refusal.{Refusal}
 use Rattle.shard_core.specs.declared.fault.StartFault.{StartFault}
 use Rattle.shard_core.specs.declared.fault.StartFault.TheVariants.{Damaged, DiskFault, NoMemory}
-use Rattle.carbon_model.specs.RingFiles.{opening_state}
-use Rattle.std.specs.Io.KnownBytes.{Appends}
-use Rattle.outside_io.specs.Image.{Image}
-use Rattle.outside_io.specs.Faults.{Rose}
-use Rattle.carbon_history.specs.declared.entry.Entry.{Entry}
-use Rattle.carbon_model.specs.State.{State}
-use Rattle.carbon_model.specs.Replay.{IsLegalHistory, replay}
-use Rattle.carbon_model.specs.Script.{Machine, ScriptRun, opening}
-use Rattle.ring_format.specs.Layout.{LayoutValue}
-use Rattle.schema_rules.specs.LayoutBy.{layout_by}
-use Rattle.schema_rules.specs.RulesOf.{RulesValue}
-use Rattle.schema_rules.specs.declared.fault.RuleFile.{RuleFile}
-use Rattle.schema_rules.specs.declared.fault.RuleCause.{RuleCause}
-use Rattle.schema_rules.specs.declared.fault.RuleFault.TheVariants.{Fault}
-use Rattle.shard_core.specs.Opened.{FirstDamaged, IsSoundDisk}
-use Rattle.shard_core.specs.Shards.{DisksStand, HoldsAll, TellsImages, disk_faults, faults_at}
-use Rattle.carbon_run.specs.Conf.{rules_in}
+use Rattle.carbon_script.specs.Command.{Command}
+use Rattle.carbon_script.specs.Script.{Does, FailsAt, Machine, RunsShort, ScriptRun, ServesUpTo, Steps, opening}
+use Rattle.carbon_script.specs.declared.serve.ScriptEnd.{ScriptEnd}
+use Rattle.carbon_script.specs.declared.serve.ScriptEnd.TheVariants as end
+use Rattle.carbon_run.specs.Conf.{IsRefused, rules_in}
 use Rattle.carbon_run.specs.declared.conf.ConfFault.{ConfFault}
 use Rattle.carbon_run.specs.declared.conf.ConfFault.TheVariants as conf
-use Rattle.carbon_run.specs.Texts.{EndsWith, conf_fault_line, damaged_line, disk_fault_line, no_memory_line, rule_fault_line}
+use Rattle.carbon_run.specs.Texts.{EndsWith, conf_fault_line, damaged_line, disk_fault_line, limit_line, no_memory_line, read_fault_line, rule_fault_line, usage_line}
 
--- From the first state each entry of the history may come where it stands, all of them lead to the last state, and nothing is pending there.
-pub record Settles (first : State) (history : List Entry) (last : State) : Type 0 where
-  pub replayed : last ≡ replay first history
-  pub legal : IsLegalHistory first history
-  pub none_pending : (class : ℕ) → class < 16 → last.pending class ≡ []
+-- the streams of a run: what is left of the input, and what was written, before it and after it
+pub record Streams : Type 0 where
+  pub left : Option (List ℕ)
+  pub left' : Option (List ℕ)
+  pub written : Option (List ℕ)
+  pub written' : Option (List ℕ)
 
--- The script of all the bytes of the input under these rules, over disks that hold these images: what was written is its text, the history is
--- that of its end and settles what the disks show, and each disk alone stands for the state there.
-abbrev pub ScriptedUnder : {D : Type 0} → (D → Option Image) → RulesValue → List D → Option (List ℕ) → Option (List ℕ) → List D → List Entry → Option (List ℕ) → Type 0
-ScriptedUnder image rules disks left before disks' history after =
-    (images : ℕ → Image) → TellsImages image disks images → IfSome left (λ bytes. (end : Machine) × (text : List ℕ)
-    × (ScriptRun (opening (layout_by rules) images) bytes end text
-    × ((history ≡ end.entries) × (Settles (opening_state (layout_by rules) images) history end.state × (Appends before after text × DisksStand image images disks' end.state)))))
+-- what a run answers
+pub record Answer (D : Type 0) : Type 0 where
+  pub status : ℕ
+  pub history : List Entry
+  pub disks : List D
 
--- the same under some rules, which are those that the two rule files of the folder give, where it tells its files
-abbrev pub Scripted : {D : Type 0} → (D → Option Image) → Option Image → List D → Option (List ℕ) → Option (List ℕ) → List D → List Entry → Option (List ℕ) → Type 0
-Scripted image conf disks left before disks' history after =
-    (rules : RulesValue) × (IfSome conf (λ folder. rules_in folder ≡ Ok rules) × ScriptedUnder image rules disks left before disks' history after)
+-- those of a source and a sink
+abbrev pub streams_of : {S K : Type 0} → SourceGhosts S → SinkGhosts K → S → S → K → K → Streams
+streams_of s k input input' out out' =
+    record { left = s.left input; left' = s.left input'; written = k.written out; written' = k.written out' }
 
--- ---- refusals
+abbrev pub answer_of : {D : Type 0} → ℕ → Book → List D → Answer D
+answer_of status history disks = record { status = status; history = history.entries; disks = disks }
 
--- both rule files of a folder are read
-abbrev pub IsReadable : Image → Type 0
-IsReadable folder = (rules : RulesValue) × (rules_in folder ≡ Ok rules)
+-- A fault line was written, and nothing else, under the status of the fault; or it could not be written whole, and the status is 7.
+pub record TellsAlone (status : ℕ) (line : List ℕ) (answer : ℕ) (before after : Option (List ℕ)) : Type 0 where
+  pub either : (answer ≡ status) ⊎ (answer ≡ 7)
+  pub told : answer ≡ status → Appends before after line
 
--- the first fault of the rule files of a folder was told, and nothing else
-abbrev pub TellsRules : Option Image → Option (List ℕ) → Option (List ℕ) → Type 0
-TellsRules conf before after =
-    IfSome conf (λ folder. (file : RuleFile) × (cause : RuleCause) × ((rules_in folder ≡ Err (Fault file cause)) × Appends before after (rule_fault_line file cause)))
+-- the same behind what a script had written
+pub record TellsLast (status : ℕ) (line : List ℕ) (answer : ℕ) (before after : Option (List ℕ)) : Type 0 where
+  pub either : (answer ≡ status) ⊎ (answer ≡ 7)
+  pub told : answer ≡ status → EndsWith before after line
 
--- no class below this number has a damaged file, whatever the disks tell
-abbrev pub AreSound : {D : Type 0} → (D → Option Image) → List D → ℕ → Type 0
-AreSound image disks count = (images : ℕ → Image) → TellsImages image disks images → (k : ℕ) → k < count → IsSoundDisk k (images k)
+-- ---- runs that end before the script
 
--- the first damaged file of a class was told, the least class that has one, and nothing else
-abbrev pub TellsDamage : {D : Type 0} → (D → Option Image) → List D → Option (List ℕ) → Option (List ℕ) → Type 0
-TellsDamage image disks before after =
-    (class : ℕ) × (name : List ℕ) × ((class < 16) × (Appends before after (damaged_line name)
-    × (AreSound image disks class × ((images : ℕ → Image) → TellsImages image disks images → FirstDamaged class (images class) name))))
+-- The words are no command: that alone is told, and nothing is touched.
+pub record NoCommand {D : Type 0} (streams : Streams) (disks : List D) (answer : Answer D) : Type 0 where
+  pub tells : TellsAlone 2 usage_line answer.status streams.written streams.written'
+  pub history : answer.history ≡ []
+  pub disks : answer.disks ≡ disks
+  pub input : streams.left' ≡ streams.left
 
--- a call of a class's disk failed, of which no class before it has a damaged file, and that was told last
-abbrev pub TellsDiskFault : {D : Type 0} → (D → Option Image) → (D → ℕ) → List D → List D → Option (List ℕ) → Option (List ℕ) → Type 0
-TellsDiskFault image faults disks disks' before after =
-    (class : ℕ) × ((class < 16) × (Rose (disk_faults faults disks class) (disk_faults faults disks' class) × (AreSound image disks class × EndsWith before after (disk_fault_line class))))
-
--- the disks tell what they told
-abbrev pub TellAsBefore : {D : Type 0} → (D → Option Image) → List D → List D → Type 0
-TellAsBefore image disks disks' = (images : ℕ → Image) → TellsImages image disks images → TellsImages image disks' images
-
--- a call on the folder of the rule files failed, and that alone was told; nothing was put, drained or asked
-abbrev pub TellsConfFault : ℕ → ℕ → List Entry → Option (List ℕ) → Option (List ℕ) → Type 0
-TellsConfFault faults faults' history before after = Rose faults faults' × ((history ≡ []) × Appends before after conf_fault_line)
-
--- ---- the same over shards that have started
-
-abbrev pub ScriptedFrom : {D : Type 0} {d : Ghosts D} → List (Shard D d) → Option (List ℕ) → Option (List ℕ) → List D → List Entry → Option (List ℕ) → Type 0
-ScriptedFrom {D} {d} shards left before disks' history after =
-    (rules : List ℕ → LayoutValue) (images : ℕ → Image) → HoldsAll images shards (opening_state rules images) → IfSome left (λ bytes. (end : Machine) × (text : List ℕ)
-    × (ScriptRun (opening rules images) bytes end text
-    × ((history ≡ end.entries) × (Settles (opening_state rules images) history end.state × (Appends before after text × DisksStand (λ disk. d.image disk) images disks' end.state)))))
-
-abbrev pub ShardFailed : {D : Type 0} {d : Ghosts D} → List (Shard D d) → List D → Option (List ℕ) → Option (List ℕ) → Type 0
-ShardFailed {D} {d} shards disks' before after =
-    (class : ℕ) × ((class < 16) × (Rose (faults_at shards class) (disk_faults (λ disk. d.faults disk) disks' class) × EndsWith before after (disk_fault_line class)))
-
--- why the shards did not start was told, by the status and the line
-abbrev pub Tells : StartFault → ℕ → ℕ → Option (List ℕ) → Option (List ℕ) → Type 0
-Tells (Damaged name) class status before after = ((status ≡ 4) ⊎ (status ≡ 7)) × (status ≡ 4 → Appends before after (damaged_line (string_bytes name)))
-Tells DiskFault class status before after = ((status ≡ 5) ⊎ (status ≡ 7)) × (status ≡ 5 → Appends before after (disk_fault_line class))
-Tells NoMemory class status before after = ((status ≡ 8) ⊎ (status ≡ 7)) × (status ≡ 8 → Appends before after no_memory_line)
-
-abbrev pub TellsRefusal : Refusal → ℕ → Option (List ℕ) → Option (List ℕ) → Type 0
-TellsRefusal refusal status before after = Tells refusal.fault refusal.class status before after
-
--- why there are no rules was told, by the status and the line
+-- how a fault of the rule files is told
 abbrev pub TellsConf : ConfFault → ℕ → Option (List ℕ) → Option (List ℕ) → Type 0
-TellsConf (conf.Refused file cause) status before after = ((status ≡ 3) ⊎ (status ≡ 7)) × (status ≡ 3 → Appends before after (rule_fault_line file cause))
-TellsConf conf.DiskFault status before after = ((status ≡ 5) ⊎ (status ≡ 7)) × (status ≡ 5 → Appends before after conf_fault_line)
-TellsConf conf.NoMemory status before after = ((status ≡ 8) ⊎ (status ≡ 7)) × (status ≡ 8 → Appends before after no_memory_line)
+TellsConf (conf.Refused file cause) answer before after = TellsAlone 3 (rule_fault_line file cause) answer before after
+TellsConf conf.DiskFault answer before after = TellsAlone 5 conf_fault_line answer before after
+TellsConf conf.NoMemory answer before after = TellsAlone 8 no_memory_line answer before after
+
+abbrev pub IsConfDisk : ConfFault → Type 0
+IsConfDisk (conf.Refused file cause) = ⊥
+IsConfDisk conf.DiskFault = Unit {0}
+IsConfDisk conf.NoMemory = ⊥
+
+-- There are no rules: a rule file is refused by its first fault, the folder's count of failed calls rose, or memory ran out. That alone is told,
+-- nothing was put, drained or asked, and the disks and the input are as they were.
+pub record NoRules {D : Type 0} (d : Ghosts D) (folder folder' : D) (streams : Streams) (disks : List D) (answer : Answer D) : Type 0 where
+  pub fault : ConfFault
+  pub first : IfSome (d.image folder) (IsRefused fault)
+  pub cause : IsConfDisk fault → Rose (d.faults folder) (d.faults folder')
+  pub tells : TellsConf fault answer.status streams.written streams.written'
+  pub history : answer.history ≡ []
+  pub disks : answer.disks ≡ disks
+  pub input : streams.left' ≡ streams.left
+
+-- how it is told that a shard did not start
+abbrev pub TellsStart : StartFault → ℕ → ℕ → Option (List ℕ) → Option (List ℕ) → Type 0
+TellsStart (Damaged name) class answer before after = TellsAlone 4 (damaged_line (string_bytes name)) answer before after
+TellsStart DiskFault class answer before after = TellsAlone 5 (disk_fault_line class) answer before after
+TellsStart NoMemory class answer before after = TellsAlone 8 no_memory_line answer before after
+
+-- A shard did not start: its class has a damaged file, the first of which is told, or its disk's count of failed calls rose, or memory ran out; and no
+-- class before it has a damaged file. That alone is told, nothing was put, drained or asked, and the disks tell what they told.
+pub record NoStart {D : Type 0} (d : Ghosts D) (streams : Streams) (disks : List D) (answer : Answer D) : Type 0 where
+  pub refusal : Refusal
+  pub refuses : RefusesAll d disks answer.disks refusal
+  pub tells : TellsStart refusal.fault refusal.class answer.status streams.written streams.written'
+  pub history : answer.history ≡ []
+  pub input : streams.left' ≡ streams.left
+
+-- ---- runs of the script
+
+-- how the end of a script is told: the text of a script that is done, else the fault line behind what was written
+abbrev pub TellsEnd : ScriptEnd → ℕ → Option (List ℕ) → Option (List ℕ) → Type 0
+TellsEnd end.Done answer before after = answer ≡ 0
+TellsEnd end.ReadFault answer before after = TellsLast 6 read_fault_line answer before after
+TellsEnd end.WriteFault answer before after = answer ≡ 7
+TellsEnd (end.DiskFault class) answer before after = TellsLast 5 (disk_fault_line class) answer before after
+TellsEnd end.InputLimit answer before after = TellsLast 10 limit_line answer before after
+TellsEnd end.NoMemory answer before after = TellsLast 8 no_memory_line answer before after
+
+-- the fault line of an end could not be written: the status is 7 although the script did not end by a failed write
+abbrev pub FailsToTell : ScriptEnd → ℕ → Type 0
+FailsToTell end.WriteFault answer = ⊥
+FailsToTell end.Done answer = answer ≡ 7
+FailsToTell end.ReadFault answer = answer ≡ 7
+FailsToTell (end.DiskFault class) answer = answer ≡ 7
+FailsToTell end.InputLimit answer = answer ≡ 7
+FailsToTell end.NoMemory answer = answer ≡ 7
+
+-- the entries are those of this machine, and each disk that tells its image alone stands for what its state keeps
+pub record Leaves {D : Type 0} (d : Ghosts D) (told : ℕ → Option Image) (machine : Machine) (answer : Answer D) : Type 0 where
+  pub history : answer.history ≡ machine.entries
+  pub disks : DisksStand d.image told answer.disks machine.state
+
+-- What was done by a script that began at `start` and was given the bytes `taken`. Where it is done, it is a whole script: its text was written, where all
+-- disks tell what they hold, and nothing is pending. Where a read failed or the limit was met, all lines were served, and no drain was made besides.
+-- Else the first lines were served and the next command was cut short, which is the drain of all that is pending only where it says so or behind the last
+-- line of an input that came to its end.
+abbrev pub Leads : {D : Type 0} → Ghosts D → (ℕ → Option Image) → ScriptEnd → Machine → List ℕ → Streams → Answer D → Type 0
+Leads d told end.Done start taken streams answer =
+    (last : Machine) × (text : List ℕ) × (ScriptRun start taken last text × (Leaves d told last answer
+    × ((AllTold told → Appends streams.written streams.written' text) × ((class : ℕ) → class < 16 → last.state.pending class ≡ []))))
+Leads d told end.ReadFault start taken streams answer =
+    (last : Machine) × (said : List ℕ) × (RunsLines Steps start (lines taken) last said × Leaves d told last answer)
+Leads d told end.InputLimit start taken streams answer =
+    (last : Machine) × (said : List ℕ) × (RunsLines Steps start (lines taken) last said × Leaves d told last answer)
+Leads d told end.WriteFault start taken streams answer =
+    (before : Machine) × (command : Command) × (last : Machine) × (said : List ℕ)
+    × (ServesUpTo start taken before command × (Does before command last said × Leaves d told last answer))
+Leads d told (end.DiskFault class) start taken streams answer =
+    (before : Machine) × (command : Command) × (last : Machine)
+    × (ServesUpTo start taken before command × (FailsAt before command class last × (answer.history ≡ last.entries)))
+Leads d told end.NoMemory start taken streams answer =
+    (before : Machine) × (command : Command) × (last : Machine)
+    × (ServesUpTo start taken before command × (RunsShort before command last × Leaves d told last answer))
+
+-- how much of the input was taken
+abbrev pub Takes : ScriptEnd → List ℕ → Option (List ℕ) → Type 0
+Takes end.Done taken left' = IsAtEnd left' × (length taken < 2 ^ 40)
+Takes end.InputLimit taken left' = length taken ≡ 2 ^ 40
+Takes end.ReadFault taken left' = Unit {0}
+Takes end.WriteFault taken left' = Unit {0}
+Takes (end.DiskFault class) taken left' = Unit {0}
+Takes end.NoMemory taken left' = Unit {0}
+
+-- the disk of a class failed only where its count of failed calls rose
+abbrev pub EndCause : {D : Type 0} → Ghosts D → ScriptEnd → List D → List D → Type 0
+EndCause d (end.DiskFault class) disks disks' = Rose (disk_faults d.faults disks class) (disk_faults d.faults disks' class)
+EndCause d end.Done disks disks' = Unit {0}
+EndCause d end.ReadFault disks disks' = Unit {0}
+EndCause d end.WriteFault disks disks' = Unit {0}
+EndCause d end.InputLimit disks disks' = Unit {0}
+EndCause d end.NoMemory disks disks' = Unit {0}
+
+abbrev pub EndFrom : {D : Type 0} {d : Ghosts D} → ScriptEnd → List (Shard D d) → List D → Type 0
+EndFrom {d = d} (end.DiskFault class) shards disks' = Rose (faults_at shards class) (disk_faults d.faults disks' class)
+EndFrom end.Done shards disks' = Unit {0}
+EndFrom end.ReadFault shards disks' = Unit {0}
+EndFrom end.WriteFault shards disks' = Unit {0}
+EndFrom end.InputLimit shards disks' = Unit {0}
+EndFrom end.NoMemory shards disks' = Unit {0}
+
+-- The same of shards that have started, whatever state they stand for.
+pub record ShardsRun {D : Type 0} {d : Ghosts D} (shards : List (Shard D d)) (streams : Streams) (answer : Answer D) : Type 0 where
+  pub reason : ScriptEnd
+  pub tells : TellsEnd reason answer.status streams.written streams.written'
+  pub taken : List ℕ
+  pub consumed : Consumes streams.left streams.left' taken
+  pub takes : Takes reason taken streams.left'
+  pub leads : (told : ℕ → Option Image) (s : State) → HoldsAll told shards s → Leads d told reason (opening s) taken streams answer
+  pub cause : EndFrom reason shards answer.disks
+
+-- The script ran over all sixteen shards, none of whose disks has a damaged file, from a state in which a run may begin over these disks. Its history
+-- is legal.
+pub record Scripted {D : Type 0} (d : Ghosts D) (rules : RulesValue) (streams : Streams) (disks : List D) (answer : Answer D) : Type 0 where
+  pub sound : AreSound (told_of d.image disks) 16
+  pub start : State
+  pub opens : Opens (settings_of rules) (told_of d.image disks) start
+  pub reason : ScriptEnd
+  pub tells : TellsEnd reason answer.status streams.written streams.written'
+  pub taken : List ℕ
+  pub consumed : Consumes streams.left streams.left' taken
+  pub takes : Takes reason taken streams.left'
+  pub leads : Leads d (told_of d.image disks) reason (opening start) taken streams answer
+  pub legal : IsLegalHistory start answer.history
+  pub cause : EndCause d reason disks answer.disks
+
+-- ---- all runs of the command
+
+-- both rule files are read, and these are the rules that they give
+pub record HasRules {D : Type 0} (d : Ghosts D) (folder : D) (streams : Streams) (disks : List D) (answer : Answer D) : Type 0 where
+  pub rules : RulesValue
+  pub read : IfSome (d.image folder) (λ image. rules_in image ≡ Ok rules)
+  pub comes : NoStart d streams disks answer ⊎ Scripted d rules streams disks answer
+
+-- A run of `script`: it has no rules; or a shard does not start; or the script runs.
+abbrev pub Outcome : {D : Type 0} → Ghosts D → D → D → Streams → List D → Answer D → Type 0
+Outcome d folder folder' streams disks answer = NoRules d folder folder' streams disks answer ⊎ HasRules d folder streams disks answer

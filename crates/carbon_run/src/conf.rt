@@ -1,6 +1,6 @@
 //! Reading the two rule files from the folder of the configuration.
 ghost use Rattle.std.specs.Prelude.{◌≡◌, ◌≤◌, Ok, IfOk, IfErr, IfSome, IsErrOf, length};
-ghost use Rattle.outside_io.specs.Faults.{Rose};
+ghost use Rattle.outside_io.specs.Frames.{ReadsOnly};
 ghost use Rattle.schema_rules.specs.RulesOf.{rules_result};
 ghost use Rattle.outside_io.specs.Image.{IsWithinFile, ReadsFile};
 ghost use Rattle.carbon_run.specs.Conf.{Answers, IsOfReading, IsRefused, ReadsFront, rule_file_name, rules_in};
@@ -32,9 +32,7 @@ pub(crate) enum ConfFault {
 pub(crate) fn read_rules<D: Disk>(alloc: Global, conf: &mut D) -> Result<Rules, ConfFault>
     ensures rules { IfOk result (λ rules. IfSome (D.image conf.old) (λ image. rules_in image ≡ Ok rules)) }
     ensures refused { IfErr result (λ fault. IfSome (D.image conf.old) (IsRefused fault)) }
-    ensures kept { D.image conf.new ≡ D.image conf.old }
-    ensures later { D.faults conf.old ≤ D.faults conf.new }
-    ensures cause { IsErrOf result ConfFault.DiskFault → Rose (D.faults conf.old) (D.faults conf.new) }
+    ensures frame { ReadsOnly D.Disk conf.old conf.new (IsErrOf result ConfFault.DiskFault) }
 {
     let schemas = match read_front(alloc, conf, RuleFile::Schemas) {
         Ok(schemas) => schemas,
@@ -67,9 +65,7 @@ fn rules_of(alloc: Global, schemas: &[u8], aggregations: &[u8]) -> Result<Rules,
 fn read_front<D: Disk>(alloc: Global, conf: &mut D, file: RuleFile) -> Result<Vec<u8>, ConfFault>
     ensures bytes { IfOk result (λ bytes. ReadsFront (D.image conf.old) (rule_file_name file) bytes.items) }
     ensures fault { IfErr result IsOfReading }
-    ensures kept { D.image conf.new ≡ D.image conf.old }
-    ensures later { D.faults conf.old ≤ D.faults conf.new }
-    ensures cause { IsErrOf result ConfFault.DiskFault → Rose (D.faults conf.old) (D.faults conf.new) }
+    ensures frame { ReadsOnly D.Disk conf.old conf.new (IsErrOf result ConfFault.DiskFault) }
 {
     let name = name_of(file);
     let size = match conf.length(name) {
@@ -97,9 +93,7 @@ fn read_bytes<D: Disk>(
     ensures bytes { IfOk result (λ bytes. ReadsFile (D.image conf.old) name.now 0 bytes.items) }
     ensures count { IfOk result (λ bytes. length bytes.items ≡ count) }
     ensures fault { IfErr result IsOfReading }
-    ensures kept { D.image conf.new ≡ D.image conf.old }
-    ensures later { D.faults conf.old ≤ D.faults conf.new }
-    ensures cause { IsErrOf result ConfFault.DiskFault → Rose (D.faults conf.old) (D.faults conf.new) }
+    ensures frame { ReadsOnly D.Disk conf.old conf.new (IsErrOf result ConfFault.DiskFault) }
 {
     let mut bytes = match zeros(alloc, count) {
         Ok(bytes) => bytes,

@@ -21,7 +21,7 @@ impl<D: Disk> Report<D> {
     // The report of a run that ended before its command.
     pub(crate) fn without_command(alloc: Global, status: u8, disks: Vec<D>) -> Report<D>
         ensures status { result.status ≡ status }
-        ensures history { result.history ≡ [] }
+        ensures history { result.history.entries ≡ [] }
         ensures disks { result.disks ≡ disks }
     {
         Report {

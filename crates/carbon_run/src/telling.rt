@@ -1,6 +1,7 @@
-ghost use Rattle.std.specs.Prelude.{◌≡◌, ◌≢◌, ◌≤◌, ◌⊎◌, OnOk, OnErr};
+ghost use Rattle.std.specs.Prelude.{◌≡◌, ◌≢◌, IsErr, OnOk};
 ghost use Rattle.std.specs.Io.KnownBytes.{Appends};
-ghost use Rattle.outside_io.specs.Faults.{Rose};
+ghost use Rattle.outside_io.specs.Frames.{CountsWrites};
+ghost use Rattle.carbon_run.specs.Runs.{TellsAlone};
 ghost use Rattle.carbon_run.specs.Texts.{usage_line, read_fault_line, no_memory_line, limit_line, damaged_line, damaged_word, disk_fault_line, disk_fault_word, conf_fault_line, rule_fault_line};
 
 use crate::rule_line::RuleLine;
@@ -11,10 +12,8 @@ use schema_rules::{RuleCause, RuleFile};
 /// Writes the fault line of a status. The answer is that status, or 7 where the line could not be written.
 fn tell<K: Sink>(out: &mut K, status: u8, line: &[u8]) -> u8
     requires { status ≢ 7 }
-    ensures status { (result ≡ status) ⊎ (result ≡ 7) }
-    ensures line { result ≡ status → Appends (K.written out.old) (K.written out.new) line.now }
-    ensures cause { result ≡ 7 → Rose (K.write_faults out.old) (K.write_faults out.new) }
-    ensures later { K.write_faults out.old ≤ K.write_faults out.new }
+    ensures told { TellsAlone status line.now result (K.written out.old) (K.written out.new) }
+    ensures writes { CountsWrites K.Sink out.old out.new (result ≡ 7) }
 {
     match write_all(out, line) {
         Ok(()) => status,
@@ -25,10 +24,8 @@ fn tell<K: Sink>(out: &mut K, status: u8, line: &[u8]) -> u8
 /// Tells that the words are no command: status 2, or 7 where that could not be written.
 #[tactic(auto, unfolding(crate::specs::Texts::usage_line))]
 pub(crate) fn tell_usage<K: Sink>(out: &mut K) -> u8
-    ensures status { (result ≡ 2) ⊎ (result ≡ 7) }
-    ensures line { result ≡ 2 → Appends (K.written out.old) (K.written out.new) usage_line }
-    ensures cause { result ≡ 7 → Rose (K.write_faults out.old) (K.write_faults out.new) }
-    ensures later { K.write_faults out.old ≤ K.write_faults out.new }
+    ensures told { TellsAlone 2 usage_line result (K.written out.old) (K.written out.new) }
+    ensures writes { CountsWrites K.Sink out.old out.new (result ≡ 7) }
 {
     tell(out, 2, b"carbon: usage\n")
 }
@@ -36,10 +33,8 @@ pub(crate) fn tell_usage<K: Sink>(out: &mut K) -> u8
 /// Tells that a read failed: status 6, or 7 where that could not be written.
 #[tactic(auto, unfolding(crate::specs::Texts::read_fault_line))]
 pub(crate) fn tell_read_fault<K: Sink>(out: &mut K) -> u8
-    ensures status { (result ≡ 6) ⊎ (result ≡ 7) }
-    ensures line { result ≡ 6 → Appends (K.written out.old) (K.written out.new) read_fault_line }
-    ensures cause { result ≡ 7 → Rose (K.write_faults out.old) (K.write_faults out.new) }
-    ensures later { K.write_faults out.old ≤ K.write_faults out.new }
+    ensures told { TellsAlone 6 read_fault_line result (K.written out.old) (K.written out.new) }
+    ensures writes { CountsWrites K.Sink out.old out.new (result ≡ 7) }
 {
     tell(out, 6, b"carbon: read fault\n")
 }
@@ -47,10 +42,8 @@ pub(crate) fn tell_read_fault<K: Sink>(out: &mut K) -> u8
 /// Tells that memory ran out: status 8, or 7 where that could not be written.
 #[tactic(auto, unfolding(crate::specs::Texts::no_memory_line))]
 pub(crate) fn tell_no_memory<K: Sink>(out: &mut K) -> u8
-    ensures status { (result ≡ 8) ⊎ (result ≡ 7) }
-    ensures line { result ≡ 8 → Appends (K.written out.old) (K.written out.new) no_memory_line }
-    ensures cause { result ≡ 7 → Rose (K.write_faults out.old) (K.write_faults out.new) }
-    ensures later { K.write_faults out.old ≤ K.write_faults out.new }
+    ensures told { TellsAlone 8 no_memory_line result (K.written out.old) (K.written out.new) }
+    ensures writes { CountsWrites K.Sink out.old out.new (result ≡ 7) }
 {
     tell(out, 8, b"carbon: no memory\n")
 }
@@ -58,20 +51,16 @@ pub(crate) fn tell_no_memory<K: Sink>(out: &mut K) -> u8
 /// Tells that a stated limit was met: status 10, or 7 where that could not be written.
 #[tactic(auto, unfolding(crate::specs::Texts::limit_line))]
 pub(crate) fn tell_limit<K: Sink>(out: &mut K) -> u8
-    ensures status { (result ≡ 10) ⊎ (result ≡ 7) }
-    ensures line { result ≡ 10 → Appends (K.written out.old) (K.written out.new) limit_line }
-    ensures cause { result ≡ 7 → Rose (K.write_faults out.old) (K.write_faults out.new) }
-    ensures later { K.write_faults out.old ≤ K.write_faults out.new }
+    ensures told { TellsAlone 10 limit_line result (K.written out.old) (K.written out.new) }
+    ensures writes { CountsWrites K.Sink out.old out.new (result ≡ 7) }
 {
     tell(out, 10, b"carbon: limit\n")
 }
 
 /// Tells the first damaged file, by its name: status 4, or 7 where that could not be written.
 pub(crate) fn tell_damaged<K: Sink>(out: &mut K, name: &str) -> u8
-    ensures status { (result ≡ 4) ⊎ (result ≡ 7) }
-    ensures line { result ≡ 4 → Appends (K.written out.old) (K.written out.new) (damaged_line name.now) }
-    ensures cause { result ≡ 7 → Rose (K.write_faults out.old) (K.write_faults out.new) }
-    ensures later { K.write_faults out.old ≤ K.write_faults out.new }
+    ensures told { TellsAlone 4 (damaged_line name.now) result (K.written out.old) (K.written out.new) }
+    ensures writes { CountsWrites K.Sink out.old out.new (result ≡ 7) }
 {
     match write_damaged(out, name) {
         Ok(()) => 4,
@@ -82,8 +71,7 @@ pub(crate) fn tell_damaged<K: Sink>(out: &mut K, name: &str) -> u8
 /// Writes the line of a damaged file.
 fn write_damaged<K: Sink>(out: &mut K, name: &str) -> Result<(), WriteFault>
     ensures line { OnOk result (Appends (K.written out.old) (K.written out.new) (damaged_line name.now)) }
-    ensures cause { OnErr result (Rose (K.write_faults out.old) (K.write_faults out.new)) }
-    ensures later { K.write_faults out.old ≤ K.write_faults out.new }
+    ensures writes { CountsWrites K.Sink out.old out.new (IsErr result) }
 {
     write_damaged_word(out)?;
     write_all(out, name.as_bytes())?;
@@ -93,18 +81,15 @@ fn write_damaged<K: Sink>(out: &mut K, name: &str) -> Result<(), WriteFault>
 #[tactic(auto, unfolding(crate::specs::Texts::damaged_word))]
 fn write_damaged_word<K: Sink>(out: &mut K) -> Result<(), WriteFault>
     ensures word { OnOk result (Appends (K.written out.old) (K.written out.new) damaged_word) }
-    ensures cause { OnErr result (Rose (K.write_faults out.old) (K.write_faults out.new)) }
-    ensures later { K.write_faults out.old ≤ K.write_faults out.new }
+    ensures writes { CountsWrites K.Sink out.old out.new (IsErr result) }
 {
     write_all(out, b"carbon: damaged file ")
 }
 
 /// Tells that the disk of a class failed: status 5, or 7 where that could not be written.
 pub(crate) fn tell_disk_fault<K: Sink>(out: &mut K, class: u32) -> u8
-    ensures status { (result ≡ 5) ⊎ (result ≡ 7) }
-    ensures line { result ≡ 5 → Appends (K.written out.old) (K.written out.new) (disk_fault_line class) }
-    ensures cause { result ≡ 7 → Rose (K.write_faults out.old) (K.write_faults out.new) }
-    ensures later { K.write_faults out.old ≤ K.write_faults out.new }
+    ensures told { TellsAlone 5 (disk_fault_line class) result (K.written out.old) (K.written out.new) }
+    ensures writes { CountsWrites K.Sink out.old out.new (result ≡ 7) }
 {
     match write_disk_fault(out, class) {
         Ok(()) => 5,
@@ -115,8 +100,7 @@ pub(crate) fn tell_disk_fault<K: Sink>(out: &mut K, class: u32) -> u8
 /// Writes the line of a failed disk.
 fn write_disk_fault<K: Sink>(out: &mut K, class: u32) -> Result<(), WriteFault>
     ensures line { OnOk result (Appends (K.written out.old) (K.written out.new) (disk_fault_line class)) }
-    ensures cause { OnErr result (Rose (K.write_faults out.old) (K.write_faults out.new)) }
-    ensures later { K.write_faults out.old ≤ K.write_faults out.new }
+    ensures writes { CountsWrites K.Sink out.old out.new (IsErr result) }
 {
     let mut buffer = Buffer::new();
     write_disk_fault_word(out)?;
@@ -127,8 +111,7 @@ fn write_disk_fault<K: Sink>(out: &mut K, class: u32) -> Result<(), WriteFault>
 #[tactic(auto, unfolding(crate::specs::Texts::disk_fault_word))]
 fn write_disk_fault_word<K: Sink>(out: &mut K) -> Result<(), WriteFault>
     ensures word { OnOk result (Appends (K.written out.old) (K.written out.new) disk_fault_word) }
-    ensures cause { OnErr result (Rose (K.write_faults out.old) (K.write_faults out.new)) }
-    ensures later { K.write_faults out.old ≤ K.write_faults out.new }
+    ensures writes { CountsWrites K.Sink out.old out.new (IsErr result) }
 {
     write_all(out, b"carbon: disk fault class ")
 }
@@ -136,20 +119,16 @@ fn write_disk_fault_word<K: Sink>(out: &mut K) -> Result<(), WriteFault>
 /// Tells that the disk of the configuration failed: status 5, or 7 where that could not be written.
 #[tactic(auto, unfolding(crate::specs::Texts::conf_fault_line))]
 pub(crate) fn tell_conf_fault<K: Sink>(out: &mut K) -> u8
-    ensures status { (result ≡ 5) ⊎ (result ≡ 7) }
-    ensures line { result ≡ 5 → Appends (K.written out.old) (K.written out.new) conf_fault_line }
-    ensures cause { result ≡ 7 → Rose (K.write_faults out.old) (K.write_faults out.new) }
-    ensures later { K.write_faults out.old ≤ K.write_faults out.new }
+    ensures told { TellsAlone 5 conf_fault_line result (K.written out.old) (K.written out.new) }
+    ensures writes { CountsWrites K.Sink out.old out.new (result ≡ 7) }
 {
     tell(out, 5, b"carbon: disk fault conf\n")
 }
 
 /// Tells why a rule file is refused: status 3, or 7 where that could not be written.
 pub(crate) fn tell_rule_fault<K: Sink>(out: &mut K, file: RuleFile, cause: RuleCause) -> u8
-    ensures status { (result ≡ 3) ⊎ (result ≡ 7) }
-    ensures line { result ≡ 3 → Appends (K.written out.old) (K.written out.new) (rule_fault_line file cause) }
-    ensures cause { result ≡ 7 → Rose (K.write_faults out.old) (K.write_faults out.new) }
-    ensures later { K.write_faults out.old ≤ K.write_faults out.new }
+    ensures told { TellsAlone 3 (rule_fault_line file cause) result (K.written out.old) (K.written out.new) }
+    ensures writes { CountsWrites K.Sink out.old out.new (result ≡ 7) }
 {
     let line = RuleLine::of(file, cause);
     tell(out, 3, line.text())

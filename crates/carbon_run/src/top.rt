@@ -1,9 +1,7 @@
-ghost use Rattle.std.specs.Prelude.{◌≡◌, ◌<◌, ◌≤◌, ◌^◌, ◌⊎◌, ℕ, List, [], true, false, IfSome, length, map, string_bytes, vec_len};
-ghost use Rattle.std.specs.Io.KnownBytes.{Appends, IsAtEnd};
-ghost use Rattle.outside_io.specs.Faults.{Rose};
-ghost use Rattle.carbon_run.specs.Runs.{AreSound, IsReadable, Scripted, TellAsBefore, TellsConf, TellsConfFault, TellsDamage, TellsDiskFault, TellsRules};
+ghost use Rattle.std.specs.Prelude.{◌≡◌, true, false, map, string_bytes, vec_len};
+ghost use Rattle.outside_io.specs.Frames.{CountsReads, CountsWrites};
+ghost use Rattle.carbon_run.specs.Runs.{NoCommand, Outcome, TellsConf, answer_of, streams_of};
 ghost use Rattle.carbon_run.specs.Words.{is_script};
-ghost use Rattle.carbon_run.specs.Texts.{EndsWith, usage_line, read_fault_line, no_memory_line, limit_line};
 
 use crate::Report;
 use crate::conf::{ConfFault, read_rules};
@@ -30,7 +28,9 @@ use std::alloc::Global;
 /// | 8 | memory ran out |
 /// | 10 | 2^40 bytes of input were taken |
 ///
-/// At each status but 0 and 7 the last line that is written says the fault. The clock and the net are not looked at.
+/// At each status but 0 and 7 the last line that is written says the fault. All sixteen shards have started before the first byte of
+/// the input is taken. A run that 6, 7, 8 or 10 ends before the end of its input makes no drain at its end. The clock and the net
+/// are not looked at.
 pub fn run<S: Source, K: Sink, D: Disk + Send + Drop, C: Clock + Sync, N: Net + Sync>(
     alloc: Global,
     words: &[String],
@@ -42,35 +42,13 @@ pub fn run<S: Source, K: Sink, D: Disk + Send + Drop, C: Clock + Sync, N: Net + 
     net: &mut N,
 ) -> Report<D>
     requires { vec_len disks ≡ 16 }
-    ensures script { result.status ≡ 0 → Scripted (λ disk. D.image disk) (D.image conf.old) disks.items (S.left input.old) (K.written out.old) result.disks.items result.history (K.written out.new) }
-    ensures whole_input { result.status ≡ 0 → IsAtEnd (S.left input.new) }
-
-    // Which words are a command.
-    ensures command { is_script (map string_bytes words.now) ≡ true → (result.status ≡ 0) ⊎ ((result.status ≡ 3) ⊎ ((result.status ≡ 4) ⊎ ((result.status ≡ 5) ⊎ ((result.status ≡ 6) ⊎ ((result.status ≡ 7) ⊎ ((result.status ≡ 8) ⊎ (result.status ≡ 10))))))) }
-    ensures usage { is_script (map string_bytes words.now) ≡ false → (result.status ≡ 2) ⊎ (result.status ≡ 7) }
-    ensures usage_text { result.status ≡ 2 → Appends (K.written out.old) (K.written out.new) usage_line }
-
-    // Which rule files and which ring files are refused.
-    ensures rules { result.status ≡ 3 → TellsRules (D.image conf.old) (K.written out.old) (K.written out.new) }
-    ensures readable { (result.status ≡ 0) ⊎ ((result.status ≡ 4) ⊎ ((result.status ≡ 6) ⊎ (result.status ≡ 10))) → IfSome (D.image conf.old) IsReadable }
-    ensures damage { result.status ≡ 4 → TellsDamage (λ disk. D.image disk) disks.items (K.written out.old) (K.written out.new) }
-    ensures sound { (result.status ≡ 0) ⊎ ((result.status ≡ 6) ⊎ (result.status ≡ 10)) → AreSound (λ disk. D.image disk) disks.items 16 }
-    ensures refused { (result.status ≡ 3) ⊎ (result.status ≡ 4) → (result.history ≡ []) × TellAsBefore (λ disk. D.image disk) disks.items result.disks.items }
-
-    // The causes of the other faults, and the last line.
-    ensures disk_fault { result.status ≡ 5 → TellsConfFault (D.faults conf.old) (D.faults conf.new) result.history (K.written out.old) (K.written out.new) ⊎ (IfSome (D.image conf.old) IsReadable × TellsDiskFault (λ disk. D.image disk) (λ disk. D.faults disk) disks.items result.disks.items (K.written out.old) (K.written out.new)) }
-    ensures read_cause { result.status ≡ 6 → Rose (S.read_faults input.old) (S.read_faults input.new) }
-    ensures read_text { result.status ≡ 6 → EndsWith (K.written out.old) (K.written out.new) read_fault_line }
-    ensures write_cause { result.status ≡ 7 → Rose (K.write_faults out.old) (K.write_faults out.new) }
-    ensures memory_text { result.status ≡ 8 → EndsWith (K.written out.old) (K.written out.new) no_memory_line }
-    ensures short { result.status ≡ 0 → IfSome (S.left input.old) (λ bytes. length bytes < 2 ^ 40) }
-    ensures limit { result.status ≡ 10 → IfSome (S.left input.old) (λ bytes. 2 ^ 40 ≤ length bytes) }
-    ensures limit_text { result.status ≡ 10 → EndsWith (K.written out.old) (K.written out.new) limit_line }
-
-    // All disks come back, and what is not looked at stays as it was.
+    ensures usage { is_script (map string_bytes words.now) ≡ false → (conf.new ≡ conf.old)
+        × NoCommand (streams_of S.Source K.Sink input.old input.new out.old out.new) disks.items (answer_of result.status result.history result.disks.items) }
+    ensures outcome { is_script (map string_bytes words.now) ≡ true → Outcome D.Disk conf.old conf.new
+        (streams_of S.Source K.Sink input.old input.new out.old out.new) disks.items (answer_of result.status result.history result.disks.items) }
+    ensures reads { CountsReads S.Source input.old input.new (result.status ≡ 6) }
+    ensures writes { CountsWrites K.Sink out.old out.new (result.status ≡ 7) }
     ensures disks { vec_len result.disks ≡ 16 }
-    ensures usage_disks { is_script (map string_bytes words.now) ≡ false → result.disks.items ≡ disks.items }
-    ensures usage_conf { is_script (map string_bytes words.now) ≡ false → conf.new ≡ conf.old }
     ensures conf { D.image conf.new ≡ D.image conf.old }
     ensures net { net.new ≡ net.old }
 {
@@ -90,7 +68,7 @@ pub fn run<S: Source, K: Sink, D: Disk + Send + Drop, C: Clock + Sync, N: Net + 
 /// Tells why there are no rules.
 fn tell_conf<K: Sink>(fault: &ConfFault, out: &mut K) -> u8
     ensures told { TellsConf fault.now result (K.written out.old) (K.written out.new) }
-    ensures cause { result ≡ 7 → Rose (K.write_faults out.old) (K.write_faults out.new) }
+    ensures writes { CountsWrites K.Sink out.old out.new (result ≡ 7) }
 {
     match fault {
         ConfFault::Refused(file, cause) => tell_rule_fault(out, *file, *cause),

@@ -1,2 +1,4 @@
-pub mod MeansLemmas
-pub mod StandingLemmas
+pub mod StoreLemmas
+pub mod SessionLemmas
+pub mod LegalLemmas
+pub mod ScriptLemmas

@@ -1,19 +1,18 @@
 -- The causes of faults.
-use Rattle.std.specs.Prelude.{ℕ, List}
+use Rattle.std.specs.Prelude.{ℕ, List, Result, Ok, Err}
 use Rattle.outside_io.specs.declared.disk.Disk.{Ghosts}
-use Rattle.ring_archive.specs.declared.fault.RingFault.{RingFault}
-use Rattle.ring_archive.specs.declared.fault.RingFault.TheVariants as ring
-use Rattle.shard_core.specs.Shards.{FailedAt}
+use Rattle.shard_core.specs.Shards.{FailedAt, NoFewer}
 use Rattle.shard_core.specs.declared.shard.Shard.{Shard}
 use Rattle.carbon_script.specs.declared.fault.Fault.{Fault}
 use Rattle.carbon_script.specs.declared.fault.Fault.TheVariants.{Disk, NoMemory}
 
--- a fault in a ring file of a class
-abbrev pub fault_of : RingFault → ℕ → Fault
-fault_of ring.DiskFault class = Disk class
-fault_of ring.NoMemory class = NoMemory
-
 -- a disk is told to have failed only where a call of it failed
-abbrev pub HasCause : {D : Type 0} {d : Ghosts D} → Fault → List (Shard D d) → List (Shard D d) → Type 0
-HasCause (Disk class) old new = FailedAt old new class
-HasCause NoMemory old new = Unit {0}
+abbrev pub HasCause : {D : Type 0} {d : Ghosts D} {T : Type 0} → Result T Fault → List (Shard D d) → List (Shard D d) → Type 0
+HasCause (Ok x) old new = Unit {0}
+HasCause (Err (Disk class)) old new = FailedAt old new class
+HasCause (Err NoMemory) old new = Unit {0}
+
+-- No disk's count of failed calls fell, and that of a class rose where its disk is told to have failed.
+pub record CountsDisks {D : Type 0} {d : Ghosts D} {T : Type 0} (result : Result T Fault) (old new : List (Shard D d)) : Type 0 where
+  pub later : NoFewer old new
+  pub cause : HasCause result old new

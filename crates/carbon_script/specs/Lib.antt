@@ -1,9 +1,12 @@
+pub mod Command
+pub mod Counts
+pub mod Answer
+pub mod Script
 pub mod SeenCommand
 pub mod Windows
 pub mod Faults
-pub mod Means
-pub mod Changes
+pub mod Stores
 pub mod PutEnds
-pub mod Standing
+pub mod Sessions
 pub mod Ends
 pub mod Replies

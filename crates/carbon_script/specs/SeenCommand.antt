@@ -2,7 +2,7 @@
 use Rattle.std.specs.Prelude.{◌≡◌, true}
 use Rattle.metric_line.specs.Moment.{is_moment}
 use Rattle.metric_line.specs.Seen.{seen}
-use Rattle.carbon_model.specs.Command.{Command, Metric, Refused, Long, Clock, Ask, DrainAll, Bad}
+use Rattle.carbon_script.specs.Command.{Command, Metric, Refused, Long, Clock, Ask, DrainAll, Bad}
 use Rattle.carbon_script.specs.Windows.{IsQuestion}
 use Rattle.carbon_script.specs.declared.command.Command.{Command as Read}
 use Rattle.carbon_script.specs.declared.command.Command.TheVariants as read

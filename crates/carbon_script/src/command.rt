@@ -1,4 +1,4 @@
-use carbon_model::Question;
+use crate::question::Question;
 use metric_line::{Datum, LineFault};
 
 /// What a line of a script says.

@@ -1,4 +1,3 @@
-use ring_archive::RingFault;
 use std::alloc::{AllocError, AllocFailed};
 
 /// Why a command was not done.
@@ -8,21 +7,6 @@ pub enum Fault {
     Disk(u32),
     /// Memory ran out.
     NoMemory,
-}
-
-impl Fault {
-    ghost use Rattle.std.specs.Prelude.{◌≡◌};
-    ghost use Rattle.carbon_script.specs.Faults.{fault_of};
-
-    /// A fault in a ring file of a class.
-    pub(crate) fn of(fault: RingFault, class: u32) -> Fault
-        ensures { result ≡ fault_of fault class }
-    {
-        match fault {
-            RingFault::DiskFault => Fault::Disk(class),
-            RingFault::NoMemory => Fault::NoMemory,
-        }
-    }
 }
 
 impl From<AllocError> for Fault {

@@ -2,13 +2,19 @@
 #![tactic(auto)]
 
 mod command;
+mod counts;
 mod fault;
 mod parse;
-mod plain;
+mod question;
 mod reply;
 mod serve;
+mod session;
+mod store;
 mod summary;
 
+pub use counts::Counts;
 pub use fault::Fault;
-pub use plain::Plain;
-pub use serve::{MOST_INPUT_BYTES, ScriptEnd, script};
+pub use question::Question;
+pub use serve::{ScriptEnd, script};
+pub use session::Session;
+pub use store::Store;

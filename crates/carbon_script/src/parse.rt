@@ -2,13 +2,13 @@ ghost use Rattle.std.specs.Prelude.{◌≡◌, ◌≤◌, IfOk, IfSome, true, le
 ghost use Rattle.std.specs.List.{list_any, starts_with};
 ghost use Rattle.fixed_num.specs.Whole.{whole_number};
 ghost use Rattle.line_frame.specs.Lines.{Whole};
-ghost use Rattle.carbon_model.specs.Command.{behind, clock_word, ask_word, from_word, until_word, clock_moment, set_clock, asked, cut_at_ampersand, ten_digits, is_ampersand, is_form_byte, form_path, form_moment, question_of, question_in, command_in, command_of, is_command, is_drain_all};
+ghost use Rattle.carbon_script.specs.Command.{behind, clock_word, ask_word, from_word, until_word, clock_moment, set_clock, asked, cut_at_ampersand, ten_digits, is_ampersand, is_form_byte, form_path, form_moment, question_of, question_in, command_in, command_of, is_command, is_drain_all};
 ghost use Rattle.metric_line.specs.Moment.{is_moment};
 ghost use Rattle.carbon_script.specs.SeenCommand.{seen_command, IsSound};
 ghost use Rattle.carbon_script.specs.Windows.{IsQuestion};
 
 use crate::command::Command;
-use carbon_model::Question;
+use crate::question::Question;
 use fixed_num::read_whole;
 use metric_line::{GREATEST_MOMENT, LineFault, legal_moment, read_line};
 use metric_path::{MetricPath, PathFault};
@@ -37,7 +37,7 @@ fn is_command(line: &[u8]) -> bool
     line.starts_with(b"!")
 }
 
-#[tactic(auto, unfolding(carbon_model::specs::Command::command_in))]
+#[tactic(auto, unfolding(crate::specs::Command::command_in))]
 fn read_command_in(alloc: Global, line: &[u8]) -> Result<Command, AllocError>
     ensures command { IfOk result (λ command. seen_command command ≡ command_in line.now) }
     ensures sound { IfOk result IsSound }
@@ -52,14 +52,14 @@ fn read_command_in(alloc: Global, line: &[u8]) -> Result<Command, AllocError>
     }
 }
 
-#[tactic(auto, unfolding(carbon_model::specs::Command::is_drain_all, carbon_model::specs::Command::drain_word))]
+#[tactic(auto, unfolding(crate::specs::Command::is_drain_all, crate::specs::Command::drain_word))]
 fn is_drain_all(line: &[u8]) -> bool
     ensures { result ≡ is_drain_all line.now }
 {
     line == b"!drain".as_slice()
 }
 
-#[tactic(auto, unfolding(carbon_model::specs::Command::set_clock))]
+#[tactic(auto, unfolding(crate::specs::Command::set_clock))]
 fn read_set_clock(line: &[u8]) -> Option<u32>
     ensures moment { result ≡ set_clock line.now }
     ensures legal { IfSome result (λ t. is_moment t ≡ true) }
@@ -67,7 +67,7 @@ fn read_set_clock(line: &[u8]) -> Option<u32>
     read_clock_moment(behind_clock_word(line)?)
 }
 
-#[tactic(auto, unfolding(carbon_model::specs::Command::clock_moment))]
+#[tactic(auto, unfolding(crate::specs::Command::clock_moment))]
 fn read_clock_moment(text: &[u8]) -> Option<u32>
     ensures moment { result ≡ clock_moment text.now }
     ensures legal { IfSome result (λ t. is_moment t ≡ true) }
@@ -85,7 +85,7 @@ fn read_short_number(text: &[u8]) -> Option<u64>
     }
 }
 
-#[tactic(auto, unfolding(carbon_model::specs::Command::asked))]
+#[tactic(auto, unfolding(crate::specs::Command::asked))]
 fn read_asked(alloc: Global, line: &[u8]) -> Result<Option<Question>, AllocError>
     ensures question { IfOk result (λ question. question ≡ asked line.now) }
     ensures sound { IfOk result (λ question. IfSome question IsQuestion) }
@@ -96,7 +96,7 @@ fn read_asked(alloc: Global, line: &[u8]) -> Result<Option<Question>, AllocError
     }
 }
 
-#[tactic(auto, unfolding(carbon_model::specs::Command::question_in))]
+#[tactic(auto, unfolding(crate::specs::Command::question_in))]
 fn read_question(alloc: Global, text: &[u8]) -> Result<Option<Question>, AllocError>
     ensures question { IfOk result (λ question. question ≡ question_in text.now) }
     ensures sound { IfOk result (λ question. IfSome question IsQuestion) }
@@ -116,7 +116,7 @@ fn read_question(alloc: Global, text: &[u8]) -> Result<Option<Question>, AllocEr
     read_question_of(alloc, path, from, until)
 }
 
-#[tactic(auto, unfolding(carbon_model::specs::Command::question_of))]
+#[tactic(auto, unfolding(crate::specs::Command::question_of))]
 fn read_question_of(
     alloc: Global,
     path: &[u8],
@@ -141,7 +141,7 @@ fn read_question_of(
     Ok(Some(Question { path, from, until }))
 }
 
-#[tactic(auto, unfolding(carbon_model::specs::Command::form_moment))]
+#[tactic(auto, unfolding(crate::specs::Command::form_moment))]
 fn read_form_moment(text: &[u8]) -> Option<u32>
     ensures moment { result ≡ form_moment text.now }
     ensures small { IfSome result (λ t. t ≤ 4000000000) }
@@ -154,7 +154,7 @@ fn read_form_moment(text: &[u8]) -> Option<u32>
     }
 }
 
-#[tactic(auto, unfolding(carbon_model::specs::Command::form_path))]
+#[tactic(auto, unfolding(crate::specs::Command::form_path))]
 fn read_form_path(alloc: Global, text: &[u8]) -> Result<Option<MetricPath>, AllocError>
     ensures { IfOk result (λ path. path ≡ form_path text.now) }
 {
@@ -198,28 +198,28 @@ fn ampersand_in(text: &[u8]) -> Option<usize>
     text.iter().position(|b| *b == b'&')
 }
 
-#[tactic(auto, unfolding(carbon_model::specs::Command::clock_word))]
+#[tactic(auto, unfolding(crate::specs::Command::clock_word))]
 fn behind_clock_word(text: &[u8]) -> Option<&[u8]>
     ensures { option_map (λ rest. rest.now) result ≡ behind clock_word text.now }
 {
     behind(b"!clock ", text)
 }
 
-#[tactic(auto, unfolding(carbon_model::specs::Command::ask_word))]
+#[tactic(auto, unfolding(crate::specs::Command::ask_word))]
 fn behind_ask_word(text: &[u8]) -> Option<&[u8]>
     ensures { option_map (λ rest. rest.now) result ≡ behind ask_word text.now }
 {
     behind(b"!ask target=", text)
 }
 
-#[tactic(auto, unfolding(carbon_model::specs::Command::from_word))]
+#[tactic(auto, unfolding(crate::specs::Command::from_word))]
 fn behind_from_word(text: &[u8]) -> Option<&[u8]>
     ensures { option_map (λ rest. rest.now) result ≡ behind from_word text.now }
 {
     behind(b"from=", text)
 }
 
-#[tactic(auto, unfolding(carbon_model::specs::Command::until_word))]
+#[tactic(auto, unfolding(crate::specs::Command::until_word))]
 fn behind_until_word(text: &[u8]) -> Option<&[u8]>
     ensures { option_map (λ rest. rest.now) result ≡ behind until_word text.now }
 {

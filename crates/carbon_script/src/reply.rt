@@ -1,6 +1,7 @@
 ghost use Rattle.std.specs.Prelude.{◌≡◌, ◌++◌, ◌<◌, ◌≤◌, ◌*◌, ◌+◌, ◌^◌, IfOk, IfSome, OnOk, length};
 ghost use Rattle.carbon_script.specs.Replies.{reply_of};
-ghost use Rattle.carbon_model.specs.Answer.{EndsInTime, answer_text, series_text, points_text, next_text, point_text, value_text, separator, null_text, target_text, datapoints_text, series_end, no_series};
+ghost use Rattle.carbon_model.specs.Series.{EndsInTime};
+ghost use Rattle.carbon_script.specs.Answer.{answer_text, series_text, points_text, next_text, point_text, value_text, separator, null_text, target_text, datapoints_text, series_end, no_series};
 
 use carbon_model::Series;
 use fixed_num::{MILLI_TEXT, Milli, print_milli};
@@ -116,35 +117,35 @@ fn push_value(out: &mut Vec<u8>, value: Option<Milli>) -> Result<(), AllocError>
     }
 }
 
-#[tactic(auto, unfolding(carbon_model::specs::Answer::null_text))]
+#[tactic(auto, unfolding(crate::specs::Answer::null_text))]
 fn push_null(out: &mut Vec<u8>) -> Result<(), AllocError>
     ensures { OnOk result (out.new.items ≡ out.old.items ++ null_text) }
 {
     out.extend_from_slice(b"null")
 }
 
-#[tactic(auto, unfolding(carbon_model::specs::Answer::target_text))]
+#[tactic(auto, unfolding(crate::specs::Answer::target_text))]
 fn push_target(out: &mut Vec<u8>) -> Result<(), AllocError>
     ensures { OnOk result (out.new.items ≡ out.old.items ++ target_text) }
 {
     out.extend_from_slice(b"[{\"target\": \"")
 }
 
-#[tactic(auto, unfolding(carbon_model::specs::Answer::datapoints_text))]
+#[tactic(auto, unfolding(crate::specs::Answer::datapoints_text))]
 fn push_datapoints(out: &mut Vec<u8>) -> Result<(), AllocError>
     ensures { OnOk result (out.new.items ≡ out.old.items ++ datapoints_text) }
 {
     out.extend_from_slice(b"\", \"datapoints\": [")
 }
 
-#[tactic(auto, unfolding(carbon_model::specs::Answer::series_end))]
+#[tactic(auto, unfolding(crate::specs::Answer::series_end))]
 fn push_series_end(out: &mut Vec<u8>) -> Result<(), AllocError>
     ensures { OnOk result (out.new.items ≡ out.old.items ++ series_end) }
 {
     out.extend_from_slice(b"]}]")
 }
 
-#[tactic(auto, unfolding(carbon_model::specs::Answer::no_series))]
+#[tactic(auto, unfolding(crate::specs::Answer::no_series))]
 fn push_no_series(out: &mut Vec<u8>) -> Result<(), AllocError>
     ensures { OnOk result (out.new.items ≡ out.old.items ++ no_series) }
 {

@@ -1,12 +1,12 @@
 ghost use Rattle.std.specs.Prelude.{◌≡◌, ◌++◌, OnOk, decimal};
-ghost use Rattle.carbon_model.specs.Script.{drained_text, drained_word, count_text, puts_text, refusals_text, stored_word, replaced_word, full_word, fields_word, path_word, value_word, time_word, long_word, drains_word};
+ghost use Rattle.carbon_script.specs.Script.{drained_text, drained_word, count_text, puts_text, refusals_text, stored_word, replaced_word, full_word, fields_word, path_word, value_word, time_word, long_word, drains_word};
 
-use carbon_model::Counts;
+use crate::counts::Counts;
 use itoa::Buffer;
 use std::alloc::AllocError;
 
 /// Appends the counts of the puts, by how they ended.
-#[tactic(auto, unfolding(carbon_model::specs::Script::puts_text))]
+#[tactic(auto, unfolding(crate::specs::Script::puts_text))]
 pub fn push_puts(out: &mut Vec<u8>, counts: &Counts) -> Result<(), AllocError>
     ensures { OnOk result (out.new.items ≡ out.old.items ++ puts_text counts.now) }
 {
@@ -16,7 +16,7 @@ pub fn push_puts(out: &mut Vec<u8>, counts: &Counts) -> Result<(), AllocError>
 }
 
 /// Appends the counts of the refused lines, by their reasons.
-#[tactic(auto, unfolding(carbon_model::specs::Script::refusals_text))]
+#[tactic(auto, unfolding(crate::specs::Script::refusals_text))]
 pub fn push_refusals(out: &mut Vec<u8>, counts: &Counts) -> Result<(), AllocError>
     ensures { OnOk result (out.new.items ≡ out.old.items ++ refusals_text counts.now) }
 {
@@ -27,56 +27,56 @@ pub fn push_refusals(out: &mut Vec<u8>, counts: &Counts) -> Result<(), AllocErro
     push_long(out, counts.long)
 }
 
-#[tactic(auto, unfolding(carbon_model::specs::Script::stored_word))]
+#[tactic(auto, unfolding(crate::specs::Script::stored_word))]
 fn push_stored(out: &mut Vec<u8>, count: u64) -> Result<(), AllocError>
     ensures { OnOk result (out.new.items ≡ out.old.items ++ count_text stored_word count) }
 {
     push_count(out, b"stored ", count)
 }
 
-#[tactic(auto, unfolding(carbon_model::specs::Script::replaced_word))]
+#[tactic(auto, unfolding(crate::specs::Script::replaced_word))]
 fn push_replaced(out: &mut Vec<u8>, count: u64) -> Result<(), AllocError>
     ensures { OnOk result (out.new.items ≡ out.old.items ++ count_text replaced_word count) }
 {
     push_count(out, b" replaced ", count)
 }
 
-#[tactic(auto, unfolding(carbon_model::specs::Script::full_word))]
+#[tactic(auto, unfolding(crate::specs::Script::full_word))]
 fn push_full(out: &mut Vec<u8>, count: u64) -> Result<(), AllocError>
     ensures { OnOk result (out.new.items ≡ out.old.items ++ count_text full_word count) }
 {
     push_count(out, b" full ", count)
 }
 
-#[tactic(auto, unfolding(carbon_model::specs::Script::fields_word))]
+#[tactic(auto, unfolding(crate::specs::Script::fields_word))]
 fn push_fields(out: &mut Vec<u8>, count: u64) -> Result<(), AllocError>
     ensures { OnOk result (out.new.items ≡ out.old.items ++ count_text fields_word count) }
 {
     push_count(out, b" fields ", count)
 }
 
-#[tactic(auto, unfolding(carbon_model::specs::Script::path_word))]
+#[tactic(auto, unfolding(crate::specs::Script::path_word))]
 fn push_path(out: &mut Vec<u8>, count: u64) -> Result<(), AllocError>
     ensures { OnOk result (out.new.items ≡ out.old.items ++ count_text path_word count) }
 {
     push_count(out, b" path ", count)
 }
 
-#[tactic(auto, unfolding(carbon_model::specs::Script::value_word))]
+#[tactic(auto, unfolding(crate::specs::Script::value_word))]
 fn push_value(out: &mut Vec<u8>, count: u64) -> Result<(), AllocError>
     ensures { OnOk result (out.new.items ≡ out.old.items ++ count_text value_word count) }
 {
     push_count(out, b" value ", count)
 }
 
-#[tactic(auto, unfolding(carbon_model::specs::Script::time_word))]
+#[tactic(auto, unfolding(crate::specs::Script::time_word))]
 fn push_time(out: &mut Vec<u8>, count: u64) -> Result<(), AllocError>
     ensures { OnOk result (out.new.items ≡ out.old.items ++ count_text time_word count) }
 {
     push_count(out, b" time ", count)
 }
 
-#[tactic(auto, unfolding(carbon_model::specs::Script::long_word))]
+#[tactic(auto, unfolding(crate::specs::Script::long_word))]
 fn push_long(out: &mut Vec<u8>, count: u64) -> Result<(), AllocError>
     ensures { OnOk result (out.new.items ≡ out.old.items ++ count_text long_word count) }
 {
@@ -84,7 +84,7 @@ fn push_long(out: &mut Vec<u8>, count: u64) -> Result<(), AllocError>
 }
 
 /// Appends the number of drains.
-#[tactic(auto, unfolding(carbon_model::specs::Script::drains_word))]
+#[tactic(auto, unfolding(crate::specs::Script::drains_word))]
 pub fn push_drains(out: &mut Vec<u8>, count: u64) -> Result<(), AllocError>
     ensures { OnOk result (out.new.items ≡ out.old.items ++ count_text drains_word count) }
 {
@@ -99,7 +99,7 @@ pub fn push_drained(out: &mut Vec<u8>, count: usize) -> Result<(), AllocError>
     out.extend_from_slice(b"\n")
 }
 
-#[tactic(auto, unfolding(carbon_model::specs::Script::drained_word))]
+#[tactic(auto, unfolding(crate::specs::Script::drained_word))]
 fn push_drained_count(out: &mut Vec<u8>, count: u64) -> Result<(), AllocError>
     ensures { OnOk result (out.new.items ≡ out.old.items ++ count_text drained_word count) }
 {

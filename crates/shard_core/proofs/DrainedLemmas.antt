@@ -1,5 +1,5 @@
 -- A plan that is written drains the points into the file.
-use Rattle.std.proofs.Common.{◌≡◌, ◌∙◌, ℕ, ℤ, Bool, true, false, List, [], Option, Some, None, IsSomeAnd, IfOk, OnOk, Result, Ok, Err, refl, if◌then◌else◌}
+use Rattle.std.proofs.Common.{◌≡◌, ◌∙◌, ℕ, ℤ, Bool, true, false, List, [], Option, Some, None, IsSomeAnd, IfOk, IfSome, OnOk, Result, Ok, Err, refl, if◌then◌else◌}
 use Rattle.std.specs.Prelude.{slice_get}
 use Rattle.outside_io.specs.Image.{Image, ChangesOnly, WhereKnown}
 use Rattle.ring_format.specs.declared.archive.Archive.{Archive}
@@ -36,6 +36,15 @@ any_path path other layout file rings reads = reads
 pub on_ok_more : {X E : Type 0} (r : Result X E) (P Q : Type 0) → OnOk r P → (P → Q) → OnOk r Q
 on_ok_more (Ok x) P Q holds more = more holds
 on_ok_more (Err e) P Q holds more = tt
+
+pub both_ok_more : {X E : Type 0} (r : Result X E) (P Q R : Type 0) → OnOk r P → OnOk r Q → (P → Q → R) → OnOk r R
+both_ok_more (Ok x) P Q R one other more = more one other
+both_ok_more (Err e) P Q R one other more = tt
+
+-- a fact that holds anyway
+pub if_some_always : {X P : Type 0} (o : Option X) → P → IfSome o (λ x. P)
+if_some_always None holds = tt
+if_some_always (Some x) holds = holds
 
 pub if_ok_more : {X E : Type 0} (r : Result X E) (P Q : X → Type 0) → IfOk r P → ((x : X) → P x → Q x) → IfOk r Q
 if_ok_more (Ok x) P Q holds more = more x holds

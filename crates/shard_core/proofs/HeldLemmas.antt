@@ -8,13 +8,11 @@ use Rattle.metric_path.specs.Class.{class_of}
 use Rattle.metric_path.specs.FileName.{file_name_of}
 use Rattle.metric_path.proofs.FileNameLemmas.{file_names_differ}
 use Rattle.ring_format.specs.Layout.{LayoutValue, layout_fault}
-use Rattle.ring_archive.specs.Ring.{IsRingFile}
+use Rattle.ring_archive.specs.Ring.{IsRingFile, OnFile}
 use Rattle.ring_archive.specs.declared.fault.RingFault.{RingFault}
-use Rattle.carbon_model.specs.State.{Kept}
-use Rattle.shard_core.specs.Shard.{HasFiles, HoldsKept, LayoutsByPath}
+use Rattle.shard_core.specs.Shard.{HasFiles, IndexedWith, LayoutsByPath, SameLayouts}
 use Rattle.shard_core.specs.Drained.{DrainsFile}
 use Rattle.shard_core.proofs.FileLemmas.{same_text}
-use Rattle.shard_core.proofs.KeptLemmas.{IndexedWith}
 
 -- a file of a lawful layout
 abbrev pub IsLawfulRing : LayoutValue → List ℕ → Type 0
@@ -57,10 +55,20 @@ pub lawful_here : (class : ℕ) (layouts : LayoutsByPath) (image : Image) (path 
     → HasFiles class layouts (Some image) → layout_fault layout.archives layout.factor ≡ None
 lawful_here class layouts image path layout legal one found files = some_lawful (image (file_name_of path)) layout (layout_had path layouts image layout found (files path legal one))
 
-pub lawful_held : (opening : Image) (class : ℕ) (layouts : LayoutsByPath) (known : Option Image) (kept : List ℕ → Option Kept) (path : List ℕ) (layout : LayoutValue) → path_fault path ≡ None → class_of path ≡ class
-    → Some layout ≡ lookup (bytes_eq path) layouts → HasFiles class layouts known → HoldsKept opening class layouts known kept → layout_fault layout.archives layout.factor ≡ None
-lawful_held opening class layouts None kept path layout legal one found files holds = absurd holds.files
-lawful_held opening class layouts (Some image) kept path layout legal one found files holds = lawful_here class layouts image path layout legal one found files
+pub lawful_held : (class : ℕ) (layouts : LayoutsByPath) (known : Option Image) (path : List ℕ) (layout : LayoutValue) → path_fault path ≡ None → class_of path ≡ class
+    → Some layout ≡ lookup (bytes_eq path) layouts → HasFiles class layouts known → IfSome known (λ image. layout_fault layout.archives layout.factor ≡ None)
+lawful_held class layouts None path layout legal one found files = tt
+lawful_held class layouts (Some image) path layout legal one found files = lawful_here class layouts image path layout legal one found files
+
+-- and its file is there
+whole_ring : (held : Option (List ℕ)) (layout : LayoutValue) → IsSomeAnd held (IsLawfulRing layout) → IsSomeAnd held (IsRingFile layout)
+whole_ring None layout ring = absurd ring
+whole_ring (Some file) layout ring = ring.1
+
+pub file_held : (class : ℕ) (layouts : LayoutsByPath) (known : Option Image) (path : List ℕ) (layout : LayoutValue) → path_fault path ≡ None → class_of path ≡ class
+    → Some layout ≡ lookup (bytes_eq path) layouts → HasFiles class layouts known → OnFile known (file_name_of path) (IsRingFile layout)
+file_held class layouts None path layout legal one found files = tt
+file_held class layouts (Some image) path layout legal one found files = whole_ring (image (file_name_of path)) layout (layout_had path layouts image layout found (files path legal one))
 
 -- a drain of a metric with a file, however it ended
 old_files : (class : ℕ) (layouts : LayoutsByPath) (known known' : Option Image) (path : List ℕ) (layout : LayoutValue) → path_fault path ≡ None → class_of path ≡ class → Some layout ≡ lookup (bytes_eq path) layouts
@@ -118,13 +126,19 @@ files_with_new class layouts layouts' (Some before) (Some after) path layout now
     others_have class layouts layouts' before after path legal drains.others indexed.1
     (has_layout path layouts' after layout (sym indexed.0) (some_both (after (file_name_of path)) layout lawful drains.whole)) files
 
--- the file was created, and the layout was noted or found no memory
-pub files_noted : {X E : Type 0} (r : Result X E) (class : ℕ) (layouts layouts' : LayoutsByPath) (known known' : Option Image) (path : List ℕ) (layout : LayoutValue) (now : ℕ) (points : List (ℕ × ℤ)) → path_fault path ≡ None
-    → layout_fault layout.archives layout.factor ≡ None → lookup (bytes_eq path) layouts ≡ None → OnOk r (lookup (bytes_eq path) layouts' ≡ Some layout)
-    → OnOk r ((other : List ℕ) → bytes_eq other path ≡ false → lookup (bytes_eq other) layouts' ≡ lookup (bytes_eq other) layouts) → OnErr r (layouts' ≡ layouts)
-    → WhereKnown known known' (λ before after. DrainsFile true before after (file_name_of path) layout now points)
+-- the layouts are those that were there
+pub files_alike : (class : ℕ) (layouts layouts' : LayoutsByPath) (known : Option Image) → SameLayouts layouts layouts' → HasFiles class layouts known → HasFiles class layouts' known
+files_alike class layouts layouts' None same files = tt
+files_alike class layouts layouts' (Some image) same files =
+    λ path legal one. subst (λ (o : Option LayoutValue). IfSome o (λ layout. IsSomeAnd (image (file_name_of path)) (IsLawfulRing layout))) (sym (same path)) (files path legal one)
+
+-- a file was to be created, however that ended
+pub files_of_new : {X : Type 0} (r : Result X RingFault) (class : ℕ) (layouts layouts' : LayoutsByPath) (known known' : Option Image) (path : List ℕ) (layout : LayoutValue) (now : ℕ) (points : List (ℕ × ℤ)) → path_fault path ≡ None
+    → layout_fault layout.archives layout.factor ≡ None → lookup (bytes_eq path) layouts ≡ None
+    → OnOk r (WhereKnown known known' (λ before after. DrainsFile true before after (file_name_of path) layout now points)) → OnOk r (IndexedWith layouts layouts' path layout)
+    → OnErr r (WhereKnown known known' (λ before after. ChangesOnly before after (file_name_of path))) → OnErr r (SameLayouts layouts layouts')
     → HasFiles class layouts known → HasFiles class layouts' known'
-files_noted (Ok x) class layouts layouts' known known' path layout now points legal lawful none here others same drains files =
-    files_with_new class layouts layouts' known known' path layout now points legal lawful (here, others) drains files
-files_noted (Err e) class layouts layouts' known known' path layout now points legal lawful none here others same drains files =
-    subst (λ (ls : LayoutsByPath). HasFiles class ls known') (sym same) (files_without class layouts known known' path legal none (others_kept true known known' (file_name_of path) layout now points drains) files)
+files_of_new (Ok x) class layouts layouts' known known' path layout now points legal lawful none drains indexed others same files =
+    files_with_new class layouts layouts' known known' path layout now points legal lawful indexed drains files
+files_of_new (Err e) class layouts layouts' known known' path layout now points legal lawful none drains indexed others same files =
+    files_alike class layouts layouts' known' same (files_without class layouts known known' path legal none others files)

@@ -14,7 +14,7 @@ use Rattle.archive_update.specs.Batch.{batch}
 use Rattle.carbon_model.specs.State.{Kept, layout_or, rings_of}
 use Rattle.carbon_model.specs.RingFiles.{IsOfClass, SameKept, Stands, head_of, is_sound, kept_in, kept_on, kept_with}
 use Rattle.carbon_model.specs.Replay.{kept_after, with_drained}
-use Rattle.shard_core.specs.Shard.{HoldsKept, LayoutsByPath}
+use Rattle.shard_core.specs.Shard.{HoldsKept, IndexedWith, LayoutsByPath, SameLayouts}
 use Rattle.shard_core.specs.Drained.{DrainsFile, ReadBefore}
 use Rattle.shard_core.proofs.FileLemmas.{ring_is_kept, ring_is_sound, same_text}
 
@@ -87,11 +87,6 @@ stands_after fresh given opening before after kept class path layout now points 
       others = λ name far. drains.others name (λ e. far path one (sym e)) ∙ stands.others name far;
     }
 
--- one path has this layout now, and every other has what it had
-abbrev pub IndexedWith : LayoutsByPath → LayoutsByPath → List ℕ → LayoutValue → Type 0
-IndexedWith old new path layout =
-    (lookup (bytes_eq path) new ≡ Some layout) × ((other : List ℕ) → bytes_eq other path ≡ false → lookup (bytes_eq other) new ≡ lookup (bytes_eq other) old)
-
 index_after : (class : ℕ) (given : LayoutValue) (old new : LayoutsByPath) (kept : List ℕ → Option Kept) (path : List ℕ) (layout : LayoutValue) (now : ℕ) (points : List (ℕ × ℤ)) → layout ≡ layout_or given (kept path)
     → IndexedWith old new path layout → ((p : List ℕ) → IsOfClass class p → lookup (bytes_eq p) old ≡ option_map (λ k. k.layout) (kept p))
     → (p : List ℕ) → IsOfClass class p → lookup (bytes_eq p) new ≡ option_map (λ k. k.layout) (with_drained kept path given now points p)
@@ -107,26 +102,42 @@ layout_known false given None layout known = absurd (none-some layout known)
 layout_known false given (Some k) layout known = sym (same_some k.layout layout known)
 
 -- the layouts and the disk of a class after a drain
-pub holds_after : (fresh : Bool) (given : LayoutValue) (opening : Image) (class : ℕ) (layouts layouts' : LayoutsByPath) (known known' : Option Image) (kept : List ℕ → Option Kept) (path : List ℕ) (layout : LayoutValue) (now : ℕ) (points : List (ℕ × ℤ))
-    → layout_fault layout.archives layout.factor ≡ None → IsOfClass class path → read_before fresh given (kept path) layout → IndexedWith layouts layouts' path layout
+pub holds_after : (fresh : Bool) (given : LayoutValue) (told : Option Image) (class : ℕ) (layouts layouts' : LayoutsByPath) (known known' : Option Image) (kept : List ℕ → Option Kept) (path : List ℕ) (layout : LayoutValue) (now : ℕ) (points : List (ℕ × ℤ))
+    → IfSome known (λ image. layout_fault layout.archives layout.factor ≡ None) → IsOfClass class path → read_before fresh given (kept path) layout → IndexedWith layouts layouts' path layout
     → WhereKnown known known' (λ before after. DrainsFile fresh before after (file_name_of path) layout now points)
-    → HoldsKept opening class layouts known kept → HoldsKept opening class layouts' known' (with_drained kept path given now points)
-holds_after fresh given opening class layouts layouts' None known' kept path layout now points lawful one was indexed drains holds = absurd holds.files
-holds_after fresh given opening class layouts layouts' (Some before) None kept path layout now points lawful one was indexed drains holds = absurd drains
-holds_after fresh given opening class layouts layouts' (Some before) (Some after) kept path layout now points lawful one was indexed drains holds = record {
+    → HoldsKept told class layouts known kept → HoldsKept told class layouts' known' (with_drained kept path given now points)
+holds_after fresh given told class layouts layouts' known known' kept path layout now points lawful one was indexed drains holds = record {
   index = index_after class given layouts layouts' kept path layout now points (layout_known fresh given (kept path) layout was) indexed holds.index;
-  files = stands_after fresh given opening before after kept class path layout now points lawful one was holds.files drains;
+  files = files_after told known known' lawful holds.files drains;
 }
+  where
+    files_after : (t k k' : Option Image) → IfSome k (λ image. layout_fault layout.archives layout.factor ≡ None) → WhereKnown t k (λ opening now. Stands opening now kept class)
+        → WhereKnown k k' (λ before after. DrainsFile fresh before after (file_name_of path) layout now points)
+        → WhereKnown t k' (λ opening now'. Stands opening now' (with_drained kept path given now points) class)
+    files_after None None None l files d = tt
+    files_after None None (Some after) l files d = absurd d
+    files_after None (Some before) k' l files d = absurd files
+    files_after (Some opening) None k' l files d = absurd files
+    files_after (Some opening) (Some before) None l files d = absurd d
+    files_after (Some opening) (Some before) (Some after) l files d = stands_after fresh given opening before after kept class path layout now points l one was files d
 
 no_layout : (kept : Option Kept) → None ≡ option_map (λ (k : Kept). k.layout) kept → kept ≡ None
 no_layout None e = refl
 no_layout (Some k) e = absurd (none-some k.layout e)
 
 -- what the layouts tell of a path: a metric without a layout has no file, and one with a layout has one of it
-pub was_fresh : (given : LayoutValue) (opening : Image) (class : ℕ) (layouts : LayoutsByPath) (known : Option Image) (kept : List ℕ → Option Kept) (path : List ℕ) → IsOfClass class path → None ≡ lookup (bytes_eq path) layouts
-    → HoldsKept opening class layouts known kept → read_before true given (kept path) given
-was_fresh given opening class layouts known kept path one none holds = (no_layout (kept path) (none ∙ holds.index path one), refl)
+pub was_fresh : (given : LayoutValue) (told : Option Image) (class : ℕ) (layouts : LayoutsByPath) (known : Option Image) (kept : List ℕ → Option Kept) (path : List ℕ) → IsOfClass class path → None ≡ lookup (bytes_eq path) layouts
+    → HoldsKept told class layouts known kept → read_before true given (kept path) given
+was_fresh given told class layouts known kept path one none holds = (no_layout (kept path) (none ∙ holds.index path one), refl)
 
-pub was_kept : (given : LayoutValue) (opening : Image) (class : ℕ) (layouts : LayoutsByPath) (known : Option Image) (kept : List ℕ → Option Kept) (path : List ℕ) (layout : LayoutValue) → IsOfClass class path
-    → Some layout ≡ lookup (bytes_eq path) layouts → HoldsKept opening class layouts known kept → read_before false given (kept path) layout
-was_kept given opening class layouts known kept path layout one found holds = sym (holds.index path one) ∙ sym found
+pub was_kept : (given : LayoutValue) (told : Option Image) (class : ℕ) (layouts : LayoutsByPath) (known : Option Image) (kept : List ℕ → Option Kept) (path : List ℕ) (layout : LayoutValue) → IsOfClass class path
+    → Some layout ≡ lookup (bytes_eq path) layouts → HoldsKept told class layouts known kept → read_before false given (kept path) layout
+was_kept given told class layouts known kept path layout one found holds = sym (holds.index path one) ∙ sym found
+
+-- what was noted and taken back changes nothing
+pub kept_stays : (told : Option Image) (class : ℕ) (layouts layouts' : LayoutsByPath) (known known' : Option Image) (kept : List ℕ → Option Kept) → SameLayouts layouts layouts' → known' ≡ known
+    → HoldsKept told class layouts known kept → HoldsKept told class layouts' known' kept
+kept_stays told class layouts layouts' known known' kept same image holds = record {
+  index = λ path one. same path ∙ holds.index path one;
+  files = subst (λ (k : Option Image). WhereKnown told k (λ opening now. Stands opening now kept class)) (sym image) holds.files;
+}

@@ -1,16 +1,26 @@
 -- What the starts of single shards make of the disks of all classes.
 use Rattle.std.proofs.Common.{◌≡◌, inl, inr, ◌∙◌, ℕ, zero, suc, ◌+◌, ◌<◌, List, [], ◌∷◌, ◌++◌, get_or, length, map, Option, Some, None, Result, Ok, Err, IfErr, IfSome, IsSomeAnd, refl, sym, ap, subst, arith, option_map}
-use Rattle.std.specs.Prelude.{drop, slice_get, unwrap_or}
+use Rattle.std.specs.Prelude.{◌-◌, ◌^◌, drop, option_and_then, slice_get, unwrap_or}
 use Rattle.std.proofs.lemmas.Bool.Decides.{eqb_tells}
 use Rattle.std.proofs.lemmas.Option.{none-some, slice_get-map}
 use Rattle.outside_io.specs.Image.{Image}
 use Rattle.outside_io.specs.declared.disk.Disk.{Ghosts}
-use Rattle.shard_core.specs.Opening.{AreStarted, HandsBack, RefusesNext, StartedFrom, StartsNext}
+use Rattle.shard_core.specs.Opening.{AreStarted, HandsBack, RefusesAll, RefusesNext, StartedFrom, StartsAll, StartsNext}
 use Rattle.schema_rules.specs.RulesOf.{RulesValue}
-use Rattle.carbon_model.specs.RingFiles.{kept_on}
+use Rattle.std.proofs.lemmas.Nat.{mod_below}
+use Rattle.metric_path.specs.Class.{class_of, fnv1a}
+use Rattle.metric_path.specs.Path.{path_fault}
+use Rattle.metric_path.specs.declared.path.PathFault.{PathFault}
+use Rattle.schema_rules.specs.LayoutBy.{layout_by}
+use Rattle.drain_order.specs.declared.strategy.Strategy.TheVariants.{Naive}
+use Rattle.carbon_model.specs.State.{Kept, State}
+use Rattle.carbon_model.specs.RingFiles.{IsOfClass, kept_at, kept_on, of_legal}
+use Rattle.shard_core.specs.StartFaults.{IsDamagedFile}
+use Rattle.shard_core.specs.View.{StandsFor}
+use Rattle.shard_core.specs.declared.opening.Refusal.{Refusal}
+use Rattle.shard_core.proofs.ShardsLemmas.{kept_alike}
 use Rattle.shard_core.specs.Opened.{IsSoundDisk, Opens}
 use Rattle.shard_core.specs.Shard.{LayoutsByPath}
-use Rattle.shard_core.specs.Shards.{TellsImages}
 use Rattle.shard_core.specs.declared.fault.StartFault.{StartFault}
 use Rattle.shard_core.specs.declared.shard.Shard.{Shard}
 
@@ -75,9 +85,9 @@ behind_disks [] disk rest = refl
 behind_disks (s ∷ shards) disk rest = behind_disks shards disk rest
 
 -- a disk from which a shard started is sound
-sound_image : (class : ℕ) (known : Option Image) (layouts : LayoutsByPath) → IfSome known (λ image. Opens class image layouts) → IfSome known (IsSoundDisk class)
+sound_image : (class : ℕ) (known : Option Image) (layouts : LayoutsByPath) → Opens class known layouts → IfSome known (IsSoundDisk class)
 sound_image class None layouts opens = tt
-sound_image class (Some image) layouts opens = (opens (λ path. kept_on image path) (λ path one. refl)).files.sound
+sound_image class (Some image) layouts opens = opens.holds.files.sound
 
 sound_below : {D : Type 0} {d : Ghosts D} (rules : RulesValue) (k : ℕ) (o : Option (Shard D d)) (p : Option D) → (o ≡ None → ⊥) → IfSome o (λ s. IsSomeAnd p (λ disk. StartedFrom k rules disk s))
     → IfSome p (λ disk. IfSome (d.image disk) (IsSoundDisk k))
@@ -108,21 +118,6 @@ handed_back {d = d} rules fault disks left left' back shards shards' class start
     (subst (λ xs. HandsBack d.image d.faults fault disks (length shards) xs) (sym (given ∙ ap (λ xs. map (λ s. s.disk) xs ++ left') next.none))
     (refused_at rules fault disks left left' shards shards' started rest next))
 
--- ---- what a refusal hands back
-
-same_image : (a b : Option Image) → Some a ≡ Some b → a ≡ b
-same_image a b e = ap (λ (o : Option (Option Image)). unwrap_or o a) e
-
-tells_there : {D : Type 0} (image : D → Option Image) (here : Option Image) (o p : Option D) → option_map image o ≡ option_map image p → IfSome p (λ disk. image disk ≡ here) → IfSome o (λ disk. image disk ≡ here)
-tells_there image here None p same tells = tt
-tells_there image here (Some x) None same tells = absurd (none-some (image x) (sym same))
-tells_there image here (Some x) (Some y) same tells = same_image (image x) (image y) same ∙ tells
-
-pub tells_back : {D : Type 0} (image : D → Option Image) (disks back : List D) (images : ℕ → Image) → map image back ≡ map image disks → TellsImages image disks images → TellsImages image back images
-tells_back image disks back images same tells k =
-    tells_there image (Some (images k)) (slice_get back k) (slice_get disks k)
-    (sym (slice_get-map image back k) ∙ ap (λ l. slice_get l k) same ∙ slice_get-map image disks k) (tells k)
-
 -- how many there are after a start
 pub next_counts : {D : Type 0} {d : Ghosts D} (rules : RulesValue) (left left' : List D) (shards shards' : List (Shard D d)) → StartsNext rules left shards shards' left' → (length shards' ≡ length shards + 1) × (length left' + 1 ≡ length left)
 next_counts rules left left' shards shards' next = (
@@ -130,21 +125,121 @@ next_counts rules left left' shards shards' next = (
   let e : length (next.disk ∷ left') ≡ length left' + 1 = omega arith in sym e ∙ ap (λ xs. length xs) (sym next.taken),
 )
 
--- the classes before the one that did not start are sound, whatever the disks tell
-told_sound : {D : Type 0} (image : D → Option Image) (k : ℕ) (here : Image) (o : Option D) → (o ≡ None → ⊥) → IfSome o (λ disk. image disk ≡ Some here) → IfSome o (λ disk. IfSome (image disk) (IsSoundDisk k)) → IsSoundDisk k here
-told_sound image k here None there tells sound = absurd (there refl)
-told_sound image k here (Some disk) there tells sound = subst (λ (o : Option Image). IfSome o (IsSoundDisk k)) tells sound
+-- ---- what all disks tell
 
-pub sound_before : {D : Type 0} (image : D → Option Image) (disks : List D) (class : ℕ) (images : ℕ → Image) → length disks ≡ 16 → class < 16 → TellsImages image disks images
-    → ((k : ℕ) → k < class → IfSome (slice_get disks k) (λ disk. IfSome (image disk) (IsSoundDisk k))) → (k : ℕ) → k < class → IsSoundDisk k (images k)
-sound_before image disks class images all few tells below k before =
-    told_sound image k (images k) (slice_get disks k) (there_below disks k (omega (arith, all, few, before))) (tells k) (below k before)
+-- a fact of a disk's image, of what is told of its class
+told_at : {D : Type 0} (image : D → Option Image) (o : Option D) (P : Image → Type 0) → IfSome o (λ disk. IfSome (image disk) P) → IfSome (option_and_then image o) P
+told_at image None P holds = tt
+told_at image (Some disk) P holds = holds
 
-pub sound_all : {D : Type 0} {d : Ghosts D} (rules : RulesValue) (disks : List D) (shards : List (Shard D d)) (images : ℕ → Image) → length disks ≡ 16 → length shards ≡ 16 → AreStarted rules disks shards
-    → TellsImages (λ disk. d.image disk) disks images → (k : ℕ) → k < 16 → IsSoundDisk k (images k)
-sound_all {d = d} rules disks shards images all many started tells k few =
-    told_sound (λ disk. d.image disk) k (images k) (slice_get disks k) (there_below disks k (omega (arith, all, few))) (tells k)
-    (sound_below rules k (slice_get shards k) (slice_get disks k) (there_below shards k (omega (arith, many, few))) (started k))
+told_alike : {D : Type 0} (image : D → Option Image) (o p : Option D) → option_map image o ≡ option_map image p → option_and_then image o ≡ option_and_then image p
+told_alike image None None same = refl
+told_alike image None (Some y) same = absurd (none-some (image y) same)
+told_alike image (Some x) None same = absurd (none-some (image x) (sym same))
+told_alike image (Some x) (Some y) same = ap (λ (o : Option (Option Image)). unwrap_or o None) same
+
+damaged_at : {D : Type 0} (image : D → Option Image) (o : Option D) (fault : StartFault) (class : ℕ) → IsSomeAnd o (λ disk. IsDamagedFile fault (image disk) class) → IsDamagedFile fault (option_and_then image o) class
+damaged_at image None fault class damaged = absurd damaged
+damaged_at image (Some disk) fault class damaged = damaged
+
+pub refuses_all : {D : Type 0} {d : Ghosts D} (disks back : List D) (refusal : Refusal) → refusal.class < 16 → HandsBack d.image d.faults refusal.fault disks refusal.class back → RefusesAll d disks back refusal
+refuses_all {d = d} disks back refusal few hands = record {
+  class = few;
+  same = λ k. told_alike d.image (slice_get back k) (slice_get disks k) (sym (slice_get-map d.image back k) ∙ ap (λ l. slice_get l k) hands.same ∙ slice_get-map d.image disks k);
+  damaged = damaged_at d.image (slice_get disks refusal.class) refusal.fault refusal.class hands.damaged;
+  below = λ k before. told_at d.image (slice_get disks k) (IsSoundDisk k) (hands.below k before);
+  cause = hands.cause;
+}
+
+-- ---- the state for which all shards stand
+
+-- what is kept of a class, by its shard
+kept_from : {D : Type 0} {d : Ghosts D} (rules : RulesValue) (k : ℕ) (o : Option (Shard D d)) (p : Option D) → IfSome o (λ s. IsSomeAnd p (λ disk. StartedFrom k rules disk s)) → List ℕ → Option Kept
+kept_from rules k None p started path = None
+kept_from rules k (Some s) None started path = None
+kept_from rules k (Some s) (Some disk) started path = started.opens.kept path
+
+abbrev state_of : {D : Type 0} {d : Ghosts D} (rules : RulesValue) (disks : List D) (shards : List (Shard D d)) → AreStarted rules disks shards → State
+state_of rules disks shards started = record {
+  pending = λ class. [];
+  queue = λ class. [];
+  kept = λ path. of_legal (path_fault path) (kept_from rules (class_of path) (slice_get shards (class_of path)) (slice_get disks (class_of path)) (started (class_of path)) path);
+  drains = λ path. 0;
+  rules = layout_by rules;
+  limit = 2 ^ 64 - 1;
+  strategy = Naive;
+}
+
+legal_only : (fault : Option PathFault) (kept : Option Kept) → IfSome fault (λ f. of_legal fault kept ≡ None)
+legal_only None kept = tt
+legal_only (Some f) kept = refl
+
+legal_kept : (fault : Option PathFault) (kept : Option Kept) → fault ≡ None → of_legal fault kept ≡ kept
+legal_kept None kept legal = refl
+legal_kept (Some f) kept legal = absurd (none-some f (sym legal))
+
+-- what is kept on a disk that tells its image
+kept_shown : {D : Type 0} {d : Ghosts D} (rules : RulesValue) (k : ℕ) (o : Option (Shard D d)) (p : Option D) (started : IfSome o (λ s. IsSomeAnd p (λ disk. StartedFrom k rules disk s))) (path : List ℕ) → (o ≡ None → ⊥) → class_of path ≡ k
+    → IfSome (option_and_then d.image p) (λ image. of_legal (path_fault path) (kept_from rules k o p started path) ≡ kept_at image path)
+unfolding kept_from
+kept_shown rules k None p started path there one = absurd (there refl)
+kept_shown rules k (Some s) None started path there one = absurd started
+kept_shown {d = d} rules k (Some s) (Some disk) started path there one = by (d.image disk) started.opens.shown
+  where
+    by : (told : Option Image) → IfSome told (λ image. (p : List ℕ) → IsOfClass k p → started.opens.kept p ≡ kept_on image p)
+        → IfSome told (λ image. of_legal (path_fault path) (started.opens.kept path) ≡ kept_at image path)
+    by None shown = tt
+    by (Some image) shown = shown_legal (path_fault path) refl
+      where
+        shown_legal : (fault : Option PathFault) → path_fault path ≡ fault → of_legal fault (started.opens.kept path) ≡ of_legal fault (kept_on image path)
+        shown_legal None legal = shown path (record { legal = legal; here = one })
+        shown_legal (Some f) legal = refl
+
+few_classes : (path : List ℕ) → class_of path < 16
+few_classes path = mod_below (fnv1a path) 16 (omega arith)
+
+-- each shard stands for its class's part
+started_holds : {D : Type 0} {d : Ghosts D} (rules : RulesValue) (k : ℕ) (o : Option (Shard D d)) (p : Option D) (started : IfSome o (λ s. IsSomeAnd p (λ disk. StartedFrom k rules disk s))) (s : State)
+    → s.pending k ≡ [] → s.queue k ≡ [] → s.limit ≡ 2 ^ 64 - 1 → s.strategy ≡ Naive → ((path : List ℕ) → s.rules path ≡ layout_by rules path)
+    → ((path : List ℕ) → IsOfClass k path → s.kept path ≡ kept_from rules k o p started path) → IfSome o (λ shard. StandsFor (option_and_then d.image p) shard s)
+unfolding kept_from
+started_holds rules k None p started s pending queue limit strategy given kept = tt
+started_holds rules k (Some shard) None started s pending queue limit strategy given kept = absurd started
+started_holds {d = d} rules k (Some shard) (Some disk) started s pending queue limit strategy given kept =
+    rw (started.here, started.given, started.empty, started.same) (record {
+      pending = sym pending;
+      queue = queue;
+      kept = kept_alike (d.image disk) k shard.layouts (d.image disk) started.opens.kept s.kept (λ path one. sym (kept path one)) started.opens.holds;
+      rules = λ path one. given path;
+      limit = sym limit;
+      strategy = strategy;
+    })
+
+kept_of_class : {D : Type 0} {d : Ghosts D} (rules : RulesValue) (disks : List D) (shards : List (Shard D d)) (started : AreStarted rules disks shards) (k : ℕ) (path : List ℕ) → IsOfClass k path
+    → (state_of rules disks shards started).kept path ≡ kept_from rules k (slice_get shards k) (slice_get disks k) (started k) path
+kept_of_class rules disks shards started k path one =
+    legal_kept (path_fault path) _ one.legal
+    ∙ ap (λ (j : ℕ). kept_from rules j (slice_get shards j) (slice_get disks j) (started j) path) one.here
+
+pub starts_all : {D : Type 0} {d : Ghosts D} (rules : RulesValue) (disks : List D) (shards : List (Shard D d)) → length disks ≡ 16 → length shards ≡ 16 → AreStarted rules disks shards → StartsAll rules disks shards
+starts_all {d = d} rules disks shards all many started = record {
+  state = state_of rules disks shards started;
+  opens = record {
+    pending = λ class. refl;
+    queue = λ class. refl;
+    drains = λ path. refl;
+    kept = λ path. kept_shown rules (class_of path) (slice_get shards (class_of path)) (slice_get disks (class_of path)) (started (class_of path)) path
+        (there_below shards (class_of path) (omega (arith, many, few_classes path))) refl;
+    legal = λ path. legal_only (path_fault path) _;
+    rules = λ path. refl;
+    limit = refl;
+    strategy = refl;
+  };
+  holds = λ k. started_holds rules k (slice_get shards k) (slice_get disks k) (started k) (state_of rules disks shards started) refl refl refl refl (λ path. refl)
+      (λ path one. kept_of_class rules disks shards started k path one);
+  sound = λ k few. told_at d.image (slice_get disks k) (IsSoundDisk k)
+      (sound_below rules k (slice_get shards k) (slice_get disks k) (there_below shards k (omega (arith, many, few))) (started k));
+}
 
 pub if_err_more : {X E : Type 0} (r : Result X E) (P Q : E → Type 0) → IfErr r P → ((e : E) → P e → Q e) → IfErr r Q
 if_err_more (Ok x) P Q holds more = tt

@@ -1,5 +1,5 @@
 -- Pending metrics stay those of their class.
-use Rattle.std.proofs.Common.{◌≡◌, ℕ, ℤ, Bool, true, false, List, [], ◌∷◌, All, Some, None, unwrap_or, if◌then◌else◌}
+use Rattle.std.proofs.Common.{◌≡◌, ℕ, ℤ, Bool, true, false, List, [], ◌∷◌, All, Some, None, unwrap_or, if◌then◌else◌, remove}
 use Rattle.std.specs.Map.{lookup}
 use Rattle.std.specs.Str.{bytes_eq}
 use Rattle.std.proofs.lemmas.List.Elements.{All-nil, All-cons, All-head, All-tail, All-append, All-filter}
@@ -8,7 +8,7 @@ use Rattle.metric_path.specs.Path.{path_fault}
 use Rattle.metric_path.specs.Class.{class_of}
 use Rattle.metric_line.specs.Moment.{is_moment}
 use Rattle.point_cache.specs.Points.{with_point}
-use Rattle.point_cache.specs.Pending.{points_of, Puts, with_put}
+use Rattle.point_cache.specs.Pending.{Cache, points_of, Puts, with_put}
 use Rattle.point_cache.specs.declared.put.Put.{Put}
 use Rattle.point_cache.specs.declared.put.Put.TheVariants.{Stored, Replaced, Full, NoMemory}
 use Rattle.carbon_model.specs.State.{Metrics}
@@ -53,9 +53,14 @@ with_one_more class metrics path time value all legal here moment =
     metric_put class metrics path _ all legal here (point_more (points_of metrics path) time value (points_have_moments class metrics path all) moment)
 
 -- after a put, however it ended
-pub of_class_after_put : (class : ℕ) (old new : Metrics) (path : List ℕ) (time : ℕ) (value : ℤ) (put : Put) → Puts old new path time value put → AreOfClass class old → path_fault path ≡ None → class_of path ≡ class
-    → is_moment time ≡ true → AreOfClass class new
-of_class_after_put class old new path time value Stored puts all legal here moment = rw puts.1 (with_one_more class old path time value all legal here moment)
-of_class_after_put class old new path time value Replaced puts all legal here moment = rw puts.1 (with_one_more class old path time value all legal here moment)
-of_class_after_put class old new path time value Full puts all legal here moment = absurd puts
-of_class_after_put class old new path time value NoMemory puts all legal here moment = rw puts.1 all
+pub of_class_after_put : (class : ℕ) (old new : Cache) (path : List ℕ) (time : ℕ) (value : ℤ) (put : Put) → Puts old new path time value put → AreOfClass class old.metrics → path_fault path ≡ None → class_of path ≡ class
+    → is_moment time ≡ true → AreOfClass class new.metrics
+of_class_after_put class old new path time value Stored puts all legal here moment = rw puts.1.1 (with_one_more class old.metrics path time value all legal here moment)
+of_class_after_put class old new path time value Replaced puts all legal here moment = rw puts.1 (with_one_more class old.metrics path time value all legal here moment)
+of_class_after_put class old new path time value Full puts all legal here moment = rw puts.1.1 all
+of_class_after_put class old new path time value NoMemory puts all legal here moment = rw puts.1.1 all
+
+-- the metrics without the first
+pub of_class_without : (class : ℕ) (metrics : Metrics) → AreOfClass class metrics → AreOfClass class (remove metrics 0)
+of_class_without class [] all = all
+of_class_without class (m ∷ ms) all = All-tail (IsMetric class) m ms all

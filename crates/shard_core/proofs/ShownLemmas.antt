@@ -1,7 +1,9 @@
 -- What is shown of a file.
-use Rattle.std.proofs.Common.{◌≡◌, ◌∙◌, ℕ, ℤ, Bool, true, false, List, [], ◌∷◌, Option, Some, None, IsSomeAnd, refl, sym, ap}
+use Rattle.std.proofs.Common.{◌≡◌, ◌∙◌, ℕ, ℤ, Bool, true, false, List, [], ◌∷◌, Option, Some, None, IfSome, IsSomeAnd, refl, sym, ap}
 use Rattle.std.specs.Prelude.{slice_get, option_map, unwrap_or}
-use Rattle.outside_io.specs.Image.{Image}
+use Rattle.outside_io.specs.Image.{Image, WhereKnown}
+use Rattle.std.specs.Map.{lookup}
+use Rattle.std.specs.Str.{bytes_eq}
 use Rattle.ring_format.specs.declared.archive.Archive.{Archive}
 use Rattle.ring_format.specs.Layout.{LayoutValue}
 use Rattle.ring_archive.specs.Ring.{ReadsAs, Rings, UnderPatch, bare}
@@ -10,11 +12,11 @@ use Rattle.series_fetch.specs.declared.range.Window.TheVariants.{Range}
 use Rattle.series_fetch.specs.Shown.{shown}
 use Rattle.std.proofs.lemmas.Option.{none-some}
 use Rattle.metric_path.specs.FileName.{file_name_of}
-use Rattle.point_cache.specs.Pending.{points_of}
+use Rattle.point_cache.specs.Pending.{Cache, points_of}
 use Rattle.series_fetch.specs.Window.{window}
 use Rattle.carbon_model.specs.State.{Kept, Metrics, State, no_rings, points_in, rings_of}
-use Rattle.carbon_model.specs.RingFiles.{IsOfClass}
-use Rattle.carbon_model.specs.Answer.{series_in, series_of}
+use Rattle.carbon_model.specs.RingFiles.{IsOfClass, Stands}
+use Rattle.carbon_model.specs.Series.{series_at, series_in, series_of}
 use Rattle.carbon_model.specs.declared.series.Series.{Series}
 use Rattle.schema_rules.specs.RulesOf.{RulesValue}
 use Rattle.shard_core.specs.Drained.{ShowsFile}
@@ -65,13 +67,32 @@ series_by false given (Some k) layout points now from until series known some e 
     e ∙ ap (λ (l : LayoutValue). series_in l k.rings points (window l now from until)) (sym (ap (λ (o : Option LayoutValue). unwrap_or o k.layout) known))
 
 -- from what the file shows to what the state does
-pub shows_from : (fresh : Bool) (class : ℕ) (rules : RulesValue) (metrics : Metrics) (layouts : LayoutsByPath) (known : Option Image) (path : List ℕ) (layout : LayoutValue) (points : List (ℕ × ℤ)) (now from until : ℕ) (series : Option Series)
-    → ((opening : Image) (s : State) → Holds opening class rules metrics layouts known s → read_before fresh (s.rules path) (s.kept path) layout) → (fresh ≡ true → points ≡ [] → ⊥) → IsOfClass class path → points ≡ points_of metrics path
-    → ShowsFile fresh known (file_name_of path) layout points (window layout now from until) series → Shows class rules metrics layouts known path now from until series
-shows_from fresh class rules metrics layouts None path layout points now from until series was some one held shows opening s holds = absurd holds.kept.files
-shows_from fresh class rules metrics layouts (Some image) path layout points now from until series was some one held shows opening s holds =
-    let known = was opening s holds in
-    let reads = reads_kept fresh (s.rules path) image path (s.kept path) layout known (holds.kept.files.rings path one) in
-    let its : points ≡ points_in s path = held ∙ ap (λ (ms : Metrics). points_of ms path) (holds.pending ∙ ap s.pending (sym one.here)) in
-    series_by fresh (s.rules path) (s.kept path) layout points now from until series known some (shows (rings_of (s.kept path)) reads.1)
-    ∙ ap (λ (ps : List (ℕ × ℤ)). series_of (s.rules path) (s.kept path) ps now from until) its
+pub shows_from : (fresh : Bool) (class : ℕ) (rules : RulesValue) (cache : Cache) (layouts : LayoutsByPath) (known : Option Image) (path : List ℕ) (layout : LayoutValue) (points : List (ℕ × ℤ)) (now from until : ℕ) (series : Option Series)
+    → ((told : Option Image) (s : State) → Holds told class rules cache layouts known s → read_before fresh (s.rules path) (s.kept path) layout) → (fresh ≡ true → points ≡ [] → ⊥) → IsOfClass class path → points ≡ points_of cache.metrics path
+    → ShowsFile fresh known (file_name_of path) layout points (window layout now from until) series → Shows class rules cache layouts known path now from until series
+shows_from fresh class rules cache layouts known path layout points now from until series was some one held shows told s holds = by told known holds.kept.files shows
+  where
+    by : (t k : Option Image) → WhereKnown t k (λ opening now. Stands opening now s.kept class) → ShowsFile fresh k (file_name_of path) layout points (window layout now from until) series
+        → IfSome t (λ opening. series ≡ series_at s path now from until)
+    by None k files shown = tt
+    by (Some opening) None files shown = absurd files
+    by (Some opening) (Some image) files shown =
+        let before = was told s holds in
+        let reads = reads_kept fresh (s.rules path) image path (s.kept path) layout before (files.rings path one) in
+        let its : points ≡ points_in s path = held ∙ ap (λ (ms : Metrics). points_of ms path) (holds.pending ∙ ap s.pending (sym one.here)) in
+        series_by fresh (s.rules path) (s.kept path) layout points now from until series before some (shown (rings_of (s.kept path)) reads.1)
+        ∙ ap (λ (ps : List (ℕ × ℤ)). series_of (s.rules path) (s.kept path) ps now from until) its
+
+-- a metric without file and points shows nothing
+pub shows_none : (class : ℕ) (rules : RulesValue) (cache : Cache) (layouts : LayoutsByPath) (known : Option Image) (path : List ℕ) (now from until : ℕ) → IsOfClass class path → lookup (bytes_eq path) layouts ≡ None → points_of cache.metrics path ≡ []
+    → Shows class rules cache layouts known path now from until None
+shows_none class rules cache layouts known path now from until one unfiled empty told s holds = by told
+  where
+    its : points_in s path ≡ []
+    its = ap (λ (ms : Metrics). points_of ms path) (ap s.pending one.here ∙ sym holds.pending) ∙ empty
+    none_kept : (k : Option Kept) → None ≡ option_map (λ (x : Kept). x.layout) k → None ≡ series_of (s.rules path) k (points_in s path) now from until
+    none_kept None e = ap (λ (ps : List (ℕ × ℤ)). series_of (s.rules path) None ps now from until) (sym its)
+    none_kept (Some k) e = absurd (none-some k.layout e)
+    by : (t : Option Image) → IfSome t (λ opening. None ≡ series_at s path now from until)
+    by None = tt
+    by (Some opening) = none_kept (s.kept path) (sym unfiled ∙ holds.kept.index path one)

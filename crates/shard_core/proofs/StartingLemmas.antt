@@ -24,7 +24,7 @@ use Rattle.ring_format.specs.LayoutFile.{file_size_of}
 use Rattle.ring_format.specs.declared.fault.HeadFault.{HeadFault}
 use Rattle.ring_format.specs.declared.fault.HeadFault.TheVariants as faults
 use Rattle.ring_archive.specs.Ring.{IsRingFile}
-use Rattle.carbon_model.specs.State.{Kept}
+use Rattle.carbon_model.specs.State.{Kept, no_rings}
 use Rattle.carbon_model.specs.RingFiles.{IsOfClass, SameKept, head_of, is_sound, is_sound_head, kept_in, kept_on, kept_with}
 use Rattle.shard_core.specs.Shard.{HasFiles, LayoutsByPath}
 use Rattle.shard_core.specs.Opened.{FirstDamaged, Opens}
@@ -282,20 +282,39 @@ same_itself None = tt
 same_itself (Some k) = (refl, λ i bucket. refl)
 
 opened : {A : Type 0} (class : ℕ) (image : Image) (old new : List (String A)) (layouts : LayoutsByPath) → ListsNames image (map string_bytes old) → IsPermutation old new → Noted class image (map string_bytes new) (length new) layouts
-    → Opens class image layouts
-opened class image old new layouts lists sorted noted kept shown =
+    → Opens class (Some image) layouts
+opened class image old new layouts lists sorted noted =
     let here : (path : List ℕ) → IsOfClass class path → IsNoted image layouts path = λ path one. all_noted (image (file_name_of path)) class image old new layouts path refl one lists sorted noted in record {
-      index = λ path one. (here path one).0 ∙ ap (option_map (λ (k : Kept). k.layout)) (sym (shown path one));
-      files = record {
-        rings = λ path one. subst (λ (k : Option Kept). SameKept (kept_on image path) k) (sym (shown path one)) (same_itself (kept_on image path));
-        sound = λ path one. (here path one).1;
-        others = λ name far. refl;
+      kept = kept_on image;
+      shown = λ path one. refl;
+      holds = record {
+        index = λ path one. (here path one).0;
+        files = record {
+          rings = λ path one. same_itself (kept_on image path);
+          sound = λ path one. (here path one).1;
+          others = λ name far. refl;
+        };
       };
     }
 
+-- what is kept on a disk of which nothing but the layouts is known
+abbrev with_layouts : LayoutsByPath → List ℕ → Option Kept
+with_layouts layouts path = option_map (λ layout. record { layout = layout; rings = no_rings }) (lookup (bytes_eq path) layouts)
+
+its_layout : (o : Option LayoutValue) → o ≡ option_map (λ (k : Kept). k.layout) (option_map (λ (layout : LayoutValue). record { layout = layout; rings = no_rings }) o)
+its_layout None = refl
+its_layout (Some layout) = refl
+
 pub opened_known : {A : Type 0} (class : ℕ) (known now : Option Image) (old new : List (String A)) (layouts : LayoutsByPath) → now ≡ known → IfSome known (λ image. ListsNames image (map string_bytes old)) → IsPermutation old new
-    → IfSome now (λ image. Noted class image (map string_bytes new) (length new) layouts) → IfSome known (λ image. Opens class image layouts)
-opened_known class None now old new layouts same lists sorted noted = tt
+    → IfSome now (λ image. Noted class image (map string_bytes new) (length new) layouts) → Opens class known layouts
+opened_known class None now old new layouts same lists sorted noted = record {
+  kept = with_layouts layouts;
+  shown = tt;
+  holds = record {
+    index = λ path one. its_layout (lookup (bytes_eq path) layouts);
+    files = tt;
+  };
+}
 opened_known class (Some image) now old new layouts same lists sorted noted =
     opened class image old new layouts lists sorted (subst (λ (known : Option Image). IfSome known (λ image. Noted class image (map string_bytes new) (length new) layouts)) same noted)
 

@@ -6,7 +6,7 @@ use Rattle.ring_archive.specs.Ring.{IsRingFile, ReadsAs, Rings, bare}
 use Rattle.archive_update.specs.Batch.{batch}
 use Rattle.series_fetch.specs.declared.range.Window.{Window}
 use Rattle.carbon_model.specs.State.{no_rings}
-use Rattle.carbon_model.specs.Answer.{series_in}
+use Rattle.carbon_model.specs.Series.{series_in}
 use Rattle.carbon_model.specs.declared.series.Series.{Series}
 
 -- the file of that name reads as these archives; one that is to be created has none

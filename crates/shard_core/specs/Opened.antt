@@ -24,7 +24,8 @@ pub record FirstDamaged (class : ℕ) (image : Image) (name : List ℕ) : Type 0
 abbrev pub IsSoundDisk : ℕ → Image → Type 0
 IsSoundDisk class image = (path : List ℕ) → IsOfClass class path → IfSome (image (file_name_of path)) (λ file. is_sound file ≡ true)
 
--- the layouts and the disk stand for what the disk shows
-abbrev pub Opens : ℕ → Image → LayoutsByPath → Type 0
-Opens class image layouts =
-    (kept : List ℕ → Option Kept) → ((path : List ℕ) → IsOfClass class path → kept path ≡ kept_on image path) → HoldsKept image class layouts (Some image) kept
+-- There is something that the layouts and the disk stand for, which is what the disk shows, where it tells its image.
+pub record Opens (class : ℕ) (told : Option Image) (layouts : LayoutsByPath) : Type 0 where
+  pub kept : List ℕ → Option Kept
+  pub shown : IfSome told (λ image. (path : List ℕ) → IsOfClass class path → kept path ≡ kept_on image path)
+  pub holds : HoldsKept told class layouts told kept

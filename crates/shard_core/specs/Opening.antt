@@ -1,22 +1,27 @@
 -- What the starts of single shards make of the disks of all classes.
-use Rattle.std.specs.Prelude.{◌≡◌, ◌<◌, ◌≤◌, ℕ, List, [], ◌∷◌, ◌++◌, length, map, Option, IfSome, IsSomeAnd, slice_get}
+use Rattle.std.specs.Prelude.{◌≡◌, ◌<◌, ◌≤◌, ◌-◌, ◌^◌, ℕ, List, [], ◌∷◌, ◌++◌, length, map, Option, IfSome, IsSomeAnd, slice_get}
 use Rattle.outside_io.specs.Image.{Image}
 use Rattle.outside_io.specs.Faults.{Rose}
 use Rattle.outside_io.specs.declared.disk.Disk.{Ghosts}
+use Rattle.schema_rules.specs.LayoutBy.{layout_by}
 use Rattle.schema_rules.specs.RulesOf.{RulesValue}
+use Rattle.carbon_model.specs.State.{State}
+use Rattle.carbon_model.specs.RingFiles.{Opens as OpensState, Settings}
+use Rattle.drain_order.specs.declared.strategy.Strategy.TheVariants.{Naive}
 use Rattle.shard_core.specs.Opened.{IsSoundDisk, Opens}
 use Rattle.shard_core.specs.StartFaults.{IsDamagedFile, IsDiskFault}
-use Rattle.shard_core.specs.Shards.{disk_faults}
+use Rattle.shard_core.specs.Shards.{HoldsAll, disk_faults, told_of}
 use Rattle.shard_core.specs.declared.fault.StartFault.{StartFault}
+use Rattle.shard_core.specs.declared.opening.Refusal.{Refusal}
 use Rattle.shard_core.specs.declared.shard.Shard.{Shard}
 
 -- the shard of a class started from this disk, under these rules
 pub record StartedFrom {D : Type 0} {d : Ghosts D} (class : ℕ) (rules : RulesValue) (disk : D) (shard : Shard D d) : Type 0 where
   pub here : shard.class ≡ class
   pub given : shard.given ≡ rules
-  pub empty : shard.cache ≡ []
+  pub empty : shard.cache ≡ record { limit = 2 ^ 64 - 1; metrics = [] }
   pub same : d.image shard.disk ≡ d.image disk
-  pub opens : IfSome (d.image disk) (λ image. Opens class image shard.layouts)
+  pub opens : Opens class (d.image disk) shard.layouts
   pub later : d.faults disk ≤ d.faults shard.disk
 
 -- each shard started from the disk of its place
@@ -50,3 +55,28 @@ pub record HandsBack {D : Type 0} (image : D → Option Image) (faults : D → �
   pub damaged : IsSomeAnd (slice_get disks class) (λ disk. IsDamagedFile fault (image disk) class)
   pub below : (k : ℕ) → k < class → IfSome (slice_get disks k) (λ disk. IfSome (image disk) (IsSoundDisk k))
   pub cause : IsDiskFault fault → Rose (disk_faults faults disks class) (disk_faults faults back class)
+
+-- ---- what the start of all shards tells
+
+-- what is fixed for a run under these rules: drains go in order of arrival, and as many points may be pending as can be counted
+abbrev pub settings_of : RulesValue → Settings
+settings_of rules = record { rules = layout_by rules; limit = 2 ^ 64 - 1; strategy = Naive }
+
+-- no class below this number has a damaged file on a disk that tells its image
+abbrev pub AreSound : (ℕ → Option Image) → ℕ → Type 0
+AreSound told count = (k : ℕ) → k < count → IfSome (told k) (IsSoundDisk k)
+
+-- All shards started: there is a state in which a run may begin over the disks, for which they stand.
+pub record StartsAll {D : Type 0} {d : Ghosts D} (rules : RulesValue) (disks : List D) (shards : List (Shard D d)) : Type 0 where
+  pub state : State
+  pub opens : OpensState (settings_of rules) (told_of d.image disks) state
+  pub holds : HoldsAll (told_of d.image disks) shards state
+  pub sound : AreSound (told_of d.image disks) 16
+
+-- A shard was refused, and none of a class before it has a damaged file: all disks are back and tell what they told.
+pub record RefusesAll {D : Type 0} (d : Ghosts D) (disks back : List D) (refusal : Refusal) : Type 0 where
+  pub class : refusal.class < 16
+  pub same : (k : ℕ) → told_of d.image back k ≡ told_of d.image disks k
+  pub damaged : IsDamagedFile refusal.fault (told_of d.image disks refusal.class) refusal.class
+  pub below : AreSound (told_of d.image disks) refusal.class
+  pub cause : IsDiskFault refusal.fault → Rose (disk_faults d.faults disks refusal.class) (disk_faults d.faults back refusal.class)

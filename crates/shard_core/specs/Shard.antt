@@ -1,25 +1,37 @@
 -- What a shard holds, and the state that it stands for.
-use Rattle.std.specs.Prelude.{◌≡◌, ℕ, ℤ, true, Some, None, All, List, Option, option_map, IfSome, IsSomeAnd}
+use Rattle.std.specs.Prelude.{◌≡◌, ℕ, true, false, Some, None, [], All, List, ℤ, Option, option_map, IfSome, IsSomeAnd}
 use Rattle.std.specs.Map.{lookup}
 use Rattle.std.specs.Str.{bytes_eq}
-use Rattle.outside_io.specs.Image.{Image}
+use Rattle.outside_io.specs.Image.{Image, WhereKnown}
 use Rattle.metric_path.specs.Path.{path_fault}
 use Rattle.metric_path.specs.Class.{class_of}
 use Rattle.metric_path.specs.FileName.{file_name_of}
 use Rattle.metric_line.specs.Moment.{is_moment}
 use Rattle.ring_format.specs.Layout.{LayoutValue, layout_fault}
 use Rattle.ring_archive.specs.Ring.{IsRingFile}
-use Rattle.carbon_model.specs.State.{Kept, Metrics, State}
+use Rattle.carbon_model.specs.State.{Kept, Metrics, State, picked}
 use Rattle.carbon_model.specs.RingFiles.{IsOfClass, Stands}
-use Rattle.carbon_model.specs.Replay.{drained, picked, with_drained}
+use Rattle.carbon_model.specs.Replay.{drained, with_drained}
+use Rattle.drain_order.specs.declared.strategy.Strategy.TheVariants.{Naive}
+use Rattle.point_cache.specs.Pending.{Cache}
 use Rattle.schema_rules.specs.LayoutBy.{layout_by}
 use Rattle.schema_rules.specs.RulesOf.{RulesValue}
-use Rattle.carbon_model.specs.Answer.{series_at}
+use Rattle.carbon_model.specs.Series.{series_at}
 use Rattle.carbon_model.specs.declared.series.Series.{Series}
 
 -- the layouts of the metrics that have a file
 abbrev pub LayoutsByPath : Type 0
 LayoutsByPath = List (List ℕ × LayoutValue)
+
+-- one path has this layout now, and every other has what it had
+abbrev pub IndexedWith : LayoutsByPath → LayoutsByPath → List ℕ → LayoutValue → Type 0
+IndexedWith old new path layout =
+    (lookup (bytes_eq path) new ≡ Some layout)
+    × ((other : List ℕ) → bytes_eq other path ≡ false → lookup (bytes_eq other) new ≡ lookup (bytes_eq other) old)
+
+-- every path has the layout that it had, or none as before
+abbrev pub SameLayouts : LayoutsByPath → LayoutsByPath → Type 0
+SameLayouts old new = (path : List ℕ) → lookup (bytes_eq path) new ≡ lookup (bytes_eq path) old
 
 -- these are layouts that the rules give
 abbrev pub AreGiven : RulesValue → LayoutsByPath → Type 0
@@ -37,29 +49,34 @@ HasFiles class layouts known =
     IfSome known (λ image. (path : List ℕ) → path_fault path ≡ None → class_of path ≡ class → IfSome (lookup (bytes_eq path) layouts)
     (λ layout. IsSomeAnd (image (file_name_of path)) (λ file. (layout_fault layout.archives layout.factor ≡ None) × IsRingFile layout file)))
 
--- The layouts and the disk of a class stand for what is kept. A disk that does not tell its image stands for nothing.
-pub record HoldsKept (opening : Image) (class : ℕ) (layouts : LayoutsByPath) (known : Option Image) (kept : List ℕ → Option Kept) : Type 0 where
+-- The layouts and the disk of a class stand for what is kept, where the disk told this image at the opening. A disk that does not tell its image
+-- says nothing of values; the layouts are still those of what is kept.
+pub record HoldsKept (told : Option Image) (class : ℕ) (layouts : LayoutsByPath) (known : Option Image) (kept : List ℕ → Option Kept) : Type 0 where
   pub index : (path : List ℕ) → IsOfClass class path → lookup (bytes_eq path) layouts ≡ option_map (λ k. k.layout) (kept path)
-  pub files : IsSomeAnd known (λ now. Stands opening now kept class)
+  pub files : WhereKnown told known (λ opening now. Stands opening now kept class)
 
--- a shard stands for its class's part of a state
-pub record Holds (opening : Image) (class : ℕ) (given : RulesValue) (metrics : Metrics) (layouts : LayoutsByPath) (known : Option Image) (s : State) : Type 0 where
-  pub pending : metrics ≡ s.pending class
-  pub kept : HoldsKept opening class layouts known s.kept
-  pub rules : (path : List ℕ) → s.rules path ≡ layout_by given path
+-- A shard stands for its class's part of a state whose drains go in order of arrival.
+pub record Holds (told : Option Image) (class : ℕ) (given : RulesValue) (cache : Cache) (layouts : LayoutsByPath) (known : Option Image) (s : State) : Type 0 where
+  pub pending : cache.metrics ≡ s.pending class
+  pub queue : s.queue class ≡ []
+  pub kept : HoldsKept told class layouts known s.kept
+  pub rules : (path : List ℕ) → class_of path ≡ class → s.rules path ≡ layout_by given path
+  pub limit : cache.limit ≡ s.limit
+  pub strategy : s.strategy ≡ Naive
 
 -- Whatever state the shard stood for, it picks this path, and stands for the state after its drain.
-abbrev pub Drains : ℕ → RulesValue → Metrics → LayoutsByPath → Option Image → List ℕ → ℕ → Metrics → LayoutsByPath → Option Image → Type 0
-Drains class rules metrics layouts known path now metrics' layouts' known' =
-    (class_of path ≡ class) × ((opening : Image) (s : State) → Holds opening class rules metrics layouts known s
-    → (picked (s.pending class) ≡ Some path) × Holds opening class rules metrics' layouts' known' (drained s path now))
+abbrev pub Drains : ℕ → RulesValue → Cache → LayoutsByPath → Option Image → List ℕ → ℕ → Cache → LayoutsByPath → Option Image → Type 0
+Drains class rules cache layouts known path now cache' layouts' known' =
+    (class_of path ≡ class) × ((told : Option Image) (s : State) → Holds told class rules cache layouts known s
+    → (picked s class ≡ Some path) × Holds told class rules cache' layouts' known' (drained s path now))
 
 -- the same of what is kept alone, where the path is given this layout
 abbrev pub DrainsKept : ℕ → LayoutsByPath → Option Image → List ℕ → LayoutValue → ℕ → List (ℕ × ℤ) → LayoutsByPath → Option Image → Type 0
 DrainsKept class layouts known path given now points layouts' known' =
-    (opening : Image) (kept : List ℕ → Option Kept) → HoldsKept opening class layouts known kept → HoldsKept opening class layouts' known' (with_drained kept path given now points)
+    (told : Option Image) (kept : List ℕ → Option Kept) → HoldsKept told class layouts known kept
+    → HoldsKept told class layouts' known' (with_drained kept path given now points)
 
--- what is shown of a path in whatever state the shard stands for
-abbrev pub Shows : ℕ → RulesValue → Metrics → LayoutsByPath → Option Image → List ℕ → ℕ → ℕ → ℕ → Option Series → Type 0
-Shows class rules metrics layouts known path now from until series =
-    (opening : Image) (s : State) → Holds opening class rules metrics layouts known s → series ≡ series_at s path now from until
+-- what is shown of a path in whatever state the shard stands for, where its disk tells what it holds
+abbrev pub Shows : ℕ → RulesValue → Cache → LayoutsByPath → Option Image → List ℕ → ℕ → ℕ → ℕ → Option Series → Type 0
+Shows class rules cache layouts known path now from until series =
+    (told : Option Image) (s : State) → Holds told class rules cache layouts known s → IfSome told (λ opening. series ≡ series_at s path now from until)

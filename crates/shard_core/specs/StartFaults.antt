@@ -1,6 +1,8 @@
 -- What the faults of a start tell.
-use Rattle.std.specs.Prelude.{ℕ, Option, IfSome, string_bytes}
+use Rattle.std.specs.Prelude.{◌≡◌, ◌≤◌, ℕ, Option, IfSome, string_bytes}
 use Rattle.outside_io.specs.Image.{Image}
+use Rattle.outside_io.specs.Faults.{Rose}
+use Rattle.outside_io.specs.declared.disk.Disk.{Ghosts}
 use Rattle.shard_core.specs.declared.fault.StartFault.{StartFault}
 use Rattle.shard_core.specs.declared.fault.StartFault.TheVariants.{Damaged, DiskFault, NoMemory}
 use Rattle.shard_core.specs.Opened.{FirstDamaged}
@@ -15,3 +17,10 @@ abbrev pub IsDiskFault : StartFault → Type 0
 IsDiskFault (Damaged name) = ⊥
 IsDiskFault DiskFault = Unit {0}
 IsDiskFault NoMemory = ⊥
+
+-- a shard did not start: its disk is back and tells what it told, and its count of failed calls rose where it failed
+pub record NotStarted {D : Type 0} (d : Ghosts D) (class : ℕ) (disk back : D) (fault : StartFault) : Type 0 where
+  pub same : d.image back ≡ d.image disk
+  pub damaged : IsDamagedFile fault (d.image disk) class
+  pub later : d.faults disk ≤ d.faults back
+  pub cause : IsDiskFault fault → Rose (d.faults disk) (d.faults back)

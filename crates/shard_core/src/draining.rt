@@ -1,13 +1,17 @@
 //! Draining points into a ring file.
-ghost use Rattle.std.specs.Prelude.{◌≡◌, ◌≤◌, true, false, All, OnOk, OnErr, IsErrOf, IsSomeAnd};
-ghost use Rattle.outside_io.specs.Faults.{Rose};
+ghost use Rattle.std.specs.Prelude.{◌≡◌, true, false, None, All, OnOk, OnErr, IsErrOf, IsSomeAnd};
+ghost use Rattle.std.specs.Map.{lookup};
+ghost use Rattle.std.specs.Str.{bytes_eq};
+ghost use Rattle.outside_io.specs.Frames.{CountsFaults};
 ghost use Rattle.outside_io.specs.Image.{ChangesOnly, WhereKnown};
 ghost use Rattle.metric_path.specs.FileName.{file_name_of};
 ghost use Rattle.metric_line.specs.Moment.{is_moment};
 ghost use Rattle.point_cache.specs.Points.{IsRising};
 ghost use Rattle.ring_archive.specs.Ring.{IsRingFile, OnFile};
 ghost use Rattle.shard_core.specs.Drained.{DrainsFile};
+ghost use Rattle.shard_core.specs.Shard.{IndexedWith, SameLayouts};
 
+use crate::layouts::Layouts;
 use archive_update::plan;
 use fixed_num::Milli;
 use metric_path::MetricPath;
@@ -34,8 +38,8 @@ pub(crate) fn drain_file<D: Disk>(
     ensures drains { OnOk result (WhereKnown (D.image disk.old) (D.image disk.new) (λ before after. DrainsFile fresh before after (file_name_of path.now) layout now points.now)) }
     ensures others { OnErr result (WhereKnown (D.image disk.old) (D.image disk.new) (λ before after. ChangesOnly before after (file_name_of path.now))) }
     ensures intact { OnErr result (fresh ≡ false → WhereKnown (D.image disk.old) (D.image disk.new) (λ before after. IsSomeAnd (after (file_name_of path.now)) (IsRingFile layout))) }
-    ensures later { D.faults disk.old ≤ D.faults disk.new }
-    ensures cause { IsErrOf result RingFault.DiskFault → Rose (D.faults disk.old) (D.faults disk.new) }
+    ensures untouched { IsErrOf result RingFault.NoMemory → D.image disk.new ≡ D.image disk.old }
+    ensures frame { CountsFaults D.Disk disk.old disk.new (IsErrOf result RingFault.DiskFault) }
 {
     let name = path.file_name()?;
     let view = RingView::new(&name, layout);
@@ -43,5 +47,37 @@ pub(crate) fn drain_file<D: Disk>(
     match plan(alloc, &view, disk, patch, points, now) {
         Ok(patch) => write_patch(alloc, &view, disk, &patch),
         Err((_, fault)) => Err(fault),
+    }
+}
+
+/// The same of a metric that has no ring file: it has one then, and this layout. The layout is noted first, so that nothing is written
+/// where there is no memory for that; after an error it is not noted.
+pub(crate) fn file_anew<D: Disk>(
+    alloc: Global,
+    disk: &mut D,
+    layouts: &mut Layouts,
+    path: &MetricPath,
+    layout: Layout,
+    points: &[(u32, Milli)],
+    now: u32,
+) -> Result<(), RingFault>
+    requires none { lookup (bytes_eq path.now) layouts.old ≡ None }
+    requires rising { IsRising points.now }
+    requires moments { All (λ p. is_moment p.0 ≡ true) points.now }
+    ensures drains { OnOk result (WhereKnown (D.image disk.old) (D.image disk.new)
+        (λ before after. DrainsFile true before after (file_name_of path.now) layout now points.now)) }
+    ensures indexed { OnOk result (IndexedWith layouts.old layouts.new path.now layout) }
+    ensures others { OnErr result (WhereKnown (D.image disk.old) (D.image disk.new) (λ before after. ChangesOnly before after (file_name_of path.now))) }
+    ensures layouts { OnErr result (SameLayouts layouts.old layouts.new) }
+    ensures untouched { IsErrOf result RingFault.NoMemory → D.image disk.new ≡ D.image disk.old }
+    ensures frame { CountsFaults D.Disk disk.old disk.new (IsErrOf result RingFault.DiskFault) }
+{
+    layouts.insert(path.copy()?, layout)?;
+    match drain_file(alloc, disk, path, layout, true, points, now) {
+        Ok(()) => Ok(()),
+        Err(fault) => {
+            layouts.remove(path);
+            Err(fault)
+        }
     }
 }

@@ -1,8 +1,7 @@
 //! Starting all shards, and giving their disks back.
 ghost use Rattle.std.specs.Prelude.{◌≡◌, ◌≤◌, ◌<◌, ◌+◌, ◌++◌, IfErr, IfOk, OnOk, map, vec_len, vec_capacity};
-ghost use Rattle.outside_io.specs.Faults.{Rose};
 ghost use Rattle.shard_core.specs.Opening.{AreStarted, HandsBack, RefusesNext, StartedFrom, StartsNext};
-ghost use Rattle.shard_core.specs.StartFaults.{IsDamagedFile, IsDiskFault};
+ghost use Rattle.shard_core.specs.StartFaults.{NotStarted};
 
 use crate::fault::StartFault;
 use crate::shard::Shard;
@@ -21,32 +20,22 @@ pub struct Refusal {
 }
 
 impl<D: Disk> Shards<D> {
-    ghost use Rattle.std.specs.Prelude.{◌≡◌, ◌≤◌, ◌<◌, ℕ, Some, IfOk, IfErr, map, vec_len};
-    ghost use Rattle.outside_io.specs.Image.{Image};
-    ghost use Rattle.outside_io.specs.Faults.{Rose};
-    ghost use Rattle.carbon_model.specs.RingFiles.{opening_state};
-    ghost use Rattle.shard_core.specs.Shards.{HoldsAll, TellsImages, disk_faults, faults_at};
-    ghost use Rattle.schema_rules.specs.LayoutBy.{layout_by};
-    ghost use Rattle.shard_core.specs.Opened.{IsSoundDisk};
-    ghost use Rattle.shard_core.specs.StartFaults.{IsDamagedFile, IsDiskFault};
+    ghost use Rattle.std.specs.Prelude.{◌≡◌, ◌≤◌, ℕ, IfOk, IfErr, map, vec_len};
+    ghost use Rattle.shard_core.specs.Opening.{RefusesAll, StartsAll};
+    ghost use Rattle.shard_core.specs.Shards.{disk_faults, faults_at};
 
-    /// The shards of all classes over their disks, in order of class, under the rules, with nothing pending. The first class whose start is refused ends it, and the
-    /// refusal hands all disks back, in order.
+    /// The shards of all classes over their disks, in order of class, under the rules, with nothing pending. The first class whose
+    /// start is refused ends it, and the refusal hands all disks back, in order.
     pub fn start(
         alloc: Global,
         disks: Vec<D>,
         rules: &Rules,
     ) -> Result<Shards<D>, (Vec<D>, Refusal)>
         requires { vec_len disks ≡ 16 }
-        ensures opens { IfOk result (λ shards. (images : ℕ → Image) → TellsImages (λ disk. D.image disk) disks.items images → HoldsAll images shards.items.items (opening_state (layout_by rules.now) images)) }
-        ensures sound { IfOk result (λ _. (images : ℕ → Image) → TellsImages (λ disk. D.image disk) disks.items images → (k : ℕ) → k < 16 → IsSoundDisk k (images k)) }
-        ensures later { IfOk result (λ shards. (k : ℕ) → disk_faults (λ disk. D.faults disk) disks.items k ≤ faults_at shards.items.items k) }
+        ensures starts { IfOk result (λ shards. StartsAll rules.now disks.items shards.items.items) }
+        ensures later { IfOk result (λ shards. (k : ℕ) → disk_faults D.faults disks.items k ≤ faults_at shards.items.items k) }
+        ensures refused { IfErr result (λ refusal. RefusesAll D.Disk disks.items refusal.0.items refusal.1) }
         ensures back { IfErr result (λ refusal. vec_len refusal.0 ≡ 16) }
-        ensures same { IfErr result (λ refusal. (images : ℕ → Image) → TellsImages (λ disk. D.image disk) disks.items images → TellsImages (λ disk. D.image disk) refusal.0.items images) }
-        ensures damaged { IfErr result (λ refusal. (images : ℕ → Image) → TellsImages (λ disk. D.image disk) disks.items images → IsDamagedFile refusal.1.fault (Some (images refusal.1.class)) refusal.1.class) }
-        ensures below { IfErr result (λ refusal. (images : ℕ → Image) → TellsImages (λ disk. D.image disk) disks.items images → (k : ℕ) → k < refusal.1.class → IsSoundDisk k (images k)) }
-        ensures cause { IfErr result (λ refusal. IsDiskFault refusal.1.fault → Rose (disk_faults (λ disk. D.faults disk) disks.items refusal.1.class) (disk_faults (λ disk. D.faults disk) refusal.0.items refusal.1.class)) }
-        ensures class { IfErr result (λ refusal. refusal.1.class < 16) }
     {
         match Vec::with_capacity(alloc, CLASSES) {
             Ok(items) => start_each(alloc, items, disks, rules),
@@ -80,7 +69,7 @@ fn start_each<D: Disk>(
     requires room { 16 ≤ vec_capacity items }
     requires all { vec_len disks ≡ 16 }
     ensures opens { IfOk result (λ shards. AreStarted rules.now disks.items shards.items.items) }
-    ensures refused { IfErr result (λ refusal. HandsBack (λ disk. D.image disk) (λ disk. D.faults disk) refusal.1.fault disks.items refusal.1.class refusal.0.items) }
+    ensures refused { IfErr result (λ refusal. HandsBack D.image D.faults refusal.1.fault disks.items refusal.1.class refusal.0.items) }
     ensures class { IfErr result (λ refusal. refusal.1.class < 16) }
 {
     let mut items = items;
@@ -131,9 +120,7 @@ fn start_one<D: Disk>(
 ) -> Result<Shard<D>, (D, StartFault)>
     requires { class < 16 }
     ensures started { IfOk result (StartedFrom class rules.now disk) }
-    ensures damaged { IfErr result (λ refusal. IsDamagedFile refusal.1 (D.image disk) class) }
-    ensures back { IfErr result (λ refusal. D.image refusal.0 ≡ D.image disk) }
-    ensures cause { IfErr result (λ refusal. IsDiskFault refusal.1 → Rose (D.faults disk) (D.faults refusal.0)) }
+    ensures refused { IfErr result (λ refusal. NotStarted D.Disk class disk refusal.0 refusal.1) }
 {
     match rules.share() {
         Ok(rules) => Shard::start(alloc, class, disk, rules),

@@ -3,14 +3,13 @@ ghost use Rattle.std.specs.Prelude.{◌≡◌};
 ghost use Rattle.std.proofs.Props.{props};
 ghost use Rattle.shard_core.specs.Shard.{AreOfClass, HasFiles};
 
-use crate::draining::drain_file;
+use crate::draining::{drain_file, file_anew};
 use crate::fault::StartFault;
 use crate::given::GivenLayouts;
 use crate::layouts::Layouts;
 use crate::showing::show_file;
 use crate::starting::read_layouts;
 use carbon_model::Series;
-use fixed_num::Milli;
 use metric_line::Datum;
 use metric_path::MetricPath;
 use outside_io::Disk;
@@ -18,6 +17,9 @@ use point_cache::{PointCache, Put};
 use ring_archive::RingFault;
 use schema_rules::Rules;
 use std::alloc::Global;
+
+/// How many points of a class may be pending: as many as can be counted, until a limit can be set.
+const NO_LIMIT: u64 = u64::MAX;
 
 /// One class of metrics over its disk: the points that are pending, which metrics have a ring file, and the layouts that the rules give the others.
 #[derive(Drop)]
@@ -28,31 +30,24 @@ pub struct Shard<D: Disk> {
     layouts: Layouts,
     given: GivenLayouts,
     alloc: Global,
-    ghost metrics: { AreOfClass class cache } by { Prim.hlevel props },
+    ghost metrics: { AreOfClass class cache.metrics } by { Prim.hlevel props },
     ghost files: { HasFiles class layouts (D.image disk) } by { Prim.hlevel props },
 }
 
 impl<D: Disk> Shard<D> {
-    ghost use Rattle.std.specs.Prelude.{◌≡◌, ◌<◌, ◌≤◌, true, None, [], length, All, IfOk, IfErr, IfSome, OnOk, IsErrOf};
-    ghost use Rattle.std.specs.Map.{lookup};
-    ghost use Rattle.std.specs.Str.{bytes_eq};
-    ghost use Rattle.outside_io.specs.Faults.{Rose};
-    ghost use Rattle.metric_path.specs.Path.{path_fault};
+    ghost use Rattle.std.specs.Prelude.{◌≡◌, ◌<◌, ◌≤◌, None, [], length, IfOk, IfErr, IfSome, IsErrOf, OnErr, OnOk};
+    ghost use Rattle.outside_io.specs.Frames.{CountsFaults, ReadsOnly};
     ghost use Rattle.metric_path.specs.Class.{class_of};
-    ghost use Rattle.metric_line.specs.Moment.{is_moment};
-    ghost use Rattle.point_cache.specs.Points.{IsRising};
     ghost use Rattle.point_cache.specs.Pending.{Puts};
-    ghost use Rattle.shard_core.specs.Shard.{Drains, DrainsKept, Shows};
-    ghost use Rattle.schema_rules.specs.LayoutBy.{layout_by};
-    ghost use Rattle.carbon_model.specs.Answer.{EndsInTime};
-    ghost use Rattle.shard_core.specs.Opened.{Opens};
-    ghost use Rattle.shard_core.specs.View.{StandsFor};
-    ghost use Rattle.outside_io.specs.Image.{Image};
-    ghost use Rattle.carbon_model.specs.State.{State};
-    ghost use Rattle.shard_core.specs.StartFaults.{IsDamagedFile, IsDiskFault};
+    ghost use Rattle.carbon_model.specs.Series.{EndsInTime};
+    ghost use Rattle.shard_core.specs.Shard.{Drains, Shows};
+    ghost use Rattle.shard_core.specs.Opening.{StartedFrom};
+    ghost use Rattle.shard_core.specs.StartFaults.{NotStarted};
+    ghost use Rattle.shard_core.specs.View.{FilesFirst, OnlyCache, SameShard, Stays};
 
-    /// The shard of a class over its disk, under the rules, with nothing pending. Each file of the class is looked up, and its head is read: a head of zero counts
-    /// as no file. A file of any other name, or of a path of another class, is left alone. The refusal hands the disk back.
+    /// The shard of a class over its disk, under the rules, with nothing pending. Each file of the class is looked up, and its head
+    /// is read: a head of zero counts as no file. A file of any other name, or of a path of another class, is left alone. The
+    /// refusal hands the disk back.
     pub fn start(
         alloc: Global,
         class: u32,
@@ -60,22 +55,15 @@ impl<D: Disk> Shard<D> {
         rules: Rules,
     ) -> Result<Shard<D>, (D, StartFault)>
         requires { class < 16 }
-        ensures empty { IfOk result (λ shard. (shard.class ≡ class) × (shard.cache ≡ [])) }
-        ensures given { IfOk result (λ shard. shard.given ≡ rules) }
-        ensures same { IfOk result (λ shard. D.image shard.disk ≡ D.image disk) }
-        ensures opens { IfOk result (λ shard. IfSome (D.image disk) (λ image. Opens class image shard.layouts)) }
-        ensures damaged { IfErr result (λ refusal. IsDamagedFile refusal.1 (D.image disk) class) }
-        ensures back { IfErr result (λ refusal. D.image refusal.0 ≡ D.image disk) }
-        ensures later { IfOk result (λ shard. D.faults disk ≤ D.faults shard.disk) }
-        ensures later_back { IfErr result (λ refusal. D.faults disk ≤ D.faults refusal.0) }
-        ensures cause { IfErr result (λ refusal. IsDiskFault refusal.1 → Rose (D.faults disk) (D.faults refusal.0)) }
+        ensures started { IfOk result (StartedFrom class rules disk) }
+        ensures refused { IfErr result (λ refusal. NotStarted D.Disk class disk refusal.0 refusal.1) }
     {
         let mut disk = disk;
         match read_layouts(alloc, &mut disk, class) {
             Ok(layouts) => Ok(Shard {
                 class,
                 disk,
-                cache: PointCache::new(alloc),
+                cache: PointCache::new(alloc, NO_LIMIT),
                 layouts,
                 given: GivenLayouts::new(alloc, rules),
                 alloc,
@@ -84,12 +72,12 @@ impl<D: Disk> Shard<D> {
         }
     }
 
-    /// Puts a point of a metric line, whose path is of this class. The layout of a metric is settled at its first stored point: it is that of
-    /// its file, or else what the rules give it. The disk stays as it is.
+    /// Puts a point of a metric line, whose path is of this class. The layout of a metric is settled at its first stored point: it
+    /// is that of its file, or else what the rules give it. The disk stays as it is.
     pub fn put(&mut self, datum: &Datum) -> Put
         requires { class_of datum.now.path ≡ self.old.class }
         ensures put { Puts self.old.cache self.new.cache datum.now.path datum.now.time datum.now.value result }
-        ensures others { (self.new.class ≡ self.old.class) × ((self.new.given ≡ self.old.given) × ((self.new.layouts ≡ self.old.layouts) × (self.new.disk ≡ self.old.disk))) }
+        ensures others { OnlyCache self.old self.new }
     {
         let _ = datum.path.text();
         let metrics = self.cache.metrics();
@@ -100,84 +88,51 @@ impl<D: Disk> Shard<D> {
         put
     }
 
-    /// Drains the metric that got its first pending point before all others, at the moment `now`: its points go into its ring file, which is
-    /// created where it has none. `None` where nothing is pending. After an error nothing is said of what the metric's file holds, and its
-    /// points are no longer pending.
+    /// Drains the metric that got its first pending point before all others, at the moment `now`: its points go into its ring file,
+    /// which is created where it has none. `None` where nothing is pending. The points leave the cache last: after want of memory
+    /// all is as before, and after a disk fault the points are pending still, but nothing is said of what the metric's file holds.
     pub fn drain_whole(&mut self, now: u32) -> Result<Option<MetricPath>, RingFault>
-        ensures drains { IfOk result (λ picked. IfSome picked (λ path. Drains self.old.class self.old.given self.old.cache self.old.layouts (D.image self.old.disk) path now self.new.cache self.new.layouts (D.image self.new.disk))) }
-        ensures idle { IfOk result (λ picked. picked ≡ None → (self.old.cache ≡ []) × (self.new ≡ self.old)) }
-        ensures fewer { IfOk result (λ picked. IfSome picked (λ path. length self.new.cache < length self.old.cache)) }
-        ensures class { (self.new.class ≡ self.old.class) × (self.new.given ≡ self.old.given) }
-        ensures later { D.faults self.old.disk ≤ D.faults self.new.disk }
-        ensures cause { IsErrOf result RingFault.DiskFault → Rose (D.faults self.old.disk) (D.faults self.new.disk) }
+        ensures drains { IfOk result (λ picked. IfSome picked (λ path. Drains self.old.class self.old.given self.old.cache
+            self.old.layouts (D.image self.old.disk) path now self.new.cache self.new.layouts (D.image self.new.disk))) }
+        ensures idle { IfOk result (λ picked. picked ≡ None → (self.old.cache.metrics ≡ []) × (self.new ≡ self.old)) }
+        ensures fewer { IfOk result (λ picked. IfSome picked (λ path. length self.new.cache.metrics < length self.old.cache.metrics)) }
+        ensures pending { OnErr result (self.new.cache ≡ self.old.cache) }
+        ensures memory { IsErrOf result RingFault.NoMemory → Stays self.old self.new }
+        ensures same { SameShard self.old self.new }
+        ensures frame { CountsFaults D.Disk self.old.disk self.new.disk (IsErrOf result RingFault.DiskFault) }
     {
         if self.cache.metrics() == 0 {
             return Ok(None);
         }
-        let (path, points) = self.cache.take(0);
-        match self.drain(&path, points.list(), now) {
-            Ok(()) => Ok(Some(path)),
-            Err(fault) => Err(fault),
-        }
+        self.file_first(now)?;
+        let (path, _points) = self.cache.take(0);
+        self.given.forget(&path);
+        Ok(Some(path))
     }
 
-    // Drains the points of a metric into its ring file.
-    fn drain(
-        &mut self,
-        path: &MetricPath,
-        points: &[(u32, Milli)],
-        now: u32,
-    ) -> Result<(), RingFault>
-        requires legal { path_fault path.now ≡ None }
-        requires here { class_of path.now ≡ self.old.class }
-        requires rising { IsRising points.now }
-        requires moments { All (λ p. is_moment p.0 ≡ true) points.now }
-        ensures drains { OnOk result (DrainsKept self.old.class self.old.layouts (D.image self.old.disk) path.now (layout_by self.old.given path.now) now points.now self.new.layouts (D.image self.new.disk)) }
-        ensures others { (self.new.class ≡ self.old.class) × ((self.new.given ≡ self.old.given) × (self.new.cache ≡ self.old.cache)) }
-        ensures later { D.faults self.old.disk ≤ D.faults self.new.disk }
-        ensures cause { IsErrOf result RingFault.DiskFault → Rose (D.faults self.old.disk) (D.faults self.new.disk) }
+    // Puts the points of the metric that comes first into its ring file. They stay pending.
+    fn file_first(&mut self, now: u32) -> Result<(), RingFault>
+        requires { 0 < length self.old.cache.metrics }
+        ensures files { OnOk result (FilesFirst self.old self.new now) }
+        ensures pending { self.new.cache ≡ self.old.cache }
+        ensures memory { IsErrOf result RingFault.NoMemory → Stays self.old self.new }
+        ensures same { SameShard self.old self.new }
+        ensures frame { CountsFaults D.Disk self.old.disk self.new.disk (IsErrOf result RingFault.DiskFault) }
     {
+        let path = self.cache.path(0);
+        let points = self.cache.points(0);
         match self.layouts.get(path) {
-            Some(layout) => drain_file(
-                self.alloc,
-                &mut self.disk,
-                path,
-                layout,
-                false,
-                points,
-                now,
-            ),
-            None => self.drain_anew(path, points, now),
+            Some(layout) => drain_file(self.alloc, &mut self.disk, path, layout, false, points, now),
+            None => {
+                let layout = self.given.layout_of(self.alloc, path)?;
+                file_anew(self.alloc, &mut self.disk, &mut self.layouts, path, layout, points, now)
+            }
         }
     }
 
-    // Drains the points of a metric that has no ring file, which is created.
-    fn drain_anew(
-        &mut self,
-        path: &MetricPath,
-        points: &[(u32, Milli)],
-        now: u32,
-    ) -> Result<(), RingFault>
-        requires legal { path_fault path.now ≡ None }
-        requires here { class_of path.now ≡ self.old.class }
-        requires none { lookup (bytes_eq path.now) self.old.layouts ≡ None }
-        requires rising { IsRising points.now }
-        requires moments { All (λ p. is_moment p.0 ≡ true) points.now }
-        ensures drains { OnOk result (DrainsKept self.old.class self.old.layouts (D.image self.old.disk) path.now (layout_by self.old.given path.now) now points.now self.new.layouts (D.image self.new.disk)) }
-        ensures others { (self.new.class ≡ self.old.class) × ((self.new.given ≡ self.old.given) × (self.new.cache ≡ self.old.cache)) }
-        ensures later { D.faults self.old.disk ≤ D.faults self.new.disk }
-        ensures cause { IsErrOf result RingFault.DiskFault → Rose (D.faults self.old.disk) (D.faults self.new.disk) }
-    {
-        let layout = self.given.layout_of(self.alloc, path)?;
-        let copy = path.copy()?;
-        drain_file(self.alloc, &mut self.disk, path, layout, true, points, now)?;
-        self.layouts.insert(copy, layout)?;
-        self.given.forget(path);
-        Ok(())
-    }
-
-    /// What is shown at the moment `now` of a metric of this class from a moment until another, all in seconds since the Unix epoch: pending
-    /// points and its ring file as one. `None` where it has neither, and where the question has no bucket.
+    /// What is shown at the moment `now` of a metric of this class from a moment until another, all in seconds since the Unix epoch:
+    /// pending points and its ring file as one. `None` where it has neither, and where the question has no bucket. However it ends,
+    /// the shard stands for what it stood for.
     pub fn show(
         &mut self,
         path: &MetricPath,
@@ -187,16 +142,15 @@ impl<D: Disk> Shard<D> {
         requires here { class_of path.now ≡ self.old.class }
         requires order { ends.0 ≤ ends.1 }
         requires now { now ≤ 4_000_000_000 }
-        ensures shows { IfOk result (Shows self.old.class self.old.given self.old.cache self.old.layouts (D.image self.old.disk) path.now now ends.0 ends.1) }
+        ensures shows { IfOk result (Shows self.old.class self.old.given self.old.cache self.old.layouts (D.image self.old.disk)
+            path.now now ends.0 ends.1) }
         ensures fits { IfOk result (λ series. IfSome series EndsInTime) }
-        ensures others { (self.new.class ≡ self.old.class) × ((self.new.given ≡ self.old.given) × ((self.new.cache ≡ self.old.cache) × (self.new.layouts ≡ self.old.layouts))) }
-        ensures stands { (opening : Image) (s : State) → StandsFor opening self.old s → StandsFor opening self.new s }
-        ensures image { D.image self.new.disk ≡ D.image self.old.disk }
-        ensures later { D.faults self.old.disk ≤ D.faults self.new.disk }
-        ensures cause { IsErrOf result RingFault.DiskFault → Rose (D.faults self.old.disk) (D.faults self.new.disk) }
+        ensures stays { Stays self.old self.new }
+        ensures same { SameShard self.old self.new × (self.new.cache ≡ self.old.cache) }
+        ensures frame { ReadsOnly D.Disk self.old.disk self.new.disk (IsErrOf result RingFault.DiskFault) }
     {
         let _ = path.text();
-        let points = self.cache.points(path);
+        let points = self.cache.points_of(path);
         match self.layouts.get(path) {
             Some(layout) => show_file(
                 self.alloc,

@@ -26,22 +26,23 @@ pub struct Shards<D: Disk> {
 }
 
 impl<D: Disk> Shards<D> {
-    ghost use Rattle.std.specs.Prelude.{◌≡◌, ◌≤◌, ◌<◌, ℕ, IfOk, IfSome, IsErrOf, OnErr};
+    ghost use Rattle.std.specs.Prelude.{◌≡◌, ◌≤◌, ◌<◌, ℕ, IfOk, IfSome, IsErr, IsErrOf, Option};
     ghost use Rattle.outside_io.specs.Image.{Image};
     ghost use Rattle.metric_path.specs.Class.{class_of};
     ghost use Rattle.carbon_model.specs.State.{State};
-    ghost use Rattle.carbon_model.specs.Answer.{EndsInTime, series_at};
-    ghost use Rattle.shard_core.specs.Shards.{HoldsAll, PutsInto, DrainsNext, NoFewer, FailedAt, pending_at};
+    ghost use Rattle.carbon_model.specs.Series.{EndsInTime};
+    ghost use Rattle.shard_core.specs.Shards.{DrainsAt, PutsAt, ShowsAt, StayAll, UsesDisks, pending_at, NoFewer};
 
-    /// Puts the point of a metric line.
+    /// Puts the point of a metric line. Want of memory changes nothing.
     pub fn put(&mut self, datum: &Datum) -> Put
-        ensures put { (opening : ℕ → Image) (s : State) → HoldsAll opening self.old.items.items s → PutsInto result s datum.now.path datum.now.time datum.now.value (HoldsAll opening self.new.items.items) }
+        ensures put { PutsAt self.old.items.items self.new.items.items datum.now.path datum.now.time datum.now.value result }
         ensures later { NoFewer self.old.items.items self.new.items.items }
     {
         self.items[datum.path.class() as usize].put(datum)
     }
 
-    /// What is shown at the moment `now` of a metric from a moment until another, as `Shard::show` says. An error names the class.
+    /// What is shown at the moment `now` of a metric from a moment until another, as `Shard::show` says. However it ends, the shards
+    /// stand for what they stood for.
     pub fn show(
         &mut self,
         path: &MetricPath,
@@ -50,21 +51,22 @@ impl<D: Disk> Shards<D> {
     ) -> Result<Option<Series>, RingFault>
         requires order { ends.0 ≤ ends.1 }
         requires now { now ≤ 4_000_000_000 }
-        ensures shows { IfOk result (λ series. (opening : ℕ → Image) (s : State) → HoldsAll opening self.old.items.items s → (series ≡ series_at s path.now now ends.0 ends.1) × HoldsAll opening self.new.items.items s) }
+        ensures shows { IfOk result (ShowsAt self.old.items.items path.now now ends.0 ends.1) }
         ensures fits { IfOk result (λ series. IfSome series EndsInTime) }
-        ensures later { NoFewer self.old.items.items self.new.items.items }
-        ensures cause { IsErrOf result RingFault.DiskFault → FailedAt self.old.items.items self.new.items.items (class_of path.now) }
+        ensures stays { StayAll self.old.items.items self.new.items.items }
+        ensures frame { UsesDisks self.old.items.items self.new.items.items (class_of path.now) (IsErrOf result RingFault.DiskFault) }
     {
         self.items[path.class() as usize].show(path, ends, now)
     }
 
-    /// Drains the metric of a class that got its first pending point before all others, at the moment `now`, as `Shard::drain_whole` says.
+    /// Drains the metric of a class that got its first pending point before all others, at the moment `now`, as `Shard::drain_whole`
+    /// says. Want of memory changes nothing.
     pub fn drain_next(&mut self, class: u32, now: u32) -> Result<Option<MetricPath>, RingFault>
         requires { class < 16 }
-        ensures drains { IfOk result (λ picked. (opening : ℕ → Image) (s : State) → HoldsAll opening self.old.items.items s → DrainsNext picked s class now (HoldsAll opening self.new.items.items)) }
+        ensures drains { IfOk result (λ picked. DrainsAt self.old.items.items self.new.items.items class now picked) }
         ensures fewer { IfOk result (λ picked. IfSome picked (λ path. pending_at self.new.items.items class < pending_at self.old.items.items class)) }
-        ensures later { NoFewer self.old.items.items self.new.items.items }
-        ensures cause { IsErrOf result RingFault.DiskFault → FailedAt self.old.items.items self.new.items.items class }
+        ensures memory { IsErrOf result RingFault.NoMemory → StayAll self.old.items.items self.new.items.items }
+        ensures frame { UsesDisks self.old.items.items self.new.items.items class (IsErrOf result RingFault.DiskFault) }
     {
         self.items[class as usize].drain_whole(now)
     }

@@ -1,13 +1,13 @@
 //! Showing what a ring file and pending points have in the buckets of a question.
 ghost use Rattle.std.specs.Prelude.{◌≡◌, ◌≤◌, true, false, All, IfOk, IfSome, IsErrOf};
-ghost use Rattle.outside_io.specs.Faults.{Rose};
+ghost use Rattle.outside_io.specs.Frames.{ReadsOnly};
 ghost use Rattle.metric_path.specs.FileName.{file_name_of};
 ghost use Rattle.metric_line.specs.Moment.{is_moment};
 ghost use Rattle.point_cache.specs.Points.{IsRising};
 ghost use Rattle.ring_archive.specs.Ring.{IsRingFile, OnFile};
 ghost use Rattle.series_fetch.specs.Window.{window, IsWindow};
 ghost use Rattle.series_fetch.specs.declared.range.Window.TheVariants.{Range};
-ghost use Rattle.carbon_model.specs.Answer.{EndsInTime};
+ghost use Rattle.carbon_model.specs.Series.{EndsInTime};
 ghost use Rattle.shard_core.specs.Drained.{ShowsFile};
 
 use carbon_model::{Series, Values};
@@ -38,9 +38,7 @@ pub(crate) fn show_file<D: Disk>(
     requires file { fresh ≡ false → OnFile (D.image disk.old) (file_name_of path.now) (IsRingFile layout) }
     ensures shows { IfOk result (ShowsFile fresh (D.image disk.old) (file_name_of path.now) layout points.now (window layout now ends.0 ends.1)) }
     ensures fits { IfOk result (λ series. IfSome series EndsInTime) }
-    ensures kept { D.image disk.new ≡ D.image disk.old }
-    ensures later { D.faults disk.old ≤ D.faults disk.new }
-    ensures cause { IsErrOf result RingFault.DiskFault → Rose (D.faults disk.old) (D.faults disk.new) }
+    ensures frame { ReadsOnly D.Disk disk.old disk.new (IsErrOf result RingFault.DiskFault) }
 {
     match window_of(&layout, now, ends.0, ends.1) {
         Window::Empty => Ok(None),
@@ -74,9 +72,7 @@ fn show_range<D: Disk>(
     requires file { fresh ≡ false → OnFile (D.image disk.old) (file_name_of path.now) (IsRingFile layout) }
     ensures shows { IfOk result (ShowsFile fresh (D.image disk.old) (file_name_of path.now) layout points.now (Range range.0 range.1 range.2)) }
     ensures fits { IfOk result (λ series. IfSome series EndsInTime) }
-    ensures kept { D.image disk.new ≡ D.image disk.old }
-    ensures later { D.faults disk.old ≤ D.faults disk.new }
-    ensures cause { IsErrOf result RingFault.DiskFault → Rose (D.faults disk.old) (D.faults disk.new) }
+    ensures frame { ReadsOnly D.Disk disk.old disk.new (IsErrOf result RingFault.DiskFault) }
 {
     let name = path.file_name()?;
     let view = RingView::new(&name, layout);

@@ -32,7 +32,7 @@ pub(crate) fn read_layouts<D: Disk>(
     disk: &mut D,
     class: u32,
 ) -> Result<Layouts, StartFault>
-    ensures opens { IfOk result (λ layouts. IfSome (D.image disk.old) (λ image. Opens class image layouts)) }
+    ensures opens { IfOk result (λ layouts. Opens class (D.image disk.old) layouts) }
     ensures files { IfOk result (λ layouts. HasFiles class layouts (D.image disk.old)) }
     ensures damaged { IfErr result (λ fault. IsDamagedFile fault (D.image disk.old) class) }
     ensures kept { D.image disk.new ≡ D.image disk.old }

@@ -1,16 +1,28 @@
-use Rattle.std.proofs.Common.{◌∙◌, ℕ, ℤ, List, sym, subst}
-use Rattle.carbon_model.specs.State.{Metrics}
-use Rattle.shard_core.specs.Shard.{Drains, DrainsKept}
+use Rattle.std.proofs.Common.{◌≡◌, ◌∙◌, ℕ, ℤ, List, Some, remove, subst, sym, ap}
+use Rattle.std.specs.Prelude.{slice_get}
+use Rattle.point_cache.specs.Pending.{Cache}
+use Rattle.shard_core.specs.Shard.{AreOfClass, Drains}
+use Rattle.shard_core.proofs.PendingLemmas.{of_class_without}
 use Rattle.shard_core.proofs.PickLemmas.{drains_first, first_of_class}
-use Rattle.schema_rules.specs.LayoutBy.{layout_by}
 use Rattle.shard_core.proofs.shard.Shard.drain_whole.Goals as goal
 
-pub returns-in-Ok-clause-drains : goal.returns-in-Ok-clause-drains
-returns-in-Ok-clause-drains g c =
-    let one = first_of_class c.args.self.now.class c.args.self.now.cache c.take-path.result.0 c.take-path.result.1 c.args.self.now.metrics c.take-path.ensures.metric in
-    let drains = subst (λ (points : List (ℕ × ℤ)). DrainsKept c.args.self.now.class c.args.self.now.layouts (g.D.Disk.image c.args.self.now.disk) c.take-path.result.0 (layout_by c.args.self.now.given c.take-path.result.0) c.args.now points c.drain.new.self.layouts (g.D.Disk.image c.drain.new.self.disk))
-    c.list.ensures.list c.in-Ok.ensures.drains in
-    subst (λ (metrics : Metrics). Drains c.args.self.now.class c.args.self.now.given c.args.self.now.cache c.args.self.now.layouts (g.D.Disk.image c.args.self.now.disk) c.take-path.result.0 c.args.now metrics c.drain.new.self.layouts (g.D.Disk.image c.drain.new.self.disk))
-    (sym (c.drain.ensures.others.1.1 ∙ c.take-path.ensures.others))
-    (drains_first c.args.self.now.class c.args.self.now.given c.args.self.now.cache c.args.self.now.layouts c.drain.new.self.layouts (g.D.Disk.image c.args.self.now.disk) (g.D.Disk.image c.drain.new.self.disk) c.take-path.result.0 c.take-path.result.1 c.args.now
-    c.take-path.ensures.metric one drains)
+pub invariant_of-self : goal.invariant_of-self
+invariant_of-self g c =
+    let cache : c.take-path.new.self ≡ record c.args.self.now.cache { metrics = remove c.args.self.now.cache.metrics 0 } =
+        c.take-path.ensures.others ∙ ap (λ (cache : Cache). record cache { metrics = remove cache.metrics 0 }) c.in_ok-file_first.ensures.pending in record {
+      metrics = subst (λ (k : ℕ). AreOfClass k c.take-path.new.self.metrics) (sym c.in_ok-file_first.ensures.same.class)
+          (subst (λ (cache : Cache). AreOfClass c.args.self.now.class cache.metrics) (sym cache) (of_class_without c.args.self.now.class c.args.self.now.cache.metrics c.args.self.now.metrics));
+      files = c.file_first.new.self.files;
+    }
+
+pub returns-clause-drains : goal.returns-clause-drains
+returns-clause-drains g c =
+    let cache : c.take-path.new.self ≡ record c.args.self.now.cache { metrics = remove c.args.self.now.cache.metrics 0 } =
+        c.take-path.ensures.others ∙ ap (λ (cache : Cache). record cache { metrics = remove cache.metrics 0 }) c.in_ok-file_first.ensures.pending in
+    let first : slice_get c.args.self.now.cache.metrics 0 ≡ Some (c.take-path.result.0, c.take-path.result.1) =
+        subst (λ (cache : Cache). slice_get cache.metrics 0 ≡ Some (c.take-path.result.0, c.take-path.result.1)) c.in_ok-file_first.ensures.pending c.take-path.ensures.metric in
+    let one = first_of_class c.args.self.now.class c.args.self.now.cache.metrics c.take-path.result.0 c.take-path.result.1 c.args.self.now.metrics first in
+    subst (λ (cache : Cache). Drains c.args.self.now.class c.args.self.now.given c.args.self.now.cache c.args.self.now.layouts (g.D.Disk.image c.args.self.now.disk) c.take-path.result.0 c.args.now cache c.file_first.new.self.layouts (g.D.Disk.image c.file_first.new.self.disk))
+    (sym cache)
+    (drains_first c.args.self.now.class c.args.self.now.given c.args.self.now.cache c.args.self.now.layouts c.file_first.new.self.layouts (g.D.Disk.image c.args.self.now.disk) (g.D.Disk.image c.file_first.new.self.disk) c.take-path.result.0 c.take-path.result.1 c.args.now
+    first one (c.in_ok-file_first.ensures.files c.take-path.result.0 c.take-path.result.1 first))

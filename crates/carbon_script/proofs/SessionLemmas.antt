@@ -1,0 +1,261 @@
+-- From what the store does to what the machine does.
+use Rattle.std.proofs.Common.{◌≡◌, ℕ, ◌+◌, ◌-◌, false, List, [], ◌∷◌, ◌++◌, length, Option, Some, None, Result, Ok, Err, IfSome, refl, sym, ap, ◌∙◌, subst, arith, append-nil, length-append, count_by}
+use Rattle.std.specs.Prelude.{IsSome, codes}
+use Rattle.std.specs.Io.KnownBytes.{Appends}
+use Rattle.outside_io.specs.Image.{Image}
+use Rattle.outside_io.specs.declared.disk.Disk.{Ghosts}
+use Rattle.outside_io.proofs.Known.{Appends-none, Appends-more}
+use Rattle.line_frame.specs.Lines.{Line, lines}
+use Rattle.line_frame.specs.Machine.{Runs}
+use Rattle.line_frame.proofs.MachineLemmas.{Runs-none, Runs-more}
+use Rattle.line_service.specs.declared.ends.Stop.{Stop}
+use Rattle.line_service.specs.declared.ends.Stop.TheVariants as stop
+use Rattle.metric_path.specs.Class.{class_of, fnv1a}
+use Rattle.std.proofs.lemmas.Nat.{mod_below}
+use Rattle.metric_line.specs.Point.{Point}
+use Rattle.carbon_history.specs.declared.entry.Entry.{Entry}
+use Rattle.carbon_history.specs.declared.entry.PutEnd.{PutEnd}
+use Rattle.carbon_model.specs.State.{State}
+use Rattle.carbon_model.specs.Replay.{DrainsAll, DrainsClasses, DrainsUpTo, after, replay}
+use Rattle.shard_core.specs.Shards.{AllTold, HoldsAll}
+use Rattle.shard_core.proofs.ShardsLemmas.{failed_later, fewer_more, fewer_none}
+use Rattle.carbon_script.specs.Command.{Command, Metric, Refused, Long, Clock, Ask, DrainAll, Bad, command_of}
+use Rattle.carbon_script.specs.Counts.{counted}
+use Rattle.carbon_script.specs.Ends.{stop_of}
+use Rattle.carbon_script.specs.Script.{Does, FailsAt, Machine, RunsShort, ask_entry, fault_entry, count_text, drained_text, drains_word, is_drain, opening, puts_text, put_entry, refusals_text, reply_text, settled, summary_text, with_entries}
+use Rattle.carbon_script.specs.Sessions.{AppendsSome, CutShort, Done, Finishes, GoesLater, Means, Obeys, Summed, Writes, summary_of}
+use Rattle.carbon_script.specs.Stores.{AsksStore, DrainsOfAll, Keeps, PutsStore, StaysStore, next_ask, reply_in}
+use Rattle.carbon_script.specs.declared.counts.Counts.{Counts}
+use Rattle.carbon_script.specs.declared.fault.Fault.{Fault}
+use Rattle.carbon_script.specs.declared.fault.Fault.TheVariants as fault
+use Rattle.carbon_script.specs.declared.question.Question.{Question}
+use Rattle.carbon_script.specs.declared.session.Session.{Session}
+use Rattle.carbon_script.specs.declared.store.Store.{Store}
+
+-- ---- what is written
+
+pub appends_some_none : (a : Option (List ℕ)) → AppendsSome a a
+appends_some_none a = ([], Appends-none a)
+
+pub appends_some_more : (a b c : Option (List ℕ)) → AppendsSome a b → AppendsSome b c → AppendsSome a c
+appends_some_more a b c first second = (first.0 ++ second.0, Appends-more a b c first.0 second.0 first.1 second.1)
+
+pub writes_none : (told : ℕ → Option Image) (a : Option (List ℕ)) → Writes told a a []
+writes_none told a = record { text = []; wrote = Appends-none a; same = λ all. refl; }
+
+pub writes_more : (told : ℕ → Option Image) (a b c : Option (List ℕ)) (first second : List ℕ) → Writes told a b first → Writes told b c second → Writes told a c (first ++ second)
+writes_more told a b c first second one other = record {
+  text = one.text ++ other.text;
+  wrote = Appends-more a b c one.text other.text one.wrote other.wrote;
+  same = λ all. ap (λ (t : List ℕ). t ++ other.text) (one.same all) ∙ ap (λ (t : List ℕ). first ++ t) (other.same all);
+}
+
+writes_text : (told : ℕ → Option Image) (before after : Option (List ℕ)) (text said : List ℕ) → Appends before after text → text ≡ said → Writes told before after said
+writes_text told before after text said wrote same = record { text = text; wrote = wrote; same = λ all. same; }
+
+-- ---- commands that say nothing
+
+pub obeys_put : {D T : Type 0} {d : Ghosts D} (x : T) (old new : Session D d) (point : Point) (end : PutEnd) (written : Option (List ℕ)) → PutsStore old.store point end new.store → new.clock ≡ old.clock → new.counts ≡ counted old.counts end
+    → Obeys (Ok x) old (Metric point) written new written
+obeys_put x old new point end written puts clock counts told m means =
+    let done = puts told m.state m.entries means.store in record {
+      next = record (with_entries m (put_entry point end ∷ [])) { counts = counted m.counts end };
+      said = [];
+      does = (end, (done.0, (refl, refl)));
+      means = record {
+        store = done.1;
+        clock = clock ∙ means.clock;
+        counts = counts ∙ ap (λ (c : Counts). counted c end) means.counts;
+        whole = means.whole;
+      };
+      wrote = writes_none told written;
+    }
+
+-- nothing was done
+pub short_nothing : (m : Machine) (command : Command) → RunsShort m command m
+short_nothing m (Metric point) = refl
+short_nothing m (Refused reason) = refl
+short_nothing m Long = refl
+short_nothing m (Clock t) = refl
+short_nothing m (Ask q) = refl
+short_nothing m DrainAll = (0, ([], (([], ([], (refl, (refl, tt)))), sym (no_entries m))))
+  where
+    no_entries : (n : Machine) → with_entries n [] ≡ n
+    no_entries n = ap (λ (es : List Entry). record n { entries = es }) (append-nil n.entries)
+short_nothing m Bad = refl
+
+pub means_stays : {D : Type 0} {d : Ghosts D} (told : ℕ → Option Image) (old new : Session D d) (m : Machine) → StaysStore old.store new.store → new.clock ≡ old.clock → new.counts ≡ old.counts → Means told old m → Means told new m
+means_stays told old new m stays clock counts means = record {
+  store = stays told m.state m.entries means.store;
+  clock = clock ∙ means.clock;
+  counts = counts ∙ means.counts;
+  whole = means.whole;
+}
+
+-- memory ran out before anything was done
+pub cut_nothing : {D T : Type 0} {d : Ghosts D} (old new : Session D d) (command : Command) (before after : Option (List ℕ)) → StaysStore old.store new.store → new.clock ≡ old.clock → new.counts ≡ old.counts
+    → Obeys {T = T} (Err stop.NoMemory) old command before new after
+cut_nothing old new command before after stays clock counts told m means = (m, (short_nothing m command, means_stays told old new m stays clock counts means))
+
+pub stays_same : {D : Type 0} {d : Ghosts D} (old new : Store D d) → new ≡ old → StaysStore old new
+stays_same old new same told s es keeps = rw same keeps
+
+-- ---- questions
+
+few_classes : (path : List ℕ) → class_of path < 16
+few_classes path = mod_below (fnv1a path) 16 (omega arith)
+
+pub told_text : (told : ℕ → Option Image) (path : List ℕ) (a b : List ℕ) → IfSome (told (class_of path)) (λ opening. a ≡ b) → AllTold told → a ≡ b
+told_text told path a b same all = by (told (class_of path)) (all (class_of path) (few_classes path)) same
+  where
+    by : (t : Option Image) → IsSome t → IfSome t (λ opening. a ≡ b) → a ≡ b
+    by None some same = absurd some
+    by (Some opening) some same = same
+
+-- the machine after a question
+pub asked : {D T : Type 0} {d : Ghosts D} (text : T → List ℕ) (said : T) (old new : Session D d) (q : Question) (told : ℕ → Option Image) (m : Machine) → AsksStore text (Ok said) old.store q old.clock new.store → new.clock ≡ old.clock → new.counts ≡ old.counts
+    → Means told old m → (next : Machine) × ((next ≡ with_entries m (ask_entry m ∷ [])) × (Means told new next × (AllTold told → text said ≡ reply_text m q)))
+asked text said old new q told m asks clock counts means =
+    let done = asks told m.state m.entries means.store in (
+      with_entries m (ask_entry m ∷ []),
+      (
+        refl,
+        (
+          record {
+            store = subst (λ (now : ℕ). Keeps told new.store m.state (m.entries ++ next_ask m.entries now ∷ [])) means.clock done.0;
+            clock = clock ∙ means.clock;
+            counts = counts ∙ means.counts;
+            whole = means.whole;
+          },
+          λ all. told_text told q.path (text said) (reply_in m.state q old.clock) done.1 all ∙ ap (λ (now : ℕ). reply_in m.state q now) means.clock,
+        ),
+      ),
+    )
+
+pub obeys_ask : {D T U : Type 0} {d : Ghosts D} (x : U) (text : T → List ℕ) (said : T) (old new : Session D d) (q : Question) (before after : Option (List ℕ)) → AsksStore text (Ok said) old.store q old.clock new.store → new.clock ≡ old.clock → new.counts ≡ old.counts
+    → Appends before after (text said) → Obeys (Ok x) old (Ask q) before new after
+obeys_ask x text said old new q before after asks clock counts wrote told m means =
+    let done = asked text said old new q told m asks clock counts means in record {
+      next = done.0;
+      said = reply_text m q;
+      does = (done.1.0, refl);
+      means = done.1.1.0;
+      wrote = record { text = text said; wrote = wrote; same = done.1.1.1; };
+    }
+
+-- it could not be written
+pub ask_unwritten : {D T U : Type 0} {d : Ghosts D} (text : T → List ℕ) (said : T) (old new : Session D d) (q : Question) (before after : Option (List ℕ)) → AsksStore text (Ok said) old.store q old.clock new.store → new.clock ≡ old.clock → new.counts ≡ old.counts
+    → Obeys {T = U} (Err stop.WriteFault) old (Ask q) before new after
+ask_unwritten text said old new q before after asks clock counts told m means =
+    let done = asked text said old new q told m asks clock counts means in (done.0, (reply_text m q, ((done.1.0, refl), done.1.1.0)))
+
+-- or not be answered
+pub ask_cut : {D T U : Type 0} {d : Ghosts D} (text : T → List ℕ) (reason : Fault) (old new : Session D d) (q : Question) (before after : Option (List ℕ)) → AsksStore text (Err reason) old.store q old.clock new.store → new.clock ≡ old.clock → new.counts ≡ old.counts
+    → Obeys {T = U} (Err (stop_of reason)) old (Ask q) before new after
+ask_cut text (fault.Disk class) old new q before after asks clock counts told m means =
+    let done = asks.1 told m.state m.entries means.store in (
+      with_entries m (ask_entry m ∷ fault_entry class ∷ []),
+      ((sym asks.0, refl), done.entries ∙ ap (λ (now : ℕ). m.entries ++ next_ask m.entries now ∷ fault_entry class ∷ []) means.clock),
+    )
+ask_cut text fault.NoMemory old new q before after asks clock counts = cut_nothing old new (Ask q) before after asks clock counts
+
+-- ---- drains
+
+-- the machine after all drains
+pub drained_all : {D T : Type 0} {d : Ghosts D} (x : T) (old new : Session D d) (count : ℕ) (told : ℕ → Option Image) (m : Machine) → DrainsOfAll (Ok x) old.store old.clock new.store → count ≡ length new.store.history.entries - length old.store.history.entries
+    → new.clock ≡ old.clock → new.counts ≡ old.counts → Means told old m → (next : Machine) × (Does m DrainAll next (drained_text count) × Means told new next)
+drained_all x old new count told m drains counted clock counts means =
+    let done = drains told m.state m.entries means.store in
+    let made = subst (λ (now : ℕ). DrainsAll m.state 0 now done.0) means.clock done.1.0 in
+    let many : count ≡ length done.0 = counted ∙ ap (λ (es : List Entry). length es - length old.store.history.entries) done.1.1.entries ∙ ap (λ (es : List Entry). length (m.entries ++ done.0) - length es) means.store.entries
+        ∙ omega (arith, length-append m.entries done.0) in (
+      settled (with_entries m done.0),
+      (
+        (done.0, (made, (refl, ap drained_text many))),
+        record {
+          store = done.1.1;
+          clock = clock ∙ means.clock;
+          counts = counts ∙ means.counts;
+          whole = λ class. refl;
+        },
+      ),
+    )
+
+pub drain_cut : {D T U : Type 0} {d : Ghosts D} (reason : Fault) (old new : Session D d) (before after : Option (List ℕ)) → DrainsOfAll {T = T} (Err reason) old.store old.clock new.store → new.clock ≡ old.clock → new.counts ≡ old.counts
+    → Obeys {T = U} (Err (stop_of reason)) old DrainAll before new after
+drain_cut (fault.Disk class) old new before after drains clock counts told m means =
+    let done = drains told m.state m.entries means.store in (
+      with_entries m (done.0 ++ fault_entry class ∷ []),
+      ((done.0, (subst (λ (now : ℕ). DrainsUpTo m.state 0 class now done.0) means.clock done.1.0, refl)), done.1.1),
+    )
+drain_cut fault.NoMemory old new before after drains clock counts told m means =
+    let done = drains told m.state m.entries means.store in (
+      with_entries m done.1,
+      (
+        (done.0, (done.1, (subst (λ (now : ℕ). DrainsUpTo m.state 0 done.0 now done.1) means.clock done.2.0, refl))),
+        record {
+          store = done.2.1;
+          clock = clock ∙ means.clock;
+          counts = counts ∙ means.counts;
+          whole = means.whole;
+        },
+      ),
+    )
+
+-- ---- the end of the input
+
+summary_is : {D : Type 0} {d : Ghosts D} (told : ℕ → Option Image) (code : Session D d) (m : Machine) → Means told code m → summary_of code ≡ summary_text m
+summary_is told code m means =
+    ap (λ counts. puts_text counts ++ (refusals_text counts ++ (count_text drains_word (count_by is_drain code.store.history.entries) ++ codes "\n"))) means.counts
+    ∙ ap (λ (entries : List Entry). puts_text m.counts ++ (refusals_text m.counts ++ (count_text drains_word (count_by is_drain entries) ++ codes "\n"))) means.store.entries
+
+pub finishes : {D T U : Type 0} {d : Ghosts D} (x : T) (y : U) (old new : Session D d) (count : ℕ) (text : List ℕ) (before after : Option (List ℕ)) → DrainsOfAll (Ok x) old.store old.clock new.store
+    → count ≡ length new.store.history.entries - length old.store.history.entries → new.clock ≡ old.clock → new.counts ≡ old.counts → text ≡ summary_of new → Appends before after text → Finishes (Ok y) old before new after
+finishes x y old new count text before after drains counted clock counts said wrote told m means =
+    let done = drained_all x old new count told m drains counted clock counts means in record {
+      next = done.0;
+      said = drained_text count;
+      does = done.1.0;
+      means = done.1.1;
+      wrote = writes_text told before after text (summary_text done.0) wrote (said ∙ summary_is told new done.0 done.1.1);
+    }
+
+pub obeys_drain : {D T U : Type 0} {d : Ghosts D} (x : T) (y : U) (old new : Session D d) (count : ℕ) (text : List ℕ) (before after : Option (List ℕ)) → DrainsOfAll (Ok x) old.store old.clock new.store
+    → count ≡ length new.store.history.entries - length old.store.history.entries → new.clock ≡ old.clock → new.counts ≡ old.counts → text ≡ drained_text count → Appends before after text → Obeys (Ok y) old DrainAll before new after
+obeys_drain x y old new count text before after drains counted clock counts said wrote told m means =
+    let done = drained_all x old new count told m drains counted clock counts means in record {
+      next = done.0;
+      said = drained_text count;
+      does = done.1.0;
+      means = done.1.1;
+      wrote = writes_text told before after text (drained_text count) wrote said;
+    }
+
+-- all was drained, but that could not be written
+pub drain_unwritten : {D T : Type 0} {d : Ghosts D} (x : T) (old new : Session D d) (count : ℕ) → DrainsOfAll (Ok x) old.store old.clock new.store → count ≡ length new.store.history.entries - length old.store.history.entries
+    → new.clock ≡ old.clock → new.counts ≡ old.counts → (told : ℕ → Option Image) (m : Machine) → Means told old m → CutShort stop.WriteFault told m DrainAll new
+drain_unwritten x old new count drains counted clock counts told m means =
+    let done = drained_all x old new count told m drains counted clock counts means in (done.0, (drained_text count, done.1))
+
+-- or there was no memory for what is to be written
+pub drain_short : {D T : Type 0} {d : Ghosts D} (x : T) (old new : Session D d) → DrainsOfAll (Ok x) old.store old.clock new.store → new.clock ≡ old.clock → new.counts ≡ old.counts
+    → (told : ℕ → Option Image) (m : Machine) → Means told old m → CutShort stop.NoMemory told m DrainAll new
+unfolding DrainsAll
+drain_short x old new drains clock counts told m means =
+    let done = drains told m.state m.entries means.store in (
+      with_entries m done.0,
+      (
+        (16, (done.0, ((done.0, ([], (sym (append-nil done.0), (subst (λ (now : ℕ). DrainsClasses m.state 0 16 now done.0) means.clock done.1.0, tt)))), refl))),
+        record {
+          store = done.1.1;
+          clock = clock ∙ means.clock;
+          counts = counts ∙ means.counts;
+          whole = means.whole;
+        },
+      ),
+    )
+
+-- ---- causes
+
+pub later_none : {D : Type 0} {d : Ghosts D} (p : Session D d) → GoesLater p p
+later_none p = fewer_none p.store.shards.items.items
