@@ -1,6 +1,5 @@
-use Rattle.std.proofs.Common.{◌≡◌, Result, Ok, Err, subst, sym}
+use Rattle.std.proofs.Common.{Bool}
 use Rattle.shard_core.proofs.ShardsLemmas.{fewer_more, fewer_none}
-use Rattle.carbon_script.specs.Stores.{DrainsStore}
 use Rattle.carbon_script.proofs.StoreLemmas.{causes_as, class_done, class_ends, class_more, class_none, counts_later}
 use Rattle.carbon_script.proofs.store.Store.drain_class.Goals as goal
 
@@ -30,11 +29,11 @@ returns-in-Ok-false-clause-disks g c = record {
 
 pub returns-in-Err-clause-drains : goal.returns-in-Err-clause-drains
 returns-in-Err-clause-drains g c =
-    class_ends c.in-Err.fault c.args.self.now c.loop-fault.self c.drain_next.new.self c.args.class c.args.now c.loop-fault.invariant.drains c.in-Err.ensures.drains
+    class_ends (Unit {0}) c.in-Err.fault c.args.self.now c.loop-fault.self c.drain_next.new.self c.args.class c.args.now c.loop-fault.invariant.drains c.in-Err.ensures.drains
 
 pub returns-in-Err-clause-disks : goal.returns-in-Err-clause-disks
 returns-in-Err-clause-disks g c = record {
   later = fewer_more c.args.self.now.shards.items.items c.loop-fault.self.shards.items.items c.drain_next.new.self.shards.items.items c.loop-fault.invariant.later c.in-Err.ensures.disks.later;
-  cause = causes_as c.in-Err.fault c.args.self.now.shards.items.items c.drain_next.new.self.shards.items.items
-      (counts_later c.in-Err.fault c.args.self.now.shards.items.items c.loop-fault.self.shards.items.items c.drain_next.new.self.shards.items.items c.loop-fault.invariant.later c.in-Err.ensures.disks.cause);
+  cause = causes_as Bool (Unit {0}) c.in-Err.fault c.args.self.now.shards.items.items c.drain_next.new.self.shards.items.items
+      (counts_later Bool c.in-Err.fault c.args.self.now.shards.items.items c.loop-fault.self.shards.items.items c.drain_next.new.self.shards.items.items c.loop-fault.invariant.later c.in-Err.ensures.disks.cause);
 }
