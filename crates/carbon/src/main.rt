@@ -19,10 +19,7 @@ const MOMENT: u64 = 1_700_000_000;
 
 fn main(rt: HostRuntime) -> io::Result<ExitCode> {
     let alloc = rt.alloc();
-    let mut words = Vec::new(alloc);
-    for word in env::args(&rt)?.skip(1) {
-        words.push(word)?;
-    }
+    let words = words(&rt)?;
     let disks = folders(&rt)?;
     let mut input = StdSource::new(&rt);
     let mut out = StdSink::new(rt.clone()?);
@@ -33,6 +30,21 @@ fn main(rt: HostRuntime) -> io::Result<ExitCode> {
         alloc, &words, &mut input, &mut out, &mut conf, disks, &clock, &mut net,
     );
     Ok(ExitCode::from(report.status))
+}
+
+/// The words behind the program's name. Where one of them is no text they are none, which is no command.
+fn words(rt: &HostRuntime) -> io::Result<Vec<String>> {
+    let alloc = rt.alloc();
+    let mut words = Vec::new(alloc);
+    let args = match env::args(rt) {
+        Ok(args) => args,
+        Err(error) if error.kind() == io::ErrorKind::InvalidData => return Ok(words),
+        Err(error) => return Err(error),
+    };
+    for word in args.skip(1) {
+        words.push(word)?;
+    }
+    Ok(words)
 }
 
 /// A disk for each class, over the folders `data/00` to `data/15`.

@@ -63,10 +63,10 @@ pub record TellsLast (status : ℕ) (line : List ℕ) (answer : ℕ) (before aft
 -- ---- runs that end before the script
 
 -- The words are no command: that alone is told, and nothing is touched.
-pub record NoCommand {D : Type 0} (streams : Streams) (disks : List D) (answer : Answer D) : Type 0 where
+pub record NoCommand {D : Type 0} (streams : Streams) (given : List D) (answer : Answer D) : Type 0 where
   pub tells : TellsAlone 2 usage_line answer.status streams.written streams.written'
   pub history : answer.history ≡ []
-  pub disks : answer.disks ≡ disks
+  pub disks : answer.disks ≡ given
   pub input : streams.left' ≡ streams.left
 
 -- how a fault of the rule files is told
@@ -82,13 +82,13 @@ IsConfDisk conf.NoMemory = ⊥
 
 -- There are no rules: a rule file is refused by its first fault, the folder's count of failed calls rose, or memory ran out. That alone is told,
 -- nothing was put, drained or asked, and the disks and the input are as they were.
-pub record NoRules {D : Type 0} (d : Ghosts D) (folder folder' : D) (streams : Streams) (disks : List D) (answer : Answer D) : Type 0 where
+pub record NoRules {D : Type 0} (d : Ghosts D) (folder folder' : D) (streams : Streams) (given : List D) (answer : Answer D) : Type 0 where
   pub fault : ConfFault
   pub first : IfSome (d.image folder) (IsRefused fault)
   pub cause : IsConfDisk fault → Rose (d.faults folder) (d.faults folder')
   pub tells : TellsConf fault answer.status streams.written streams.written'
   pub history : answer.history ≡ []
-  pub disks : answer.disks ≡ disks
+  pub disks : answer.disks ≡ given
   pub input : streams.left' ≡ streams.left
 
 -- how it is told that a shard did not start

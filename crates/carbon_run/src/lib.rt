@@ -3,11 +3,9 @@
 
 mod conf;
 #[cfg(test)]
-mod conf_tests;
+mod counted_disk;
 mod report;
 mod rule_line;
-#[cfg(test)]
-mod rule_tests;
 mod scripts;
 mod telling;
 #[cfg(test)]

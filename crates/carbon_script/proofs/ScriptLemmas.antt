@@ -43,7 +43,7 @@ follow told (line ∷ others) from to m chain means =
     let more = follow told others chain.0 to one.next chain.1.1 one.means in record {
       last = more.last;
       said = one.said ++ more.said;
-      runs = (one.next, (one.said, (more.said, (one.does, (more.runs, refl)))));
+      runs = (one.next, one.said, more.said, (one.does, (more.runs, refl)));
       means = more.means;
       wrote = writes_more told from.written chain.0.written to.written one.said more.said one.wrote more.wrote;
     }
@@ -85,10 +85,10 @@ cause_later stop.NoMemory a b c later cause = tt
 -- a command that was cut short ends the script
 cut_ends : {D : Type 0} {d : Ghosts D} (reason : Stop) (told : ℕ → Option Image) (start : Machine) (taken : List ℕ) (last : Machine) (command : Command) (before after : Option (List ℕ)) (new : Session D d)
     → ServesUpTo start taken last command → CutShort reason told last command new → EndsAs (end_of reason) told start taken before new after
-cut_ends stop.WriteFault told start taken last command before after new serves cut = (last, (command, (serves, cut)))
-cut_ends (stop.DiskFault class) told start taken last command before after new serves cut = (last, (command, (serves, cut)))
+cut_ends stop.WriteFault told start taken last command before after new serves cut = (last, command, (serves, cut))
+cut_ends (stop.DiskFault class) told start taken last command before after new serves cut = (last, command, (serves, cut))
 cut_ends stop.Spent told start taken last command before after new serves cut = absurd cut
-cut_ends stop.NoMemory told start taken last command before after new serves cut = (last, (command, (serves, cut)))
+cut_ends stop.NoMemory told start taken last command before after new serves cut = (last, command, (serves, cut))
 
 takes_cut : (reason : Stop) (taken : List ℕ) (left : Option (List ℕ)) → TakesInput (end_of reason) taken left
 takes_cut stop.WriteFault taken left = tt
@@ -127,12 +127,10 @@ ends_short left left' from to service =
           let followed = follow told at.handed from to start at.chain means in
           let next = next_command at.rest followed.last.clock in (
             followed.last,
+            next.0,
             (
-              next.0,
-              (
-                up_to start service.0 at.handed at.rest followed.last followed.said next.0 followed.runs at.split next.1,
-                (followed.last, (short_nothing followed.last next.0, followed.means)),
-              ),
+              up_to start service.0 at.handed at.rest followed.last followed.said next.0 followed.runs at.split next.1,
+              (followed.last, (short_nothing followed.last next.0, followed.means)),
             ),
           );
       later = frame.0;
@@ -148,7 +146,7 @@ ends_unread left left' from to service =
       consumed = service.1.0;
       input = tt;
       ends = λ told start means.
-          let followed = follow told (lines service.0) from to start service.1.1 means in (followed.last, (followed.said, (followed.runs, followed.means)));
+          let followed = follow told (lines service.0) from to start service.1.1 means in (followed.last, followed.said, (followed.runs, followed.means));
       later = frame.0;
       cause = tt;
       some = frame.1;
@@ -162,7 +160,7 @@ ends_limit left left' from to service =
       consumed = service.1.0;
       input = service.1.1.1;
       ends = λ told start means.
-          let followed = follow told (lines service.0) from to start service.1.1.0 means in (followed.last, (followed.said, (followed.runs, followed.means)));
+          let followed = follow told (lines service.0) from to start service.1.1.0 means in (followed.last, followed.said, (followed.runs, followed.means));
       later = frame.0;
       cause = tt;
       some = frame.1;
@@ -180,12 +178,10 @@ ends_done x left left' from mid to service finishes later some =
           let followed = follow told (lines service.0) from mid start service.1.1.0 means in
           let summed = finishes told followed.last followed.means in (
             summed.next,
+            followed.said ++ summary_text summed.next,
             (
-              followed.said ++ summary_text summed.next,
-              (
-                (followed.last, (followed.said, (summed.said, (followed.runs, (summed.does, refl))))),
-                (summed.means, writes_more told from.written mid.written to.written followed.said (summary_text summed.next) followed.wrote summed.wrote),
-              ),
+              (followed.last, followed.said, summed.said, (followed.runs, (summed.does, refl))),
+              (summed.means, writes_more told from.written mid.written to.written followed.said (summary_text summed.next) followed.wrote summed.wrote),
             ),
           );
       later = fewer_more from.server.store.shards.items.items mid.server.store.shards.items.items to.server.store.shards.items.items before.0 later;
@@ -194,9 +190,9 @@ ends_done x left left' from mid to service finishes later some =
     }
 
 -- or could not be
-pub ends_cut : {D T : Type 0} {d : Ghosts D} (reason : Stop) (left left' : Option (List ℕ)) (from mid to : At (Session D d)) → Service Serves Stops service.Closed left from left' mid → Finishes {T = T} (Err reason) mid.server mid.written to.server to.written
+pub ends_cut : {D : Type 0} {d : Ghosts D} (T : Type 0) (reason : Stop) (left left' : Option (List ℕ)) (from mid to : At (Session D d)) → Service Serves Stops service.Closed left from left' mid → Finishes {T = T} (Err reason) mid.server mid.written to.server to.written
     → GoesLater mid.server to.server → HasCause reason mid.server to.server → AppendsSome mid.written to.written → Ends (end_of reason) left from.server from.written left' to.server to.written
-ends_cut reason left left' from mid to service finishes later cause some =
+ends_cut T reason left left' from mid to service finishes later cause some =
     let before = frame_later (lines service.0) from mid service.1.1.0 in record {
       taken = service.0;
       consumed = service.1.0;
@@ -210,3 +206,7 @@ ends_cut reason left left' from mid to service finishes later cause some =
       cause = cause_later reason from.server mid.server to.server before.0 cause;
       some = appends_some_more from.written mid.written to.written before.1 some;
     }
+
+-- the same end by another name
+pub ends_as : {D : Type 0} {d : Ghosts D} (reason same : ScriptEnd) (left left' : Option (List ℕ)) (old new : Session D d) (before later : Option (List ℕ)) → reason ≡ same → Ends same left old before left' new later → Ends reason left old before left' new later
+ends_as reason same left left' old new before later is ends = subst (λ (r : ScriptEnd). Ends r left old before left' new later) (sym is) ends

@@ -1,9 +1,10 @@
 -- From what the store does to what the machine does.
-use Rattle.std.proofs.Common.{◌≡◌, ℕ, ◌+◌, ◌-◌, false, List, [], ◌∷◌, ◌++◌, length, Option, Some, None, Result, Ok, Err, IfSome, refl, sym, ap, ◌∙◌, subst, arith, append-nil, length-append, count_by}
+use Rattle.std.proofs.Common.{◌≡◌, ℕ, ◌+◌, ◌-◌, ◌<◌, false, List, [], ◌∷◌, ◌++◌, length, Option, Some, None, Result, Ok, Err, IfSome, refl, sym, ap, ◌∙◌, subst, arith, append-nil, length-append, count_by, take}
 use Rattle.std.specs.Prelude.{IsSome, codes}
 use Rattle.std.specs.Io.KnownBytes.{Appends}
 use Rattle.outside_io.specs.Image.{Image}
 use Rattle.outside_io.specs.declared.disk.Disk.{Ghosts}
+use Rattle.outside_io.specs.Sink.{AppendsFront}
 use Rattle.outside_io.proofs.Known.{Appends-none, Appends-more}
 use Rattle.line_frame.specs.Lines.{Line, lines}
 use Rattle.line_frame.specs.Machine.{Runs}
@@ -11,8 +12,10 @@ use Rattle.line_frame.proofs.MachineLemmas.{Runs-none, Runs-more}
 use Rattle.line_service.specs.declared.ends.Stop.{Stop}
 use Rattle.line_service.specs.declared.ends.Stop.TheVariants as stop
 use Rattle.metric_path.specs.Class.{class_of, fnv1a}
+use Rattle.std.proofs.lemmas.Bool.{false≢true}
 use Rattle.std.proofs.lemmas.Nat.{mod_below}
 use Rattle.metric_line.specs.Point.{Point}
+use Rattle.metric_line.specs.declared.fault.LineFault.{LineFault}
 use Rattle.carbon_history.specs.declared.entry.Entry.{Entry}
 use Rattle.carbon_history.specs.declared.entry.PutEnd.{PutEnd}
 use Rattle.carbon_model.specs.State.{State}
@@ -20,10 +23,10 @@ use Rattle.carbon_model.specs.Replay.{DrainsAll, DrainsClasses, DrainsUpTo, afte
 use Rattle.shard_core.specs.Shards.{AllTold, HoldsAll}
 use Rattle.shard_core.proofs.ShardsLemmas.{failed_later, fewer_more, fewer_none}
 use Rattle.carbon_script.specs.Command.{Command, Metric, Refused, Long, Clock, Ask, DrainAll, Bad, command_of}
-use Rattle.carbon_script.specs.Counts.{counted}
+use Rattle.carbon_script.specs.Counts.{counted, overlong, refused}
 use Rattle.carbon_script.specs.Ends.{stop_of}
 use Rattle.carbon_script.specs.Script.{Does, FailsAt, Machine, RunsShort, ask_entry, fault_entry, count_text, drained_text, drains_word, is_drain, opening, puts_text, put_entry, refusals_text, reply_text, settled, summary_text, with_entries}
-use Rattle.carbon_script.specs.Sessions.{AppendsSome, CutShort, Done, Finishes, GoesLater, Means, Obeys, Summed, Writes, summary_of}
+use Rattle.carbon_script.specs.Sessions.{AppendsSome, CutShort, Done, Finishes, GoesLater, HasCause, Means, Obeys, Serves, Stops, Summed, Writes, summary_of}
 use Rattle.carbon_script.specs.Stores.{AsksStore, DrainsOfAll, Keeps, PutsStore, StaysStore, next_ask, reply_in}
 use Rattle.carbon_script.specs.declared.counts.Counts.{Counts}
 use Rattle.carbon_script.specs.declared.fault.Fault.{Fault}
@@ -39,6 +42,16 @@ appends_some_none a = ([], Appends-none a)
 
 pub appends_some_more : (a b c : Option (List ℕ)) → AppendsSome a b → AppendsSome b c → AppendsSome a c
 appends_some_more a b c first second = (first.0 ++ second.0, Appends-more a b c first.0 second.0 first.1 second.1)
+
+-- a front of a text is some text
+pub some_front : (a b : Option (List ℕ)) (text : List ℕ) → AppendsFront a b text → AppendsSome a b
+some_front a b text front = (take front.0 text, front.2)
+
+-- the same stop by another name
+pub obeys_as : {D : Type 0} {d : Ghosts D} (T : Type 0) (reason same : Stop) (old : Session D d) (command : Command) (before : Option (List ℕ)) (new : Session D d) (later : Option (List ℕ)) → reason ≡ same → Obeys {T = T} (Err same) old command before new later
+    → Obeys {T = T} (Err reason) old command before new later
+obeys_as T reason same old command before new later is obeys =
+    subst (λ (r : Stop). (told : ℕ → Option Image) (machine : Machine) → Means told old machine → CutShort r told machine command new) (sym is) obeys
 
 pub writes_none : (told : ℕ → Option Image) (a : Option (List ℕ)) → Writes told a a []
 writes_none told a = record { text = []; wrote = Appends-none a; same = λ all. refl; }
@@ -78,7 +91,7 @@ short_nothing m (Refused reason) = refl
 short_nothing m Long = refl
 short_nothing m (Clock t) = refl
 short_nothing m (Ask q) = refl
-short_nothing m DrainAll = (0, ([], (([], ([], (refl, (refl, tt)))), sym (no_entries m))))
+short_nothing m DrainAll = (0, [], (([], [], (refl, (refl, tt))), sym (no_entries m)))
   where
     no_entries : (n : Machine) → with_entries n [] ≡ n
     no_entries n = ap (λ (es : List Entry). record n { entries = es }) (append-nil n.entries)
@@ -93,9 +106,9 @@ means_stays told old new m stays clock counts means = record {
 }
 
 -- memory ran out before anything was done
-pub cut_nothing : {D T : Type 0} {d : Ghosts D} (old new : Session D d) (command : Command) (before after : Option (List ℕ)) → StaysStore old.store new.store → new.clock ≡ old.clock → new.counts ≡ old.counts
+pub cut_nothing : {D : Type 0} {d : Ghosts D} (T : Type 0) (old new : Session D d) (command : Command) (before after : Option (List ℕ)) → StaysStore old.store new.store → new.clock ≡ old.clock → new.counts ≡ old.counts
     → Obeys {T = T} (Err stop.NoMemory) old command before new after
-cut_nothing old new command before after stays clock counts told m means = (m, (short_nothing m command, means_stays told old new m stays clock counts means))
+cut_nothing T old new command before later stays clock counts told m means = (m, (short_nothing m command, means_stays told old new m stays clock counts means))
 
 pub stays_same : {D : Type 0} {d : Ghosts D} (old new : Store D d) → new ≡ old → StaysStore old new
 stays_same old new same told s es keeps = rw same keeps
@@ -109,7 +122,7 @@ pub told_text : (told : ℕ → Option Image) (path : List ℕ) (a b : List ℕ)
 told_text told path a b same all = by (told (class_of path)) (all (class_of path) (few_classes path)) same
   where
     by : (t : Option Image) → IsSome t → IfSome t (λ opening. a ≡ b) → a ≡ b
-    by None some same = absurd some
+    by None some same = absurd (false≢true some)
     by (Some opening) some same = same
 
 -- the machine after a question
@@ -144,20 +157,20 @@ obeys_ask x text said old new q before after asks clock counts wrote told m mean
     }
 
 -- it could not be written
-pub ask_unwritten : {D T U : Type 0} {d : Ghosts D} (text : T → List ℕ) (said : T) (old new : Session D d) (q : Question) (before after : Option (List ℕ)) → AsksStore text (Ok said) old.store q old.clock new.store → new.clock ≡ old.clock → new.counts ≡ old.counts
+pub ask_unwritten : {D T : Type 0} {d : Ghosts D} (U : Type 0) (text : T → List ℕ) (said : T) (old new : Session D d) (q : Question) (before after : Option (List ℕ)) → AsksStore text (Ok said) old.store q old.clock new.store → new.clock ≡ old.clock → new.counts ≡ old.counts
     → Obeys {T = U} (Err stop.WriteFault) old (Ask q) before new after
-ask_unwritten text said old new q before after asks clock counts told m means =
-    let done = asked text said old new q told m asks clock counts means in (done.0, (reply_text m q, ((done.1.0, refl), done.1.1.0)))
+ask_unwritten U text said old new q before later asks clock counts told m means =
+    let done = asked text said old new q told m asks clock counts means in (done.0, reply_text m q, ((done.1.0, refl), done.1.1.0))
 
 -- or not be answered
-pub ask_cut : {D T U : Type 0} {d : Ghosts D} (text : T → List ℕ) (reason : Fault) (old new : Session D d) (q : Question) (before after : Option (List ℕ)) → AsksStore text (Err reason) old.store q old.clock new.store → new.clock ≡ old.clock → new.counts ≡ old.counts
+pub ask_cut : {D T : Type 0} {d : Ghosts D} (U : Type 0) (text : T → List ℕ) (reason : Fault) (old new : Session D d) (q : Question) (before after : Option (List ℕ)) → AsksStore text (Err reason) old.store q old.clock new.store → new.clock ≡ old.clock → new.counts ≡ old.counts
     → Obeys {T = U} (Err (stop_of reason)) old (Ask q) before new after
-ask_cut text (fault.Disk class) old new q before after asks clock counts told m means =
+ask_cut U text (fault.Disk class) old new q before later asks clock counts = λ told m means.
     let done = asks.1 told m.state m.entries means.store in (
       with_entries m (ask_entry m ∷ fault_entry class ∷ []),
       ((sym asks.0, refl), done.entries ∙ ap (λ (now : ℕ). m.entries ++ next_ask m.entries now ∷ fault_entry class ∷ []) means.clock),
     )
-ask_cut text fault.NoMemory old new q before after asks clock counts = cut_nothing old new (Ask q) before after asks clock counts
+ask_cut U text fault.NoMemory old new q before later asks clock counts = cut_nothing U old new (Ask q) before later asks clock counts
 
 -- ---- drains
 
@@ -181,18 +194,18 @@ drained_all x old new count told m drains counted clock counts means =
       ),
     )
 
-pub drain_cut : {D T U : Type 0} {d : Ghosts D} (reason : Fault) (old new : Session D d) (before after : Option (List ℕ)) → DrainsOfAll {T = T} (Err reason) old.store old.clock new.store → new.clock ≡ old.clock → new.counts ≡ old.counts
+pub drain_cut : {D : Type 0} {d : Ghosts D} (T U : Type 0) (reason : Fault) (old new : Session D d) (before after : Option (List ℕ)) → DrainsOfAll {T = T} (Err reason) old.store old.clock new.store → new.clock ≡ old.clock → new.counts ≡ old.counts
     → Obeys {T = U} (Err (stop_of reason)) old DrainAll before new after
-drain_cut (fault.Disk class) old new before after drains clock counts told m means =
+drain_cut T U (fault.Disk class) old new before later drains clock counts told m means =
     let done = drains told m.state m.entries means.store in (
       with_entries m (done.0 ++ fault_entry class ∷ []),
       ((done.0, (subst (λ (now : ℕ). DrainsUpTo m.state 0 class now done.0) means.clock done.1.0, refl)), done.1.1),
     )
-drain_cut fault.NoMemory old new before after drains clock counts told m means =
+drain_cut T U fault.NoMemory old new before later drains clock counts told m means =
     let done = drains told m.state m.entries means.store in (
       with_entries m done.1,
       (
-        (done.0, (done.1, (subst (λ (now : ℕ). DrainsUpTo m.state 0 done.0 now done.1) means.clock done.2.0, refl))),
+        (done.0, done.1, (subst (λ (now : ℕ). DrainsUpTo m.state 0 done.0 now done.1) means.clock done.2.0, refl)),
         record {
           store = done.2.1;
           clock = clock ∙ means.clock;
@@ -235,7 +248,7 @@ obeys_drain x y old new count text before after drains counted clock counts said
 pub drain_unwritten : {D T : Type 0} {d : Ghosts D} (x : T) (old new : Session D d) (count : ℕ) → DrainsOfAll (Ok x) old.store old.clock new.store → count ≡ length new.store.history.entries - length old.store.history.entries
     → new.clock ≡ old.clock → new.counts ≡ old.counts → (told : ℕ → Option Image) (m : Machine) → Means told old m → CutShort stop.WriteFault told m DrainAll new
 drain_unwritten x old new count drains counted clock counts told m means =
-    let done = drained_all x old new count told m drains counted clock counts means in (done.0, (drained_text count, done.1))
+    let done = drained_all x old new count told m drains counted clock counts means in (done.0, drained_text count, done.1)
 
 -- or there was no memory for what is to be written
 pub drain_short : {D T : Type 0} {d : Ghosts D} (x : T) (old new : Session D d) → DrainsOfAll (Ok x) old.store old.clock new.store → new.clock ≡ old.clock → new.counts ≡ old.counts
@@ -245,7 +258,7 @@ drain_short x old new drains clock counts told m means =
     let done = drains told m.state m.entries means.store in (
       with_entries m done.0,
       (
-        (16, (done.0, ((done.0, ([], (sym (append-nil done.0), (subst (λ (now : ℕ). DrainsClasses m.state 0 16 now done.0) means.clock done.1.0, tt)))), refl))),
+        (16, done.0, ((done.0, [], (sym (append-nil done.0), (subst (λ (now : ℕ). DrainsClasses m.state 0 16 now done.0) means.clock done.1.0, tt))), refl)),
         record {
           store = done.1.1;
           clock = clock ∙ means.clock;
@@ -259,3 +272,75 @@ drain_short x old new drains clock counts told m means =
 
 pub later_none : {D : Type 0} {d : Ghosts D} (p : Session D d) → GoesLater p p
 later_none p = fewer_none p.store.shards.items.items
+
+-- ---- commands that only count, or set the clock
+
+pub obeys_refused : {D T : Type 0} {d : Ghosts D} (x : T) (old new : Session D d) (reason : LineFault) (written : Option (List ℕ)) → new.store ≡ old.store → new.clock ≡ old.clock → new.counts ≡ refused old.counts reason
+    → Obeys (Ok x) old (Refused reason) written new written
+obeys_refused x old new reason written store clock counts told m means = record {
+  next = record m { counts = refused m.counts reason };
+  said = [];
+  does = (refl, refl);
+  means = record {
+    store = rw store means.store;
+    clock = clock ∙ means.clock;
+    counts = counts ∙ ap (λ (c : Counts). refused c reason) means.counts;
+    whole = means.whole;
+  };
+  wrote = writes_none told written;
+}
+
+pub obeys_long : {D T : Type 0} {d : Ghosts D} (x : T) (old new : Session D d) (written : Option (List ℕ)) → new.store ≡ old.store → new.clock ≡ old.clock → new.counts ≡ overlong old.counts → Obeys (Ok x) old Long written new written
+obeys_long x old new written store clock counts told m means = record {
+  next = record m { counts = overlong m.counts };
+  said = [];
+  does = (refl, refl);
+  means = record {
+    store = rw store means.store;
+    clock = clock ∙ means.clock;
+    counts = counts ∙ ap overlong means.counts;
+    whole = means.whole;
+  };
+  wrote = writes_none told written;
+}
+
+pub obeys_clock : {D T : Type 0} {d : Ghosts D} (x : T) (old new : Session D d) (moment : ℕ) (written : Option (List ℕ)) → new.store ≡ old.store → new.clock ≡ moment → new.counts ≡ old.counts → Obeys (Ok x) old (Clock moment) written new written
+obeys_clock x old new moment written store clock counts told m means = record {
+  next = record m { clock = moment };
+  said = [];
+  does = (refl, refl);
+  means = record {
+    store = rw store means.store;
+    clock = clock;
+    counts = counts ∙ means.counts;
+    whole = means.whole;
+  };
+  wrote = writes_none told written;
+}
+
+-- memory ran out before a line was read
+pub stops_nothing : {D : Type 0} {d : Ghosts D} (code : Session D d) (line : Line) (written : Option (List ℕ)) → Stops code line written stop.NoMemory code written
+stops_nothing code line written = record {
+  cut = λ told m means. (m, (short_nothing m (command_of line m.clock), means));
+  later = later_none code;
+  cause = tt;
+  some = appends_some_none written;
+}
+
+-- a line that was served, or not, as its command
+pub serves_line : {D T : Type 0} {d : Ghosts D} (x : T) (old new : Session D d) (line : Line) (command : Command) (before later : Option (List ℕ)) → command ≡ command_of line old.clock → Obeys (Ok x) old command before new later
+    → GoesLater old new → AppendsSome before later → Serves old line before new later
+serves_line x old new line command before later is obeys goes some = record {
+  does = λ told m means. subst (λ (c : Command). Done told m c before new later) (is ∙ ap (command_of line) means.clock) (obeys told m means);
+  later = goes;
+  some = some;
+}
+
+pub stops_line : {D : Type 0} {d : Ghosts D} (T : Type 0) (reason : Stop) (old new : Session D d) (line : Line) (command : Command) (before later : Option (List ℕ)) → command ≡ command_of line old.clock → Obeys {T = T} (Err reason) old command before new later
+    → GoesLater old new → HasCause reason old new → AppendsSome before later → Stops old line before reason new later
+stops_line T reason old new line command before later is obeys goes cause some = record {
+  cut = λ told m means. subst (λ (c : Command). CutShort reason told m c new) (is ∙ ap (command_of line) means.clock) (obeys told m means);
+  later = goes;
+  cause = cause;
+  some = some;
+}

@@ -193,9 +193,9 @@ class_short old mid new class now before stays told s es keeps =
     }
 
 -- what an error of the last drain makes of them all
-pub class_ends : {D : Type 0} {d : Ghosts D} {T : Type 0} (fault : Fault) (old mid new : Store D d) (class now : ℕ) → Drains old class now mid → DrainsStore (Err fault) mid class now new → DrainsOfClass {T = T} (Err fault) old class now new
-class_ends (Disk k) old mid new class now before next = (next.0, class_failed old mid new class now before next.1)
-class_ends NoMemory old mid new class now before next = class_short old mid new class now before next
+pub class_ends : {D : Type 0} {d : Ghosts D} (T : Type 0) (fault : Fault) (old mid new : Store D d) (class now : ℕ) → Drains old class now mid → DrainsStore (Err fault) mid class now new → DrainsOfClass {T = T} (Err fault) old class now new
+class_ends T (Disk k) old mid new class now before next = (next.0, class_failed old mid new class now before next.1)
+class_ends T NoMemory old mid new class now before next = class_short old mid new class now before next
 
 -- ---- the drains of all classes
 
@@ -216,7 +216,7 @@ clears_more x old mid new class now before next told s es keeps =
     let cleared = before told s es keeps in
     let one = next told (replay s cleared.drains) (es ++ cleared.drains) cleared.keeps in record {
       drains = cleared.drains ++ one.0;
-      made = (cleared.drains, (one.0, (refl, (cleared.made, one.1.0))));
+      made = (cleared.drains, one.0, (refl, (cleared.made, one.1.0)));
       keeps = rw (replay-append s cleared.drains one.0, sym (append_assoc es cleared.drains one.0)) one.1.1;
     }
 
@@ -226,37 +226,35 @@ clears_all x old new class now all clears told s es keeps =
     let cleared = clears told s es keeps in
     (cleared.drains, (subst (λ (k : ℕ). DrainsClasses s 0 k now cleared.drains) all cleared.made, cleared.keeps))
 
-pub clears_ends : {D : Type 0} {d : Ghosts D} {T U : Type 0} (fault : Fault) (old mid new : Store D d) (class now : ℕ) → Clears old class now mid → DrainsOfClass {T = U} (Err fault) mid class now new → DrainsOfAll {T = T} (Err fault) old now new
-clears_ends (Disk k) old mid new class now before next told s es keeps =
+pub clears_ends : {D : Type 0} {d : Ghosts D} (T U : Type 0) (fault : Fault) (old mid new : Store D d) (class now : ℕ) → Clears old class now mid → DrainsOfClass {T = U} (Err fault) mid class now new → DrainsOfAll {T = T} (Err fault) old now new
+clears_ends T U (Disk k) old mid new class now before next = λ told s es keeps.
     let cleared = before told s es keeps in
     let failed = next.1 told (replay s cleared.drains) (es ++ cleared.drains) cleared.keeps in (
       cleared.drains ++ failed.drains,
       (
-        subst (λ (c : ℕ). DrainsUpTo s 0 c now (cleared.drains ++ failed.drains)) (sym next.0) (cleared.drains, (failed.drains, (refl, (cleared.made, failed.made)))),
+        subst (λ (c : ℕ). DrainsUpTo s 0 c now (cleared.drains ++ failed.drains)) (sym next.0) (cleared.drains, failed.drains, (refl, (cleared.made, failed.made))),
         failed.entered ∙ append_assoc es cleared.drains (failed.drains ++ fault_entry class ∷ [])
             ∙ ap (λ (xs : List Entry). es ++ xs) (sym (append_assoc cleared.drains failed.drains (fault_entry class ∷ [])))
             ∙ ap (λ (c : ℕ). es ++ ((cleared.drains ++ failed.drains) ++ fault_entry c ∷ [])) (sym next.0),
       ),
     )
-clears_ends NoMemory old mid new class now before next told s es keeps =
+clears_ends T U NoMemory old mid new class now before next = λ told s es keeps.
     let cleared = before told s es keeps in
     let drained = next told (replay s cleared.drains) (es ++ cleared.drains) cleared.keeps in (
       class,
+      cleared.drains ++ drained.drains,
       (
-        cleared.drains ++ drained.drains,
-        (
-          (cleared.drains, (drained.drains, (refl, (cleared.made, drained.made)))),
-          rw (replay-append s cleared.drains drained.drains, sym (append_assoc es cleared.drains drained.drains)) drained.keeps,
-        ),
+        (cleared.drains, drained.drains, (refl, (cleared.made, drained.made))),
+        rw (replay-append s cleared.drains drained.drains, sym (append_assoc es cleared.drains drained.drains)) drained.keeps,
       ),
     )
 
 -- ---- counts of failed calls
 
-pub counts_later : {D : Type 0} {d : Ghosts D} {T : Type 0} (fault : Fault) (a b c : List (Shard D d)) → NoFewer a b → HasCause {T = T} (Err fault) b c → HasCause {T = T} (Err fault) a c
-counts_later (Disk class) a b c later cause = failed_later a b c class later cause
-counts_later NoMemory a b c later cause = tt
+pub counts_later : {D : Type 0} {d : Ghosts D} (T : Type 0) (fault : Fault) (a b c : List (Shard D d)) → NoFewer a b → HasCause {T = T} (Err fault) b c → HasCause {T = T} (Err fault) a c
+counts_later T (Disk class) a b c later cause = failed_later a b c class later cause
+counts_later T NoMemory a b c later cause = tt
 
-pub causes_as : {D : Type 0} {d : Ghosts D} {T U : Type 0} (fault : Fault) (a b : List (Shard D d)) → HasCause {T = T} (Err fault) a b → HasCause {T = U} (Err fault) a b
-causes_as (Disk class) a b cause = cause
-causes_as NoMemory a b cause = tt
+pub causes_as : {D : Type 0} {d : Ghosts D} (T U : Type 0) (fault : Fault) (a b : List (Shard D d)) → HasCause {T = T} (Err fault) a b → HasCause {T = U} (Err fault) a b
+causes_as T U (Disk class) a b cause = cause
+causes_as T U NoMemory a b cause = tt

@@ -19,10 +19,10 @@ use Rattle.carbon_script.specs.declared.question.Question.{Question}
 use Rattle.carbon_script.specs.declared.store.Store.{Store}
 
 -- The store, whose disks told these images at the opening, stands for a state and the entries so far.
-pub record Keeps {D : Type 0} {d : Ghosts D} (told : ℕ → Option Image) (store : Store D d) (state : State) (entries : List Entry) : Type 0 where
+pub record Keeps {D : Type 0} {d : Ghosts D} (told : ℕ → Option Image) (store : Store D d) (state : State) (so_far : List Entry) : Type 0 where
   pub shards : HoldsAll told store.shards.items.items state
-  pub entries : store.history.entries ≡ entries
-  pub asks : store.asks ≡ greatest_ask 0 entries
+  pub entries : store.history.entries ≡ so_far
+  pub asks : store.asks ≡ greatest_ask 0 so_far
 
 -- nothing changed but the shards
 pub record OnlyShards {D : Type 0} {d : Ghosts D} (old new : Store D d) : Type 0 where

@@ -60,6 +60,7 @@ impl<D: Disk> Session<D> {
     }
 
     // Does what a command says, and writes its reply.
+    #[tactic(auto, using(crate::proofs::SessionLemmas::appends_some_none, crate::proofs::SessionLemmas::later_none))]
     fn obey<K: Sink>(&mut self, command: Command, out: &mut K) -> Result<(), Stop>
         requires { IsSound command }
         ensures obeys { Obeys result self.old (seen_command command) (K.written out.old) self.new (K.written out.new) }
@@ -79,6 +80,7 @@ impl<D: Disk> Session<D> {
     }
 
     // Puts the point of a metric line.
+    #[tactic(auto, using(crate::proofs::SessionLemmas::appends_some_none, crate::proofs::SessionLemmas::later_none))]
     fn put<K: Sink>(&mut self, datum: Datum, out: &mut K) -> Result<(), Stop>
         ensures obeys { Obeys result self.old (Metric (seen datum)) (K.written out.old) self.new (K.written out.new) }
         ensures frame { Frame result self.old (K.written out.old) self.new (K.written out.new) }
@@ -95,6 +97,7 @@ impl<D: Disk> Session<D> {
     }
 
     // Answers a question, and writes the answer in one piece.
+    #[tactic(auto, using(crate::proofs::SessionLemmas::appends_some_none, crate::proofs::SessionLemmas::later_none))]
     fn answer<K: Sink>(&mut self, question: &Question, out: &mut K) -> Result<(), Stop>
         requires { IsQuestion question.now }
         ensures obeys { Obeys result self.old (Ask question.now) (K.written out.old) self.new (K.written out.new) }
@@ -112,6 +115,7 @@ impl<D: Disk> Session<D> {
     }
 
     // Drains all that is pending, and writes how many metrics that were.
+    #[tactic(auto, using(crate::proofs::SessionLemmas::appends_some_none, crate::proofs::SessionLemmas::later_none))]
     fn drain<K: Sink>(&mut self, out: &mut K) -> Result<(), Stop>
         ensures obeys { Obeys result self.old DrainAll (K.written out.old) self.new (K.written out.new) }
         ensures frame { Frame result self.old (K.written out.old) self.new (K.written out.new) }
@@ -144,6 +148,7 @@ impl<D: Disk> Session<D> {
     }
 
     /// Drains all that is still pending, and writes the summary.
+    #[tactic(auto, using(crate::proofs::SessionLemmas::appends_some_none, crate::proofs::SessionLemmas::later_none))]
     pub(crate) fn finish<K: Sink>(&mut self, out: &mut K) -> Result<(), Stop>
         ensures finishes { Finishes result self.old (K.written out.old) self.new (K.written out.new) }
         ensures frame { Frame result self.old (K.written out.old) self.new (K.written out.new) }

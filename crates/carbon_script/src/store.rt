@@ -35,6 +35,7 @@ impl<D: Disk> Store<D> {
     ghost use Rattle.carbon_model.specs.Series.{EndsInTime};
     ghost use Rattle.shard_core.specs.Shards.{NoFewer, ShowsAt, StayAll, UsesDisks, pending_at};
     ghost use Rattle.carbon_script.specs.Faults.{CountsDisks};
+    ghost use Rattle.carbon_script.specs.Script.{put_entry};
     ghost use Rattle.carbon_script.specs.Stores.{AsksStore, DrainsOfAll, DrainsOfClass, DrainsStore, OnlyShards, PutsStore, StaysStore};
     ghost use Rattle.carbon_script.specs.Windows.{IsQuestion};
 
@@ -53,22 +54,36 @@ impl<D: Disk> Store<D> {
     }
 
     /// Puts the point of a metric line, and enters it. Want of memory changes nothing.
+    #[tactic(auto, using(shard_core::proofs::ShardsLemmas::fewer_none))]
     pub fn put(&mut self, datum: Datum) -> Result<PutEnd, AllocError>
         ensures put { IfOk result (λ end. PutsStore self.old (seen datum) end self.new) }
         ensures err { OnErr result (StaysStore self.old self.new) }
         ensures later { NoFewer self.old.shards.items.items self.new.shards.items.items }
     {
         self.history.make_room(1)?;
-        let Some(end) = end_of(self.shards.put(&datum)) else {
+        let put = self.shards.put(&datum);
+        let Some(end) = end_of(put) else {
             return Err(AllocError);
         };
-        let Datum { path, time, value } = datum;
-        self.history.enter(Entry::Put(PASS, path, time, value, end));
+        self.enter_put(datum, end);
         Ok(end)
+    }
+
+    // Enters a put, which has room.
+    fn enter_put(&mut self, datum: Datum, end: PutEnd)
+        requires { 0 < self.old.history.room }
+        ensures entries { self.new.history.entries ≡ self.old.history.entries ++ put_entry (seen datum) end ∷ [] }
+        ensures asks { self.new.asks ≡ self.old.asks }
+        ensures shards { self.new.shards ≡ self.old.shards }
+    {
+        let Datum { path, time, value } = datum;
+        self.history
+            .enter(Entry::Put(PASS, path, time, value, end));
     }
 
     /// Answers a question at the moment `now`, with a line end. The question is entered, and a fault of the disk behind it; want of
     /// memory changes nothing.
+    #[tactic(auto, using(shard_core::proofs::ShardsLemmas::fewer_none))]
     pub fn ask(&mut self, question: &Question, now: u32) -> Result<Vec<u8>, Fault>
         requires question { IsQuestion question.now }
         requires moment { now ≤ 4_000_000_000 }
@@ -131,7 +146,10 @@ impl<D: Disk> Store<D> {
     {
         let before = self.history.entries().len();
         for class in 0..CLASSES as u32 {
-            self.drain_class(class, now)?;
+            match self.drain_class(class, now) {
+                Ok(()) => {}
+                Err(fault) => return Err(fault),
+            }
         }
         Ok(self.history.entries().len().saturating_sub(before))
     }
@@ -152,6 +170,7 @@ impl<D: Disk> Store<D> {
     }
 
     // Drains the metric that a class picks, and enters that: false where nothing of the class is pending.
+    #[tactic(auto, using(shard_core::proofs::ShardsLemmas::fewer_none))]
     fn drain_next(&mut self, class: u32, now: u32) -> Result<bool, Fault>
         requires { class < 16 }
         ensures drains { DrainsStore result self.old class now self.new }

@@ -1,5 +1,5 @@
 use Rattle.std.proofs.Common.{ℕ, List, ◌++◌, ◌∙◌, ap, append_assoc, add-one}
-use Rattle.carbon_model.specs.Answer.{next_text, points_text}
+use Rattle.carbon_script.specs.Answer.{next_text, points_text}
 use Rattle.carbon_script.proofs.reply.push_points.Goals as goal
 
 pub loop-i-preserved : goal.loop-i-preserved

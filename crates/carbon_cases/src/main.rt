@@ -1,0 +1,70 @@
+//! Whole runs of carbon over disks and streams in memory, as cases on standard input.
+//!
+//! Each line is one of these, or empty:
+//!
+//! | Line | What it does |
+//! |---|---|
+//! | `# TITLE` | begins a case: the word `script`, no input, no files, nothing fails |
+//! | `same` | directly behind it: the case has what the one before was given |
+//! | `keep` | the disks have the files that the last run left |
+//! | `words WORD..` | the words behind the program's name; `""` is one of no bytes, `_` stands for a blank |
+//! | `> TEXT` | one more line of the input |
+//! | `input TEXT`, `no-input` | more bytes of the input; none any more |
+//! | `cut N..`, `cut each` | no read goes across these places; one more run for each place |
+//! | `most-read N`, `most-written N` | the most bytes that a read gives and a write takes |
+//! | `fail-read N..`, `fail-write N..` | the reads and the writes that fail, from 1 on |
+//! | `schemas TEXT`, `aggregations TEXT` | the rule files |
+//! | `file DISK NAME TEXT` | a file beforehand; `DISK` is a class, or `conf` |
+//! | `zeros DISK NAME LEN N..` | a file of zeros, but for numbers of four bytes at its front |
+//! | `ring DISK NAME METHOD FACTOR STEPxPOINTS..` | an empty ring file |
+//! | `room DISK N`, `fail-disk DISK N..` | the room of a disk; its creates and writes that fail, from 1 on |
+//! | `run` | runs the case, and tells its status and what it wrote |
+//! | `history`, `left` | what was put, drained and asked; how many bytes of the input were not taken |
+//! | `show DISK NAME` | the layout of a ring file; archive, slot, bucket and value of each cell that is not empty |
+//! | `bytes DISK NAME N`, `names DISK`, `faults DISK` | the first bytes of a file; the files; how many calls failed |
+//!
+//! A `TEXT` has the escapes `\n`, `\r`, `\t`, `\s` for a blank, `\\`, `\xff`, and `\(9x)` for nine times the byte `x`.
+//! Any other line is answered by `case error`, and the next one goes on.
+#![tactic(auto)]
+
+mod answers;
+mod case;
+mod cases;
+mod command;
+mod disk_case;
+mod fault;
+mod ring;
+mod runs;
+mod text;
+
+use cases::Cases;
+use fault::CaseFault;
+use std::alloc::Global;
+use std::io::{self, BufRead, BufReader};
+use std::process::ExitCode;
+
+fn main(rt: HostRuntime) -> io::Result<ExitCode> {
+    let alloc = rt.alloc();
+    let mut cases = Cases::new(alloc)?;
+    for line in BufReader::new(alloc, rt.reader())?.lines(alloc) {
+        let line = line?;
+        if let Err(fault) = take_line(&rt, alloc, &mut cases, line.as_str()) {
+            println!(rt; "{fault}")?;
+            return Ok(ExitCode::from(1));
+        }
+    }
+    Ok(ExitCode::from(0))
+}
+
+// Does a line and prints what it tells.
+fn take_line(rt: &impl Print, alloc: Global, cases: &mut Cases, line: &str) -> io::Result<()> {
+    let mut page = String::new(alloc);
+    if line.is_empty() {
+        return Ok(());
+    }
+    match cases.take(alloc, line, &mut page) {
+        Ok(()) => rt.print(page.as_str()),
+        Err(CaseFault::Malformed) => println!(rt; "case error: {line}"),
+        Err(CaseFault::NoMemory) => Err(io::Error::from(io::ErrorKind::OutOfMemory)),
+    }
+}

@@ -1,0 +1,82 @@
+//! Runs of a case.
+
+use crate::case::Case;
+use crate::text::write_lines;
+use carbon_run::{Report, run};
+use outside_io::{ClosedNet, FixedClock, MemDisk, MemSink, MemSource};
+use std::alloc::{AllocError, Global};
+
+// The moment of the clock, which no command reads.
+const MOMENT: u64 = 1_700_000_000;
+
+/// A run that has ended.
+#[derive(Drop)]
+pub struct Ran {
+    /// What the run answered.
+    pub report: Report<MemDisk>,
+    /// The folder of the rule files.
+    pub conf: MemDisk,
+    /// The input.
+    pub source: MemSource,
+    /// The output.
+    pub out: MemSink,
+}
+
+/// Runs a case once, with one more cut of its input.
+fn run_once(alloc: Global, case: &Case, cut: Option<usize>) -> Result<Ran, AllocError> {
+    let disks = case.disks(alloc)?;
+    let mut source = case.source(alloc, cut)?;
+    let mut out = case.sink(alloc)?;
+    let mut conf = case.conf.disk(alloc)?;
+    let clock = FixedClock::new(MOMENT);
+    let report = run(
+        alloc,
+        &case.words,
+        &mut source,
+        &mut out,
+        &mut conf,
+        disks,
+        &clock,
+        &mut ClosedNet,
+    );
+    Ok(Ran {
+        report,
+        conf,
+        source,
+        out,
+    })
+}
+
+/// Runs a case and tells its status and what it wrote.
+pub fn run_case(alloc: Global, case: &Case, page: &mut String) -> Result<Ran, AllocError> {
+    let ran = run_once(alloc, case, None)?;
+    write_end(page, &ran)?;
+    if case.is_cut_each {
+        run_cut(alloc, case, &ran, page)?;
+    }
+    Ok(ran)
+}
+
+// Runs a case once for each place inside its input, and tells those at which it ends otherwise.
+fn run_cut(alloc: Global, case: &Case, uncut: &Ran, page: &mut String) -> Result<(), AllocError> {
+    let mut alike: u64 = 0;
+    for place in 1..case.input.len() {
+        let ran = run_once(alloc, case, Some(place))?;
+        if has_same_end(uncut, &ran) {
+            alike = alike.saturating_add(1);
+        } else {
+            writeln!(page, "cut at {place}:")?;
+            write_end(page, &ran)?;
+        }
+    }
+    writeln!(page, "the same at each of {alike} cuts")
+}
+
+fn has_same_end(one: &Ran, other: &Ran) -> bool {
+    one.report.status == other.report.status && one.out.bytes() == other.out.bytes()
+}
+
+fn write_end(page: &mut String, ran: &Ran) -> Result<(), AllocError> {
+    writeln!(page, "status {}", ran.report.status)?;
+    write_lines(page, ran.out.bytes())
+}
