@@ -1,3 +1,2 @@
-pub mod RunLemmas
-pub mod ReplayLemmas
 pub mod ConfLemmas
+pub mod RunLemmas

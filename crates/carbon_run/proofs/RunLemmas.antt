@@ -17,15 +17,15 @@ use Rattle.shard_core.specs.Shards.{AllTold, DisksStand, FailedAt, HoldsAll, dis
 use Rattle.shard_core.specs.View.{StandsFor}
 use Rattle.shard_core.specs.declared.shard.Shard.{Shard}
 use Rattle.shard_core.proofs.ShardsLemmas.{AreInOrder}
-use Rattle.carbon_script.specs.Command.{Command}
+use Rattle.carbon_script.specs.Command.{Command, DrainAll}
 use Rattle.carbon_script.specs.Script.{Does, FailsAt, Machine, RunsShort, ScriptRun, ServesUpTo, opening}
-use Rattle.carbon_script.specs.Sessions.{AppendsSome, CutShort, Ends, EndsAs, Means}
+use Rattle.carbon_script.specs.Sessions.{AppendsSome, CutShort, EndCause as SessionCause, Ends, EndsAs, Means, TakesInput}
 use Rattle.carbon_script.specs.declared.serve.ScriptEnd.{ScriptEnd}
 use Rattle.carbon_script.specs.declared.serve.ScriptEnd.TheVariants as end
 use Rattle.carbon_script.specs.declared.session.Session.{Session}
 use Rattle.carbon_script.proofs.LegalLemmas.{Stays, does_stay, fails_stay, none_pending, opening_stays, runs_stay, short_stays}
 use Rattle.carbon_run.specs.Texts.{EndsWith}
-use Rattle.carbon_run.specs.Runs.{Answer, EndCause, EndFrom, Leads, Leaves, Scripted, ShardsRun, Streams, Takes, TellsAlone, TellsEnd, TellsLast}
+use Rattle.carbon_run.specs.Runs.{Answer, EndCause, EndFrom, Leads, Leaves, SameIfDone, Scripted, ShardsRun, Streams, Takes, TellsAlone, TellsEnd, TellsLast}
 
 -- the disk at a place
 disk_at : {D : Type 0} {d : Ghosts D} (shards : List (Shard D d)) (k : ℕ) → slice_get (map (λ shard. shard.disk) shards) k ≡ option_map (λ shard. shard.disk) (slice_get shards k)
@@ -68,7 +68,7 @@ end_told end.NoMemory answer a b c some tells = last_told _ _ answer a b c some 
 
 -- a line alone is the last
 pub alone_last : (status : ℕ) (line : List ℕ) (answer : ℕ) (before after : Option (List ℕ)) → TellsAlone status line answer before after → TellsLast status line answer before after
-alone_last status line answer before after tells = record { either = tells.either; told = λ is. ([], tells.told is); }
+alone_last status line answer before after tells = record { either = tells.either; told = λ is. ([], tells.told is) }
 
 -- ---- the end of a script is that of its run
 
@@ -83,46 +83,35 @@ leaves told session m answer handed means = record {
   disks = handed.disks told m.state means.store.shards;
 }
 
--- nothing more is written behind a script that is done
-abbrev SameIfDone : ScriptEnd → Option (List ℕ) → Option (List ℕ) → Type 0
-SameIfDone end.Done written after = after ≡ written
-SameIfDone end.ReadFault written after = Unit {0}
-SameIfDone end.WriteFault written after = Unit {0}
-SameIfDone (end.DiskFault class) written after = Unit {0}
-SameIfDone end.InputLimit written after = Unit {0}
-SameIfDone end.NoMemory written after = Unit {0}
-
 pub leads : {D : Type 0} {d : Ghosts D} (reason : ScriptEnd) (told : ℕ → Option Image) (start : State) (taken : List ℕ) (session : Session D d) (written : Option (List ℕ)) (streams : Streams) (answer : Answer D)
     → answer.history ≡ session.store.history.entries → ((told : ℕ → Option Image) (s : State) → HoldsAll told session.store.shards.items.items s → DisksStand d.image told answer.disks s) → SameIfDone reason written streams.written'
     → EndsAs reason told (opening start) taken streams.written session written → Leads d told reason (opening start) taken streams answer
 leads {d = d} end.Done told start taken session written streams answer history disks same ends =
     let at = ends.2 in (
       ends.0,
+      ends.1,
       (
-        ends.1,
+        at.0,
         (
-          at.0,
+          leaves told session ends.0 answer (record { history = history; disks = disks }) at.1.0,
           (
-            leaves told session ends.0 answer (record { history = history; disks = disks }) at.1.0,
-            (
-              λ all. subst (λ (t : List ℕ). Appends streams.written streams.written' t) (at.1.1.same all) (subst (λ (w : Option (List ℕ)). Appends streams.written w at.1.1.text) (sym same) at.1.1.wrote),
-              λ k few. none_pending at.0.0 ends.0 at.0.2 at.0.3.1.0 k few,
-            ),
+            λ all. subst (λ (t : List ℕ). Appends streams.written streams.written' t) (at.1.1.same all) (subst (λ (w : Option (List ℕ)). Appends streams.written w at.1.1.text) (sym same) at.1.1.wrote),
+            λ k few. none_pending at.0.0 ends.0 at.0.2 at.0.3.1.0 k few,
           ),
         ),
       ),
     )
-leads end.ReadFault told start taken session written streams answer history disks same ends = (ends.0, (ends.1, (ends.2.0, leaves told session ends.0 answer (record { history = history; disks = disks }) ends.2.1)))
-leads end.InputLimit told start taken session written streams answer history disks same ends = (ends.0, (ends.1, (ends.2.0, leaves told session ends.0 answer (record { history = history; disks = disks }) ends.2.1)))
+leads end.ReadFault told start taken session written streams answer history disks same ends = (ends.0, ends.1, (ends.2.0, leaves told session ends.0 answer (record { history = history; disks = disks }) ends.2.1))
+leads end.InputLimit told start taken session written streams answer history disks same ends = (ends.0, ends.1, (ends.2.0, leaves told session ends.0 answer (record { history = history; disks = disks }) ends.2.1))
 leads end.WriteFault told start taken session written streams answer history disks same ends =
     let cut = ends.2.1 in
-    (ends.0, (ends.1, (cut.0, (cut.1, (ends.2.0, (cut.2.0, leaves told session cut.0 answer (record { history = history; disks = disks }) cut.2.1))))))
+    (ends.0, ends.1, cut.0, cut.1, (ends.2.0, (cut.2.0, leaves told session cut.0 answer (record { history = history; disks = disks }) cut.2.1)))
 leads (end.DiskFault class) told start taken session written streams answer history disks same ends =
     let cut = ends.2.1 in
-    (ends.0, (ends.1, (cut.0, (ends.2.0, (cut.1.0, history ∙ cut.1.1)))))
+    (ends.0, ends.1, cut.0, (ends.2.0, (cut.1.0, history ∙ cut.1.1)))
 leads end.NoMemory told start taken session written streams answer history disks same ends =
     let cut = ends.2.1 in
-    (ends.0, (ends.1, (cut.0, (ends.2.0, (cut.1.0, leaves told session cut.0 answer (record { history = history; disks = disks }) cut.1.1)))))
+    (ends.0, ends.1, cut.0, (ends.2.0, (cut.1.0, leaves told session cut.0 answer (record { history = history; disks = disks }) cut.1.1)))
 
 -- ---- the history is legal
 
@@ -132,17 +121,17 @@ legal_at start m history same stays = subst (λ (es : List Entry). IsLegalHistor
 serves_stay : (start : State) (taken : List ℕ) (last : Machine) (command : Command) → ServesUpTo (opening start) taken last command → Stays start last
 serves_stay start taken last command serves = runs_stay start (opening start) serves.handed last serves.said serves.runs (opening_stays start)
 
-pub leads_legally : {D : Type 0} {d : Ghosts D} (reason : ScriptEnd) (told : ℕ → Option Image) (start : State) (taken : List ℕ) (streams : Streams) (answer : Answer D) → Leads d told reason (opening start) taken streams answer → IsLegalHistory start answer.history
-leads_legally end.Done told start taken streams answer leads =
+pub leads_legally : {D : Type 0} (d : Ghosts D) (reason : ScriptEnd) (told : ℕ → Option Image) (start : State) (taken : List ℕ) (streams : Streams) (answer : Answer D) → Leads d told reason (opening start) taken streams answer → IsLegalHistory start answer.history
+leads_legally d end.Done told start taken streams answer leads =
     let run = leads.2.0 in
-    legal_at start leads.0 answer.history leads.2.1.0.history (does_stay start run.0 _ leads.0 run.2 run.3.1.0 (runs_stay start (opening start) _ run.0 run.1 run.3.0 (opening_stays start)))
-leads_legally end.ReadFault told start taken streams answer leads = legal_at start leads.0 answer.history leads.2.1.history (runs_stay start (opening start) _ leads.0 leads.1 leads.2.0 (opening_stays start))
-leads_legally end.InputLimit told start taken streams answer leads = legal_at start leads.0 answer.history leads.2.1.history (runs_stay start (opening start) _ leads.0 leads.1 leads.2.0 (opening_stays start))
-leads_legally end.WriteFault told start taken streams answer leads =
-    legal_at start leads.2 answer.history leads.3.1.1.history (does_stay start leads.0 leads.1 leads.2 leads.3.0 leads.3.1.1.0 (serves_stay start taken leads.0 leads.1 leads.3.1.0))
-leads_legally (end.DiskFault class) told start taken streams answer leads =
+    legal_at start leads.0 answer.history leads.2.1.0.history (does_stay start run.0 DrainAll leads.0 run.2 run.3.1.0 (runs_stay start (opening start) _ run.0 run.1 run.3.0 (opening_stays start)))
+leads_legally d end.ReadFault told start taken streams answer leads = legal_at start leads.0 answer.history leads.2.1.history (runs_stay start (opening start) _ leads.0 leads.1 leads.2.0 (opening_stays start))
+leads_legally d end.InputLimit told start taken streams answer leads = legal_at start leads.0 answer.history leads.2.1.history (runs_stay start (opening start) _ leads.0 leads.1 leads.2.0 (opening_stays start))
+leads_legally d end.WriteFault told start taken streams answer leads =
+    legal_at start leads.2 answer.history leads.4.1.1.history (does_stay start leads.0 leads.1 leads.2 leads.3 leads.4.1.0 (serves_stay start taken leads.0 leads.1 leads.4.0))
+leads_legally d (end.DiskFault class) told start taken streams answer leads =
     legal_at start leads.2 answer.history leads.3.1.1 (fails_stay start leads.0 leads.1 class leads.2 leads.3.1.0 (serves_stay start taken leads.0 leads.1 leads.3.0))
-leads_legally end.NoMemory told start taken streams answer leads =
+leads_legally d end.NoMemory told start taken streams answer leads =
     legal_at start leads.2 answer.history leads.3.1.1.history (short_stays start leads.0 leads.1 leads.2 leads.3.1.0 (serves_stay start taken leads.0 leads.1 leads.3.0))
 
 -- ---- from the shards to the run
@@ -168,6 +157,42 @@ scripted {d = d} rules disks shards streams answer starts later run =
       consumed = run.consumed;
       takes = run.takes;
       leads = led;
-      legal = leads_legally run.reason (told_of d.image disks) starts.state run.taken streams answer led;
+      legal = leads_legally d run.reason (told_of d.image disks) starts.state run.taken streams answer led;
       cause = cause_from run.reason shards disks answer.disks later run.cause;
     }
+
+-- ---- from the session to the shards
+
+end_from : {D : Type 0} {d : Ghosts D} (reason : ScriptEnd) (old new : Session D d) (shards : List (Shard D d)) (disks' : List D) → old.store.shards.items.items ≡ shards → SessionCause reason old new
+    → ((k : ℕ) → disk_faults d.faults disks' k ≡ faults_at new.store.shards.items.items k) → EndFrom reason shards disks'
+unfolding FailedAt
+end_from end.Done old new shards disks' same cause faults = tt
+end_from end.ReadFault old new shards disks' same cause faults = tt
+end_from end.WriteFault old new shards disks' same cause faults = tt
+end_from {d = d} (end.DiskFault class) old new shards disks' same cause faults =
+    subst (λ (n : ℕ). Rose (faults_at shards class) n) (sym (faults class)) (subst (λ xs. Rose (faults_at xs class) (faults_at new.store.shards.items.items class)) same cause)
+end_from end.InputLimit old new shards disks' same cause faults = tt
+end_from end.NoMemory old new shards disks' same cause faults = tt
+
+takes_as : (reason : ScriptEnd) (taken : List ℕ) (left : Option (List ℕ)) → TakesInput reason taken left → Takes reason taken left
+takes_as end.Done taken left takes = takes
+takes_as end.ReadFault taken left takes = takes
+takes_as end.WriteFault taken left takes = takes
+takes_as (end.DiskFault class) taken left takes = takes
+takes_as end.InputLimit taken left takes = takes
+takes_as end.NoMemory taken left takes = takes
+
+pub shards_run : {D : Type 0} {d : Ghosts D} (reason : ScriptEnd) (shards : List (Shard D d)) (old new : Session D d) (written : Option (List ℕ)) (streams : Streams) (answer : Answer D) → old.store.shards.items.items ≡ shards
+    → ((told : ℕ → Option Image) (s : State) → HoldsAll told shards s → Means told old (opening s))
+    → Ends reason streams.left old streams.written streams.left' new written → TellsEnd reason answer.status written streams.written' → SameIfDone reason written streams.written'
+    → answer.history ≡ new.store.history.entries → ((told : ℕ → Option Image) (s : State) → HoldsAll told new.store.shards.items.items s → DisksStand d.image told answer.disks s)
+    → ((k : ℕ) → disk_faults d.faults answer.disks k ≡ faults_at new.store.shards.items.items k) → ShardsRun shards streams answer
+shards_run reason shards old new written streams answer same means ends tells silent history disks faults = record {
+  reason = reason;
+  tells = end_told reason answer.status streams.written written streams.written' ends.some tells;
+  taken = ends.taken;
+  consumed = ends.consumed;
+  takes = takes_as reason ends.taken streams.left' ends.input;
+  leads = λ told s holds. leads reason told s ends.taken new written streams answer history disks silent (ends.ends told (opening s) (means told s holds));
+  cause = end_from reason old new shards answer.disks same ends.cause faults;
+}

@@ -117,6 +117,15 @@ TellsEnd (end.DiskFault class) answer before after = TellsLast 5 (disk_fault_lin
 TellsEnd end.InputLimit answer before after = TellsLast 10 limit_line answer before after
 TellsEnd end.NoMemory answer before after = TellsLast 8 no_memory_line answer before after
 
+-- nothing is written behind a script that is done
+abbrev pub SameIfDone : ScriptEnd → Option (List ℕ) → Option (List ℕ) → Type 0
+SameIfDone end.Done before after = after ≡ before
+SameIfDone end.ReadFault before after = Unit {0}
+SameIfDone end.WriteFault before after = Unit {0}
+SameIfDone (end.DiskFault class) before after = Unit {0}
+SameIfDone end.InputLimit before after = Unit {0}
+SameIfDone end.NoMemory before after = Unit {0}
+
 -- the fault line of an end could not be written: the status is 7 although the script did not end by a failed write
 abbrev pub FailsToTell : ScriptEnd → ℕ → Type 0
 FailsToTell end.WriteFault answer = ⊥

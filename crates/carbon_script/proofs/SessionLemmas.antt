@@ -54,7 +54,7 @@ obeys_as T reason same old command before new later is obeys =
     subst (λ (r : Stop). (told : ℕ → Option Image) (machine : Machine) → Means told old machine → CutShort r told machine command new) (sym is) obeys
 
 pub writes_none : (told : ℕ → Option Image) (a : Option (List ℕ)) → Writes told a a []
-writes_none told a = record { text = []; wrote = Appends-none a; same = λ all. refl; }
+writes_none told a = record { text = []; wrote = Appends-none a; same = λ all. refl }
 
 pub writes_more : (told : ℕ → Option Image) (a b c : Option (List ℕ)) (first second : List ℕ) → Writes told a b first → Writes told b c second → Writes told a c (first ++ second)
 writes_more told a b c first second one other = record {
@@ -64,7 +64,7 @@ writes_more told a b c first second one other = record {
 }
 
 writes_text : (told : ℕ → Option Image) (before after : Option (List ℕ)) (text said : List ℕ) → Appends before after text → text ≡ said → Writes told before after said
-writes_text told before after text said wrote same = record { text = text; wrote = wrote; same = λ all. same; }
+writes_text told before after text said wrote same = record { text = text; wrote = wrote; same = λ all. same }
 
 -- ---- commands that say nothing
 
@@ -153,7 +153,7 @@ obeys_ask x text said old new q before after asks clock counts wrote told m mean
       said = reply_text m q;
       does = (done.1.0, refl);
       means = done.1.1.0;
-      wrote = record { text = text said; wrote = wrote; same = done.1.1.1; };
+      wrote = record { text = text said; wrote = wrote; same = done.1.1.1 };
     }
 
 -- it could not be written
@@ -181,7 +181,7 @@ drained_all x old new count told m drains counted clock counts means =
     let done = drains told m.state m.entries means.store in
     let made = subst (λ (now : ℕ). DrainsAll m.state 0 now done.0) means.clock done.1.0 in
     let many : count ≡ length done.0 = counted ∙ ap (λ (es : List Entry). length es - length old.store.history.entries) done.1.1.entries ∙ ap (λ (es : List Entry). length (m.entries ++ done.0) - length es) means.store.entries
-        ∙ omega (arith, length-append m.entries done.0) in (
+    ∙ omega (arith, length-append m.entries done.0) in (
       settled (with_entries m done.0),
       (
         (done.0, (made, (refl, ap drained_text many))),

@@ -63,13 +63,13 @@ put_ends : {D : Type 0} {d : Ghosts D} (old new : Store D d) (point : Point) (en
     → IsLegal s (put_entry point end) × Keeps told new (after s (put_entry point end)) (es ++ put_entry point end ∷ [])
 put_ends old new point Stored puts told s es keeps entered asks =
     let done = puts told s keeps.shards 0 in
-    (done.0, record { shards = done.1; entries = entered ∙ ap (λ (xs : List Entry). xs ++ put_entry point Stored ∷ []) keeps.entries; asks = asks ∙ keeps.asks ∙ sym (greatest_other es (put_entry point Stored) refl); })
+    (done.0, record { shards = done.1; entries = entered ∙ ap (λ (xs : List Entry). xs ++ put_entry point Stored ∷ []) keeps.entries; asks = asks ∙ keeps.asks ∙ sym (greatest_other es (put_entry point Stored) refl) })
 put_ends old new point Replaced puts told s es keeps entered asks =
     let done = puts told s keeps.shards 0 in
-    (done.0, record { shards = done.1; entries = entered ∙ ap (λ (xs : List Entry). xs ++ put_entry point Replaced ∷ []) keeps.entries; asks = asks ∙ keeps.asks ∙ sym (greatest_other es (put_entry point Replaced) refl); })
+    (done.0, record { shards = done.1; entries = entered ∙ ap (λ (xs : List Entry). xs ++ put_entry point Replaced ∷ []) keeps.entries; asks = asks ∙ keeps.asks ∙ sym (greatest_other es (put_entry point Replaced) refl) })
 put_ends old new point Full puts told s es keeps entered asks =
     let done = puts told s keeps.shards 0 in
-    (done.0, record { shards = done.1; entries = entered ∙ ap (λ (xs : List Entry). xs ++ put_entry point Full ∷ []) keeps.entries; asks = asks ∙ keeps.asks ∙ sym (greatest_other es (put_entry point Full) refl); })
+    (done.0, record { shards = done.1; entries = entered ∙ ap (λ (xs : List Entry). xs ++ put_entry point Full ∷ []) keeps.entries; asks = asks ∙ keeps.asks ∙ sym (greatest_other es (put_entry point Full) refl) })
 
 pub puts_store : {D : Type 0} {d : Ghosts D} (old new : Store D d) (point : Point) (end : PutEnd) → PutsAt old.shards.items.items new.shards.items.items point.path point.time point.value (put_of end)
     → new.history.entries ≡ old.history.entries ++ put_entry point end ∷ [] → new.asks ≡ old.asks → PutsStore old point end new
@@ -122,18 +122,26 @@ pub drain_some : {D : Type 0} {d : Ghosts D} (old new : Store D d) (class now : 
     → (p : List ℕ) × ((class_of p ≡ class) × (IsLegal s (entry.Drain 0 p now) × Keeps told new (after s (entry.Drain 0 p now)) (es ++ entry.Drain 0 p now ∷ [])))
 drain_some old new class now path drains entered asks told s es keeps =
     let done = drains told s keeps.shards in
-    let made = done.1 0 in
-    (path, (done.0, (made.0, record {
-      shards = made.1;
-      entries = entered ∙ ap (λ (xs : List Entry). xs ++ entry.Drain 0 path now ∷ []) keeps.entries;
-      asks = asks ∙ keeps.asks ∙ sym (greatest_other es (entry.Drain 0 path now) refl);
-    })))
+    let made = done.1 0 in (
+      path,
+      (
+        done.0,
+        (
+          made.0,
+          record {
+            shards = made.1;
+            entries = entered ∙ ap (λ (xs : List Entry). xs ++ entry.Drain 0 path now ∷ []) keeps.entries;
+            asks = asks ∙ keeps.asks ∙ sym (greatest_other es (entry.Drain 0 path now) refl);
+          },
+        ),
+      ),
+    )
 
 pub drain_none : {D : Type 0} {d : Ghosts D} (old new : Store D d) (class now : ℕ) → DrainsAt old.shards.items.items new.shards.items.items class now None
     → new.history.entries ≡ old.history.entries → new.asks ≡ old.asks → (told : ℕ → Option Image) (s : State) (es : List Entry) → Keeps told old s es → (s.pending class ≡ []) × Keeps told new s es
 drain_none old new class now drains entries asks told s es keeps =
     let done = drains told s keeps.shards in
-    (done.0, record { shards = done.1; entries = entries ∙ keeps.entries; asks = asks ∙ keeps.asks; })
+    (done.0, record { shards = done.1; entries = entries ∙ keeps.entries; asks = asks ∙ keeps.asks })
 
 -- one drain more
 pub drains_more : (s : State) (class now : ℕ) (drains : List Entry) (e : Entry) → DrainsSome s 0 class now drains → IsDrainOf 0 class now e → IsLegal (replay s drains) e → DrainsSome s 0 class now (drains ++ e ∷ [])
@@ -209,7 +217,7 @@ abbrev pub Clears : {D : Type 0} {d : Ghosts D} → Store D d → ℕ → ℕ �
 Clears old class now new = (told : ℕ → Option Image) (s : State) (es : List Entry) → Keeps told old s es → Cleared told s es class now new
 
 pub clears_none : {D : Type 0} {d : Ghosts D} (store : Store D d) (now : ℕ) → Clears store 0 now store
-clears_none store now told s es keeps = record { drains = []; made = refl; keeps = rw (append-nil es) keeps; }
+clears_none store now told s es keeps = record { drains = []; made = refl; keeps = rw (append-nil es) keeps }
 
 pub clears_more : {D : Type 0} {d : Ghosts D} {T : Type 0} (x : T) (old mid new : Store D d) (class now : ℕ) → Clears old class now mid → DrainsOfClass (Ok x) mid class now new → Clears old (suc class) now new
 clears_more x old mid new class now before next told s es keeps =

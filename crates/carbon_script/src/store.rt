@@ -77,8 +77,7 @@ impl<D: Disk> Store<D> {
         ensures shards { self.new.shards ≡ self.old.shards }
     {
         let Datum { path, time, value } = datum;
-        self.history
-            .enter(Entry::Put(PASS, path, time, value, end));
+        self.history.enter(Entry::Put(PASS, path, time, value, end));
     }
 
     /// Answers a question at the moment `now`, with a line end. The question is entered, and a fault of the disk behind it; want of
@@ -180,8 +179,7 @@ impl<D: Disk> Store<D> {
         self.history.make_room(1)?;
         match self.shards.drain_next(class, now) {
             Ok(Some(path)) => {
-                self.history
-                    .enter(Entry::Drain(PASS, path, u64::from(now)));
+                self.history.enter(Entry::Drain(PASS, path, u64::from(now)));
                 Ok(true)
             }
             Ok(None) => Ok(false),

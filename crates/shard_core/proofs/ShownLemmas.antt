@@ -90,9 +90,11 @@ shows_none class rules cache layouts known path now from until one unfiled empty
   where
     its : points_in s path ≡ []
     its = ap (λ (ms : Metrics). points_of ms path) (ap s.pending one.here ∙ sym holds.pending) ∙ empty
+
     none_kept : (k : Option Kept) → None ≡ option_map (λ (x : Kept). x.layout) k → None ≡ series_of (s.rules path) k (points_in s path) now from until
     none_kept None e = ap (λ (ps : List (ℕ × ℤ)). series_of (s.rules path) None ps now from until) (sym its)
     none_kept (Some k) e = absurd (none-some k.layout e)
+
     by : (t : Option Image) → IfSome t (λ opening. None ≡ series_at s path now from until)
     by None = tt
     by (Some opening) = none_kept (s.kept path) (sym unfiled ∙ holds.kept.index path one)

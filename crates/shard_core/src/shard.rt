@@ -122,10 +122,26 @@ impl<D: Disk> Shard<D> {
         let path = self.cache.path(0);
         let points = self.cache.points(0);
         match self.layouts.get(path) {
-            Some(layout) => drain_file(self.alloc, &mut self.disk, path, layout, false, points, now),
+            Some(layout) => drain_file(
+                self.alloc,
+                &mut self.disk,
+                path,
+                layout,
+                false,
+                points,
+                now,
+            ),
             None => {
                 let layout = self.given.layout_of(self.alloc, path)?;
-                file_anew(self.alloc, &mut self.disk, &mut self.layouts, path, layout, points, now)
+                file_anew(
+                    self.alloc,
+                    &mut self.disk,
+                    &mut self.layouts,
+                    path,
+                    layout,
+                    points,
+                    now,
+                )
             }
         }
     }

@@ -14,8 +14,8 @@ returns-in_ok-text-in-Ok-clause-asks g c =
     let next : c.in-Some.number ≡ c.args.self.now.asks + 1 = search rules in
     let q = c.args.question.now in
     let entered = c.enter_ask.ensures.entries ∙ ap (λ (es : List Entry). es ++ entry.Ask 0 c.in-Some.number 1 c.args.now ∷ [])
-        (ap (λ (h : Book). h.entries) c.in-Ok.ensures.others.history ∙ c.in_ok-make_room.ensures.entries) in
+    (ap (λ (h : Book). h.entries) c.in-Ok.ensures.others.history ∙ c.in_ok-make_room.ensures.entries) in
     subst (λ (text : List ℕ). (told : ℕ → Option Image) (s : State) (entries : List Entry) → Keeps told c.args.self.now s entries
-        → Keeps told c.enter_ask.new.self s (entries ++ next_ask entries c.args.now ∷ []) × IfSome (told (class_of q.path)) (λ opening. text ≡ reply_in s q c.args.now))
+    → Keeps told c.enter_ask.new.self s (entries ++ next_ask entries c.args.now ∷ []) × IfSome (told (class_of q.path)) (λ opening. text ≡ reply_in s q c.args.now))
     (sym c.in_ok-text-in-Ok.ensures)
     (asks_store c.args.self.now c.show.new.self c.enter_ask.new.self q c.args.now c.in-Some.number c.in-Ok.series c.in-Ok.ensures.stays c.in-Ok.ensures.shows next entered c.enter_ask.ensures.asks c.enter_ask.ensures.shards)

@@ -20,7 +20,7 @@ returns-clause-drains g c =
     clears_all c.saturating_sub.result c.args.self.now c.loop-class.self c.loop-class.class c.args.now (omega (arith, c.loop-class-test.false, c.loop-class.auto.class-end)) c.loop-class.invariant.clears
 
 pub returns-clause-disks : goal.returns-clause-disks
-returns-clause-disks g c = record { later = c.loop-class.invariant.later; cause = tt; }
+returns-clause-disks g c = record { later = c.loop-class.invariant.later; cause = tt }
 
 pub returns-in-Err-clause-drains : goal.returns-in-Err-clause-drains
 returns-in-Err-clause-drains g c =
