@@ -15,6 +15,4 @@ pub use fault::RingFault;
 pub use view::RingView;
 
 #[cfg(test)]
-mod counted_disk;
-#[cfg(test)]
 mod tests;

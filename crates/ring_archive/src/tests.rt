@@ -4,7 +4,6 @@ ghost use Rattle.ring_format.specs.LayoutFile.{file_size_of};
 ghost use Rattle.ring_archive.specs.Ring.{HoldsRing};
 
 use super::*;
-use crate::counted_disk::CountedDisk;
 use fixed_num::{CELL_BYTES, Milli};
 use metric_path::MetricPath;
 use outside_io::{Disk, MemDisk};
@@ -45,23 +44,19 @@ fn disk_with(
     Ok(disk)
 }
 
-// The same disk, which counts its reads, and of which the read with one number fails.
-fn counted_disk_with(
+// The same disk, of which the read with one number fails.
+fn failing_disk_with(
     alloc: Global,
     name: &str,
     layout: Layout,
     cells: &[Held],
-    failing: u32,
-) -> Result<CountedDisk, AllocError>
-    ensures { IfOk result (λ disk. HoldsRing false (⟦<CountedDisk as Disk>⟧.image disk) name.now layout.archives) }
+    failing: u64,
+) -> Result<MemDisk, AllocError>
+    ensures { IfOk result (λ disk. HoldsRing false (⟦<MemDisk as Disk>⟧.image disk) name.now layout.archives) }
 {
+    let listed = Vec::from_slice(alloc, &[failing])?;
     let disk = disk_with(alloc, name, layout, cells)?;
-    Ok(CountedDisk {
-        disk,
-        reads: 0,
-        failing,
-        faults: 0,
-    })
+    Ok(disk.failing_reads(listed))
 }
 
 // A patch of these cells, in the first archive.
@@ -206,7 +201,7 @@ fn many_buckets_are_looked_up(rt: HostRuntime) -> Result<(), Fail> {
         None,
     ];
     // what the file holds, what the patch lays over it, the first bucket, the values, and how often the disk is read
-    let cases: [(&[Held], &[Held], u32, &[Option<Milli>], u32); 10] = [
+    let cases: [(&[Held], &[Held], u32, &[Option<Milli>], u64); 10] = [
         (&FULL, &[], 1_700_000_100, &[Some(1), Some(2)], 2),
         // round the end of the ring
         (&FULL, &[], 1_700_000_040, &[Some(3), Some(1), Some(2)], 3),
@@ -246,7 +241,7 @@ fn many_buckets_are_looked_up(rt: HostRuntime) -> Result<(), Fail> {
     assert!(rt; layout.archive_count() > 0);
     assert!(rt; layout.archive(0).step == 60);
     for (stored, laid, first, wanted, reads) in cases {
-        let mut disk = counted_disk_with(rt.alloc(), "a", layout, stored, 0)?;
+        let mut disk = disk_with(rt.alloc(), "a", layout, stored)?;
         let path = MetricPath::new(rt.alloc(), b"a")?;
         let patch = patch_with(rt.alloc(), path, layout, false, laid)?;
         let view = RingView::new("a", layout);
@@ -256,7 +251,7 @@ fn many_buckets_are_looked_up(rt: HostRuntime) -> Result<(), Fail> {
             panic!(rt; "the disk is read")
         };
         assert_eq!(rt; values.as_slice(), wanted, "from {first}");
-        assert_eq!(rt; disk.reads, reads, "from {first}");
+        assert_eq!(rt; disk.calls().reads, reads, "from {first}");
     }
     Ok(())
 }
@@ -276,14 +271,14 @@ fn a_failed_read_is_told(rt: HostRuntime) -> Result<(), Fail> {
     let path = MetricPath::new(rt.alloc(), b"a")?;
     let patch = patch_with(rt.alloc(), path, layout, false, &[])?;
     for (failing, fault) in [(1, true), (2, true), (3, true), (4, false)] {
-        let mut disk = counted_disk_with(rt.alloc(), "a", layout, &FULL, failing)?;
+        let mut disk = failing_disk_with(rt.alloc(), "a", layout, &FULL, failing)?;
         let view = RingView::new("a", layout);
         let values = view.cells(rt.alloc(), &mut disk, &patch, 0, 1_700_000_040, 3);
         let told = values.is_err_and(|found| found == RingFault::DiskFault);
         assert_eq!(rt; told, fault, "read {failing}");
         assert_eq!(rt; disk.faults() == 1, fault, "read {failing}");
     }
-    let mut disk = counted_disk_with(rt.alloc(), "a", layout, &FULL, 1)?;
+    let mut disk = failing_disk_with(rt.alloc(), "a", layout, &FULL, 1)?;
     let view = RingView::new("a", layout);
     let slots = view.stale(rt.alloc(), &mut disk, &patch, 0);
     assert!(rt; slots.is_err_and(|found| found == RingFault::DiskFault));
@@ -312,7 +307,7 @@ fn slots_that_hold_anything_are_found(rt: HostRuntime) -> Result<(), Fail> {
     };
     assert!(rt; layout.archive_count() > 0);
     for (stored, laid, wanted) in cases {
-        let mut disk = counted_disk_with(rt.alloc(), "a", layout, stored, 0)?;
+        let mut disk = disk_with(rt.alloc(), "a", layout, stored)?;
         let path = MetricPath::new(rt.alloc(), b"a")?;
         let patch = patch_with(rt.alloc(), path, layout, false, laid)?;
         let view = RingView::new("a", layout);
@@ -320,7 +315,7 @@ fn slots_that_hold_anything_are_found(rt: HostRuntime) -> Result<(), Fail> {
             panic!(rt; "the disk is read")
         };
         assert_eq!(rt; slots.as_slice(), wanted);
-        assert_eq!(rt; disk.reads, 1);
+        assert_eq!(rt; disk.calls().reads, 1);
     }
     Ok(())
 }
