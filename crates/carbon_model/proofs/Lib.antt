@@ -1,2 +1,4 @@
+pub mod DrainLemmas
+pub mod FoundLemmas
 pub mod HistoryLemmas
 pub mod PartLemmas

@@ -1,5 +1,5 @@
 -- Which entries may come in a state, and the state after them.
-use Rattle.std.specs.Prelude.{◌≡◌, ℕ, ℤ, zero, suc, ◌<◌, ◌≤◌, ◌==◌, Bool, true, false, List, [], ◌∷◌, ◌++◌, filter, Option, Some, None, if◌then◌else◌}
+use Rattle.std.specs.Prelude.{◌≡◌, ℕ, ℤ, zero, suc, ◌<◌, ◌≤◌, ◌==◌, Bool, true, false, List, [], ◌∷◌, ◌++◌, filter, Option, Some, if◌then◌else◌}
 use Rattle.std.specs.Str.{bytes_eq}
 use Rattle.std.specs.Map.{remove_entry}
 use Rattle.carbon_history.specs.declared.entry.Entry.{Entry}
@@ -91,7 +91,8 @@ DrainsSome s pass class now [] = Unit {0}
 DrainsSome s pass class now (entry ∷ others) =
     IsDrainOf pass class now entry × (IsLegal s entry × DrainsSome (after s entry) pass class now others)
 
--- all of them are: after these drains nothing of the class is pending. As the pick is a function, there is one such list and no other.
+-- All of them are: after these drains nothing of the class is pending. Each is of the metric that the class picks, so of two such lists one
+-- goes on where the other ends (a law), and none goes on where nothing is picked.
 pub record DrainsClass (s : State) (pass class now : ℕ) (entries : List Entry) : Type 0 where
   pub drains : DrainsSome s pass class now entries
   pub none_pending : (replay s entries).pending class ≡ []

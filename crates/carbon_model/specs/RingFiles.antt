@@ -1,5 +1,5 @@
 -- What the files of a disk mean.
-use Rattle.std.specs.Prelude.{◌≡◌, ◌≢◌, ℕ, zero, Bool, true, false, List, [], length, take, option_and_then, Option, Some, None, Result, Ok, Err, IfSome}
+use Rattle.std.specs.Prelude.{◌≡◌, ◌≢◌, ℕ, Bool, true, false, List, [], length, take, option_and_then, Option, Some, None, Result, Ok, Err, IfSome}
 use Rattle.outside_io.specs.Image.{Image}
 use Rattle.metric_path.specs.Path.{path_fault}
 use Rattle.metric_path.specs.declared.path.PathFault.{PathFault}

@@ -1,7 +1,8 @@
-ghost use Rattle.std.specs.Prelude.{◌≡◌, ◌↔◌, ℕ, List, ◌++◌};
+ghost use Rattle.std.specs.Prelude.{◌≡◌, ◌↔◌, ◌⊎◌, ℕ, Bool, true, List, ◌++◌, None};
 ghost use Rattle.carbon_history.specs.declared.entry.Entry.{Entry as Event};
-ghost use Rattle.carbon_model.specs.State.{SamePart, State};
-ghost use Rattle.carbon_model.specs.Replay.{IsLegalHistory, about_class, replay};
+ghost use Rattle.carbon_model.specs.Found.{Finds};
+ghost use Rattle.carbon_model.specs.State.{SamePart, State, picked};
+ghost use Rattle.carbon_model.specs.Replay.{DrainsSome, IsLegalHistory, about_class, replay};
 
 /// A front of a legal history is legal, and the rest is legal from the state after it.
 pub fn fronts_are_legal()
@@ -19,4 +20,19 @@ pub fn replay_in_parts()
 pub fn classes_are_independent()
     ensures legal { (s : State) (h : List Event) → IsLegalHistory s h ↔ ((class : ℕ) → IsLegalHistory s (about_class class h)) }
     ensures part { (s : State) (h : List Event) (class : ℕ) → SamePart class (replay s h) (replay s (about_class class h)) }
+{}
+
+/// What is drained is no choice: of two lists of drains of a class one goes on where the other ends, and two after which the class
+/// picks nothing are one.
+pub fn drains_follow_from_the_state()
+    ensures fronts { (s : State) (pass class now : ℕ) (xs ys : List Event) → DrainsSome s pass class now xs
+        → DrainsSome s pass class now ys → (rest : List Event) × ((ys ≡ xs ++ rest) ⊎ (xs ≡ ys ++ rest)) }
+    ensures one { (s : State) (pass class now : ℕ) (xs ys : List Event) → DrainsSome s pass class now xs
+        → DrainsSome s pass class now ys → picked (replay s xs) class ≡ None → picked (replay s ys) class ≡ None → xs ≡ ys }
+{}
+
+/// The metrics that a pattern finds are one list.
+pub fn found_metrics_are_one_list()
+    ensures { (s : State) (fits : List ℕ → Bool) (xs ys : List (List ℕ)) → Finds s (λ path. fits path ≡ true) xs
+        → Finds s (λ path. fits path ≡ true) ys → xs ≡ ys }
 {}

@@ -5,5 +5,8 @@
 mod laws;
 mod series;
 
-pub use laws::{classes_are_independent, fronts_are_legal, replay_in_parts};
+pub use laws::{
+    classes_are_independent, drains_follow_from_the_state, found_metrics_are_one_list,
+    fronts_are_legal, replay_in_parts,
+};
 pub use series::{Series, Values};
