@@ -7,3 +7,4 @@ pub mod RollLemmas
 pub mod PlanLemmas
 pub mod MoveLemmas
 pub mod StretchLemmas
+pub mod NearLemmas

@@ -1,5 +1,5 @@
 -- Values rolled up into coarser archives.
-use Rattle.std.specs.Prelude.{◌≡◌, ℕ, ℤ, ◌+◌, ◌-◌, ◌*◌, ◌/◌, ◌==◌, ◌<◌, ◌≤◌, Bool, true, false, List, [], ◌∷◌, length, Option, Some, None, drop, take}
+use Rattle.std.specs.Prelude.{◌≡◌, ℕ, ℤ, ◌+◌, ◌-◌, ◌*◌, ◌/◌, ◌==◌, ◌<◌, ◌≤◌, Bool, true, false, List, [], ◌∷◌, length, max, Option, Some, None, drop, take}
 use Rattle.std.specs.List.{filter_map}
 use Rattle.ring_format.specs.Layout.{LayoutValue}
 use Rattle.ring_format.specs.Patch.{PatchValue}
@@ -21,6 +21,15 @@ HoldsStretch layout patch i first count values file = values ≡ values_from pat
 -- a bucket is one of so many, a step apart
 abbrev pub IsInStretch : ℕ → ℕ → ℕ → ℕ → Type 0
 IsInStretch step first count bucket = (first ≤ bucket) × ((bucket - first) / step < count)
+
+-- the most values that are read at once, but for those of one bucket
+abbrev pub most_values : ℕ
+most_values = 65536
+
+-- so many buckets of archive `i + 1` are near enough to be read at once from archive `i`: the last lies less than
+-- so many steps behind the first, or there is but one
+abbrev pub AreNear : LayoutValue → ℕ → ℕ → Type 0
+AreNear layout i count = count ≤ max 1 (most_values / places_in layout i)
 
 -- a bucket with its value, where it has one
 abbrev pub given : ℕ → Option ℤ → List (ℕ × ℤ)

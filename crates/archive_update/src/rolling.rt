@@ -1,11 +1,11 @@
 //! Values of an archive rolled up into the coarser ones.
-ghost use Rattle.std.specs.Prelude.{◌≡◌, ◌<◌, ◌≤◌, ◌↔◌, ◌+◌, ◌-◌, ◌*◌, ◌/◌, ◌%◌, ◌++◌, All, IfOk, IsErrOf, IsTrue, OnOk, length, map, slice_index};
+ghost use Rattle.std.specs.Prelude.{◌≡◌, ◌<◌, ◌≤◌, ◌↔◌, ◌+◌, ◌-◌, ◌*◌, ◌/◌, ◌%◌, ◌++◌, All, IfOk, IsErrOf, IsTrue, OnOk, length, map, max, slice_index};
 ghost use Rattle.outside_io.specs.Faults.{Rose};
 ghost use Rattle.ring_archive.specs.Ring.{HoldsRing, ReadsAs, Rings, UnderPatch};
 ghost use Rattle.archive_update.specs.Batch.{bucket_of, buckets_of_writes, level_writes, rolled_from, step_of, value_from_finer};
 ghost use Rattle.archive_update.specs.Buckets.{IsOwn, IsShown};
 ghost use Rattle.archive_update.specs.Laid.{IsAlike};
-ghost use Rattle.archive_update.specs.Rolled.{HoldsStretch, IsInStretch, IsReached, Level, RollsUp, given, known_from, places_in};
+ghost use Rattle.archive_update.specs.Rolled.{AreNear, HoldsStretch, IsInStretch, IsReached, Level, RollsUp, given, known_from, most_values, places_in};
 
 use crate::laying::write_values;
 use fixed_num::Milli;
@@ -223,13 +223,14 @@ fn read_stretch<D: Disk>(
     ensures exact { IfOk result (λ stretch. stretch.first % step_of view.now.layout.archives (finer + 1) ≡ 0) }
     ensures held { IfOk result (λ stretch. UnderPatch patch.now.fresh (D.image disk.old) view.now.name.now (HoldsStretch view.now.layout patch.now finer stretch.first stretch.count stretch.values.items)) }
     ensures has { IfOk result (λ stretch. IsInStretch (step_of view.now.layout.archives (finer + 1)) stretch.first stretch.count (slice_index buckets.now 0)) }
+    ensures near { IfOk result (λ stretch. AreNear view.now.layout finer stretch.count) }
     ensures kept { D.image disk.new ≡ D.image disk.old }
     ensures later { D.faults disk.old ≤ D.faults disk.new }
     ensures cause { IsErrOf result RingFault.DiskFault → Rose (D.faults disk.old) (D.faults disk.new) }
 {
     let places = places_of(&view.layout, finer);
     let step = view.layout.archive(finer + 1).step;
-    let most = view.layout.archive(finer).points.min(MOST_VALUES) / places;
+    let most = most_near(view.layout.archive(finer).points, places);
     let first = buckets[0];
     let count = buckets_near(step, most, buckets);
     let values = view.cells(alloc, disk, patch, finer, first, count * places)?;
@@ -240,12 +241,22 @@ fn read_stretch<D: Disk>(
     })
 }
 
+// How many buckets, of so many places each, are read at once from an archive of so many points.
+#[tactic(auto, using(crate::proofs::NearLemmas::fewer_near))]
+fn most_near(points: u32, places: u32) -> u32
+    requires { 1 ≤ places }
+    ensures { result ≤ most_values / places }
+{
+    points.min(MOST_VALUES) / places
+}
+
 // How many buckets there are from the first of these up to the last that is less than `most` steps away.
 fn buckets_near(step: u32, most: u32, buckets: &[u32]) -> u32
     requires some { 0 < length buckets.now }
     requires shown { All (IsShown step) buckets.now }
     requires step { (1 ≤ step) × (step ≤ 31536000) }
     ensures some { 1 ≤ result }
+    ensures near { result ≤ max 1 most }
     ensures fits { slice_index buckets.now 0 + result * step ≤ 4031536000 }
 {
     let first = buckets[0];

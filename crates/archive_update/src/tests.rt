@@ -7,7 +7,7 @@ ghost use Rattle.ring_archive.specs.Ring.{HoldsRing};
 use super::*;
 use fixed_num::{CELL_BYTES, Milli, narrow, wide};
 use metric_path::MetricPath;
-use outside_io::{Disk, DiskFailed, MemDisk, NamesFault};
+use outside_io::{Disk, DiskCalls, MemDisk};
 use point_cache::Points;
 use ring_archive::{RingFault, RingView};
 use ring_format::{Archive, HEAD_BYTES, Layout, Method, Patch, write_cell, write_head};
@@ -83,65 +83,26 @@ fn in_order(alloc: Global, points: &[(u32, Milli)]) -> Points {
     list
 }
 
-// A disk that counts what is read from it.
-#[derive(Drop)]
-struct CountedDisk {
-    disk: MemDisk,
-    reads: u32,
-}
-
-impl Disk for CountedDisk {
-    ghost image = { λ disk. ⟦<MemDisk as Disk>⟧.image disk.disk };
-
-    ghost faults = { λ disk. ⟦<MemDisk as Disk>⟧.faults disk.disk };
-
-    fn faults(&self) -> u64 {
-        self.disk.faults()
-    }
-
-    fn names(&mut self) -> Result<Vec<String>, NamesFault> {
-        self.disk.names()
-    }
-
-    fn length(&mut self, name: &str) -> Result<Option<u64>, DiskFailed> {
-        self.disk.length(name)
-    }
-
-    fn create(&mut self, name: &str, len: u64) -> Result<(), DiskFailed> {
-        self.disk.create(name, len)
-    }
-
-    fn read_at(&mut self, name: &str, at: u64, buf: &mut [u8]) -> Result<(), DiskFailed> {
-        self.reads = self.reads.saturating_add(1);
-        self.disk.read_at(name, at, buf)
-    }
-
-    fn write_at(&mut self, name: &str, at: u64, piece: &[u8]) -> Result<(), DiskFailed> {
-        self.disk.write_at(name, at, piece)
-    }
-}
-
-// Drains points into the file at a moment, and answers how often the disk was read.
+// Drains points into the file at a moment, and answers how often the disk was called.
 fn drain(
     alloc: Global,
     layout: Layout,
     file: &mut Vec<u8>,
     points: &[(u32, Milli)],
     now: u32,
-) -> Result<u32, RingFault> {
+) -> Result<DiskCalls, RingFault> {
     let points = in_order(alloc, points);
     if !all_legal(points.list()) || (file.len() as u64) < layout.file_size() {
         return Err(RingFault::DiskFault);
     }
     let path = path_of_metric(alloc)?;
-    let disk = disk_with(alloc, "a", layout, file)?;
-    let mut disk = CountedDisk { disk, reads: 0 };
+    let mut disk = disk_with(alloc, "a", layout, file)?;
     let view = RingView::new("a", layout);
     let patch = Patch::new(alloc, path, layout, false);
     match plan(alloc, &view, &mut disk, patch, points.list(), now) {
         Ok(patch) => {
             lay_cells(&layout, &patch, file);
-            Ok(disk.reads)
+            Ok(disk.calls())
         }
         Err((_, fault)) => Err(fault),
     }
@@ -653,14 +614,15 @@ const WIDE: [Archive; 2] = [
 ];
 
 // How often the disk is read for a drain of so many points a minute apart.
-fn reads_of(alloc: Global, layout: Layout, file: &[u8], count: u32) -> Result<u32, RingFault> {
+fn reads_of(alloc: Global, layout: Layout, file: &[u8], count: u32) -> Result<u64, RingFault> {
     let mut file = Vec::from_slice(alloc, file)?;
     let mut points = Vec::new(alloc);
     for minute in 0..count {
         let time = minute.saturating_mul(60).saturating_add(1_700_000_100);
         points.push((time, 1))?;
     }
-    drain(alloc, layout, &mut file, &points, 1_700_006_000)
+    let calls = drain(alloc, layout, &mut file, &points, 1_700_006_000)?;
+    Ok(calls.reads)
 }
 
 #[test]
@@ -680,5 +642,44 @@ fn a_stretch_is_read_at_once(rt: HostRuntime) -> Result<(), Fail> {
             "{minutes} minutes"
         );
     }
+    Ok(())
+}
+
+// A day of minutes, a month of five minutes and five years of hours.
+const YEARS: [Archive; 3] = [
+    Archive {
+        step: 60,
+        points: 1440,
+    },
+    Archive {
+        step: 300,
+        points: 8640,
+    },
+    Archive {
+        step: 3600,
+        points: 43_800,
+    },
+];
+
+// A point of now and one at the last legal moment: of what lies between them nothing is read.
+#[test]
+fn points_that_lie_far_apart_are_read_apart(rt: HostRuntime) -> Result<(), Fail> {
+    let alloc = rt.alloc();
+    let Ok(layout) = Layout::new(&YEARS, Method::Last, 0) else {
+        panic!(rt; "the layout is lawful")
+    };
+    let mut file = new_file(alloc, &layout)?;
+    let first = [(1_700_000_040, 1)];
+    assert!(rt; drain(alloc, layout, &mut file, &first, 1_700_000_100).is_ok());
+    let apart = [(1_700_000_100, 1), (4_000_000_000, 2)];
+    let Ok(calls) = drain(alloc, layout, &mut file, &apart, 1_700_000_100) else {
+        panic!(rt; "the disk does not fail")
+    };
+    // the base of each archive, and for each coarser bucket a base and at most two pieces of the finer ring
+    assert!(rt; calls.reads <= 15);
+    // twelve cells of five minutes
+    assert!(rt; calls.longest_read <= 144);
+    let hours = shown(alloc, layout, &file, 2, &[1_699_999_200, 3_999_999_600])?;
+    assert_eq!(rt; hours[..], [Some(1), Some(2)][..]);
     Ok(())
 }

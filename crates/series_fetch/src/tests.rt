@@ -1,14 +1,13 @@
 // Windows, and the values that they show over a disk in memory.
-ghost use Rattle.std.specs.Prelude.{◌≡◌, ◌≤◌, All, IfOk, IsTrue, Some, false, true};
+ghost use Rattle.std.specs.Prelude.{◌≡◌, ◌≤◌, All, IfOk, IsTrue, false, true};
 ghost use Rattle.metric_line.specs.Moment.{is_moment};
-ghost use Rattle.outside_io.specs.MemDisk.{disk_image};
 ghost use Rattle.ring_format.specs.LayoutFile.{file_size_of};
 ghost use Rattle.ring_archive.specs.Ring.{HoldsRing};
 
 use super::*;
 use fixed_num::{CELL_BYTES, Milli};
 use metric_path::MetricPath;
-use outside_io::{Disk, DiskFailed, MemDisk, NamesFault};
+use outside_io::{Disk, MemDisk};
 use point_cache::Points;
 use ring_archive::RingView;
 use ring_format::{Archive, Layout, Method, Patch, write_cell};
@@ -117,44 +116,6 @@ fn windows_begin_after_their_start(rt: HostRuntime) {
     }
 }
 
-// A disk that counts its reads.
-#[derive(Drop)]
-struct CountingDisk {
-    disk: MemDisk,
-    reads: u32,
-}
-
-impl Disk for CountingDisk {
-    ghost image = { λ counting. Some (disk_image counting.disk) };
-
-    ghost faults = { λ counting. ⟦<MemDisk as Disk>⟧.faults counting.disk };
-
-    fn faults(&self) -> u64 {
-        self.disk.faults()
-    }
-
-    fn names(&mut self) -> Result<Vec<String>, NamesFault> {
-        self.disk.names()
-    }
-
-    fn length(&mut self, name: &str) -> Result<Option<u64>, DiskFailed> {
-        self.disk.length(name)
-    }
-
-    fn create(&mut self, name: &str, len: u64) -> Result<(), DiskFailed> {
-        self.disk.create(name, len)
-    }
-
-    fn read_at(&mut self, name: &str, at: u64, buf: &mut [u8]) -> Result<(), DiskFailed> {
-        self.reads = self.reads.saturating_add(1);
-        self.disk.read_at(name, at, buf)
-    }
-
-    fn write_at(&mut self, name: &str, at: u64, piece: &[u8]) -> Result<(), DiskFailed> {
-        self.disk.write_at(name, at, piece)
-    }
-}
-
 // Where a cell begins in a file of 10 and 12 points, and its bucket and value.
 type Held = (usize, u32, Milli);
 
@@ -164,9 +125,9 @@ fn disk_with(
     name: &str,
     layout: Layout,
     cells: &[Held],
-) -> Result<CountingDisk, AllocError>
+) -> Result<MemDisk, AllocError>
     requires { file_size_of layout.archives ≤ 304 }
-    ensures { IfOk result (λ disk. HoldsRing false (⟦<CountingDisk as Disk>⟧.image disk) name.now layout.archives) }
+    ensures { IfOk result (λ disk. HoldsRing false (⟦<MemDisk as Disk>⟧.image disk) name.now layout.archives) }
 {
     let mut file = [0; 304];
     for (at, bucket, value) in cells {
@@ -175,7 +136,7 @@ fn disk_with(
     let bytes = Vec::from_slice(alloc, &file)?;
     let mut disk = MemDisk::new(alloc, 0);
     disk.put_file(name, bytes)?;
-    Ok(CountingDisk { disk, reads: 0 })
+    Ok(disk)
 }
 
 // Puts a cell at a place of the file.
@@ -322,7 +283,7 @@ fn pending_points_come_before_the_file(rt: HostRuntime) -> Result<(), Fail> {
             panic!(rt; "the disk does not fail")
         };
         assert_eq!(rt; values.as_slice(), wanted, "from {from}");
-        assert!(rt; disk.reads <= 3);
+        assert!(rt; disk.calls().reads <= 3);
     }
     Ok(())
 }

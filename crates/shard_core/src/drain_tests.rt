@@ -2,7 +2,6 @@
 ghost use Rattle.std.specs.Prelude.{◌≡◌, ◌<◌, ◌+◌, ◌*◌, ◌^◌, IfOk, vec_len};
 
 use super::*;
-use crate::counted_disk::CountedDisk;
 use fixed_num::Milli;
 use metric_line::{Datum, read_line};
 use metric_path::MetricPath;
@@ -19,7 +18,7 @@ const CLASS: usize = 12;
 const MINUTE: u32 = 1_700_000_040;
 
 // Sixteen disks in memory, of which that of class 12 may have a file already.
-fn disks_with(alloc: Global, name: &str, bytes: &[u8]) -> Result<Vec<CountedDisk>, AllocError>
+fn disks_with(alloc: Global, name: &str, bytes: &[u8]) -> Result<Vec<MemDisk>, AllocError>
     ensures { IfOk result (λ disks. vec_len disks ≡ 16) }
 {
     let mut disks = Vec::new(alloc);
@@ -28,11 +27,7 @@ fn disks_with(alloc: Global, name: &str, bytes: &[u8]) -> Result<Vec<CountedDisk
         if class == CLASS && !bytes.is_empty() {
             disk.put_file(name, Vec::from_slice(alloc, bytes)?)?;
         }
-        disks.push(CountedDisk {
-            disk,
-            calls: 0,
-            faults: 0,
-        })?;
+        disks.push(disk)?;
     }
     Ok(disks)
 }
@@ -88,7 +83,11 @@ fn a_drain_makes_as_many_calls_for_any_number_of_neighbours(rt: HostRuntime) -> 
         put_minutes(alloc, &mut shards, "a.b", MINUTE + 60, count)?;
         assert!(rt; shards.drain_next(12, MINUTE + 60 * count).is_ok());
         let disks = shards.finish();
-        assert!(rt; disks[CLASS].calls <= most, "{count} points");
+        let calls = disks[CLASS].calls();
+        assert!(rt;
+            calls.reading().saturating_add(calls.writing()) <= most,
+            "{count} points"
+        );
     }
     Ok(())
 }

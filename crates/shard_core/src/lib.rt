@@ -19,8 +19,6 @@ pub use shard::Shard;
 pub use shards::{CLASSES, Shards};
 
 #[cfg(test)]
-mod counted_disk;
-#[cfg(test)]
 mod drain_tests;
 #[cfg(test)]
 mod tests;

@@ -36,7 +36,7 @@ fn disk_with(alloc: Global, files: &[Held]) -> Result<MemDisk, AllocError> {
 }
 
 // What a file holds: nothing where it is not there.
-fn bytes_in(alloc: Global, disk: &mut MemDisk, name: &str) -> Result<Vec<u8>, AllocError> {
+fn bytes_in<D: Disk>(alloc: Global, disk: &mut D, name: &str) -> Result<Vec<u8>, AllocError> {
     let size = match disk.length(name) {
         Ok(Some(size)) => size,
         _ => return Ok(Vec::new(alloc)),

@@ -1,4 +1,4 @@
-use Rattle.std.proofs.Common.{◌≡◌, ◌∙◌, ℕ, ◌≤◌, ◌-◌, ◌/◌, ℤ, Option, length, arith, ap, refl, sym, subst, length-take}
+use Rattle.std.proofs.Common.{◌∙◌, ◌≤◌, ◌-◌, ◌/◌, ℤ, Option, length, arith, ap, refl, sym, subst, length-take}
 use Rattle.std.proofs.lemmas.List.FromFn.{length-map-range_with_len}
 use Rattle.series_fetch.specs.declared.range.Window.{Window}
 use Rattle.series_fetch.specs.Window.{FitsWindow, IsWindow}
