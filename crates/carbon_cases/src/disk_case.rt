@@ -112,9 +112,9 @@ pub fn names_of(disk: &mut MemDisk) -> Result<Vec<String>, CaseFault> {
 }
 
 /// The bytes of a file, where it is there.
-pub fn bytes_of(
+pub fn bytes_of<D: Disk>(
     alloc: Global,
-    disk: &mut MemDisk,
+    disk: &mut D,
     name: &str,
 ) -> Result<Option<Vec<u8>>, CaseFault> {
     let size = match disk.length(name) {
@@ -125,13 +125,13 @@ pub fn bytes_of(
 }
 
 // So many bytes from the front of a file, none where the disk failed.
-fn read_bytes(
+fn read_bytes<D: Disk>(
     alloc: Global,
-    disk: &mut MemDisk,
+    disk: &mut D,
     name: &str,
     count: usize,
 ) -> Result<Option<Vec<u8>>, AllocError>
-    requires { IsWithinFile (⟦<MemDisk as Disk>⟧.image disk.old) name.now 0 count }
+    requires { IsWithinFile (D.image disk.old) name.now 0 count }
 {
     let mut bytes = zeros(alloc, count)?;
     match disk.read_at(name, 0, &mut bytes) {

@@ -55,7 +55,7 @@ fn write(
 }
 
 // The bytes of a file, or none where it is not there.
-fn bytes_of(alloc: Global, disk: &mut MemDisk, name: &str) -> Result<Option<Vec<u8>>, Fail> {
+fn bytes_of<D: Disk>(alloc: Global, disk: &mut D, name: &str) -> Result<Option<Vec<u8>>, Fail> {
     let Ok(Some(length)) = disk.length(name) else {
         return Ok(None);
     };
