@@ -53,7 +53,7 @@ def run(kind, lines):
         subprocess.run([sys.executable, __file__, "--make", kind, str(lines), given.name], check=True)
         size = os.path.getsize(given.name)
         began = time.monotonic()
-        child = subprocess.Popen([PROGRAM, "script"], stdin=given, stdout=nowhere, cwd=folder)
+        child = subprocess.Popen([PROGRAM, "script", "--limit", "10000000"], stdin=given, stdout=nowhere, cwd=folder)
         _, status, used = os.wait4(child.pid, 0)
         took = time.monotonic() - began
     if status != 0:

@@ -9,7 +9,7 @@ use crate::text::{first_word, number};
 use carbon_history::{Entry, PutEnd};
 use fixed_num::Milli;
 use metric_path::MetricPath;
-use outside_io::{Disk, MemDisk, MemSource, ReadEnd, Source};
+use outside_io::{Disk, DiskCalls, MemDisk, MemSource, ReadEnd, Source};
 use std::alloc::{AllocError, Global};
 
 /// Tells what a line asks of the last run, without its first word.
@@ -53,6 +53,7 @@ fn answer_of_disk(
         Question::Show => write_file(alloc, disk, text, page),
         Question::Bytes => write_front(alloc, disk, text, page),
         Question::Names => write_names(disk, page),
+        Question::Calls => Ok(write_calls(page, disk.calls())?),
         _ => Ok(writeln!(page, "faults {}", disk.faults())?),
     }
 }
@@ -122,6 +123,16 @@ fn write_names(disk: &mut MemDisk, page: &mut String) -> Result<(), CaseFault> {
     }
     page.push('\n')?;
     Ok(())
+}
+
+// How many calls told of files, how many made or changed some, and the longest piece that was asked for.
+fn write_calls(page: &mut String, calls: DiskCalls) -> Result<(), AllocError> {
+    let (reading, writing) = (calls.reading(), calls.writing());
+    let longest = calls.longest_read;
+    writeln!(
+        page,
+        "calls {reading} reading {writing} writing, {longest} bytes at most"
+    )
 }
 
 // How many bytes of the input were not taken.

@@ -59,6 +59,10 @@ pub enum DiskSetting {
     Room,
     /// The creates and writes that fail.
     Fail,
+    /// The calls for names, lengths and bytes that fail.
+    FailRead,
+    /// A write that fails leaves its range in ruins.
+    Tear,
 }
 
 /// What is told of a run.
@@ -76,12 +80,14 @@ pub enum Question {
     Names,
     /// How many calls of a disk failed.
     Faults,
+    /// How many calls a disk had.
+    Calls,
 }
 
 // A word and its command.
 struct Row(&'static str, Command);
 
-const ROWS: [Row; 26] = [
+const ROWS: [Row; 29] = [
     Row("#", Command::Title),
     Row("same", Command::Same),
     Row("keep", Command::Keep),
@@ -102,12 +108,15 @@ const ROWS: [Row; 26] = [
     Row("ring", Command::SetDisk(DiskSetting::Ring)),
     Row("room", Command::SetDisk(DiskSetting::Room)),
     Row("fail-disk", Command::SetDisk(DiskSetting::Fail)),
+    Row("fail-disk-read", Command::SetDisk(DiskSetting::FailRead)),
+    Row("tear-disk", Command::SetDisk(DiskSetting::Tear)),
     Row("history", Command::Tell(Question::History)),
     Row("left", Command::Tell(Question::Left)),
     Row("show", Command::Tell(Question::Show)),
     Row("bytes", Command::Tell(Question::Bytes)),
     Row("names", Command::Tell(Question::Names)),
     Row("faults", Command::Tell(Question::Faults)),
+    Row("calls", Command::Tell(Question::Calls)),
 ];
 
 /// The command of a word.

@@ -18,6 +18,8 @@ const ROOM: u64 = 2_000_000;
 pub struct DiskCase {
     room: u64,
     failing: Vec<u64>,
+    failing_reads: Vec<u64>,
+    is_torn: bool,
     files: Vec<HeldFile>,
 }
 
@@ -33,13 +35,20 @@ impl DiskCase {
         DiskCase {
             room: ROOM,
             failing: Vec::new(alloc),
+            failing_reads: Vec::new(alloc),
+            is_torn: false,
             files: Vec::new(alloc),
         }
     }
 
     /// The disk for a run.
     pub fn disk(&self, alloc: Global) -> Result<MemDisk, AllocError> {
-        let mut disk = MemDisk::new(alloc, self.room).failing(self.failing.clone()?);
+        let mut disk = MemDisk::new(alloc, self.room)
+            .failing(self.failing.clone()?)
+            .failing_reads(self.failing_reads.clone()?);
+        if self.is_torn {
+            disk = disk.tearing();
+        }
         for file in &self.files {
             disk.put_file(file.name.as_str(), file.bytes.clone()?)?;
         }
@@ -56,6 +65,8 @@ impl DiskCase {
         match setting {
             DiskSetting::Room => self.room = number(text)?,
             DiskSetting::Fail => self.failing = numbers(alloc, text)?,
+            DiskSetting::FailRead => self.failing_reads = numbers(alloc, text)?,
+            DiskSetting::Tear => self.is_torn = true,
             DiskSetting::File => self.put_text(alloc, text)?,
             DiskSetting::Zeros => self.put_zeros(alloc, text)?,
             DiskSetting::Ring => self.put_ring(alloc, text)?,

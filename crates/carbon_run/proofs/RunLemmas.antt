@@ -9,9 +9,8 @@ use Rattle.outside_io.specs.declared.disk.Disk.{Ghosts}
 use Rattle.outside_io.proofs.Known.{Appends-more, Appends-none}
 use Rattle.carbon_history.specs.declared.entry.Entry.{Entry}
 use Rattle.carbon_model.specs.State.{State}
-use Rattle.carbon_model.specs.RingFiles.{Stands}
+use Rattle.carbon_model.specs.RingFiles.{Settings, Stands}
 use Rattle.carbon_model.specs.Replay.{IsLegalHistory, replay}
-use Rattle.schema_rules.specs.RulesOf.{RulesValue}
 use Rattle.shard_core.specs.Opening.{StartsAll}
 use Rattle.shard_core.specs.Shards.{AllTold, DisksStand, FailedAt, HoldsAll, disk_faults, faults_at, told_of}
 use Rattle.shard_core.specs.View.{StandsFor}
@@ -144,9 +143,9 @@ cause_from (end.DiskFault class) shards disks disks' later cause = omega (arith,
 cause_from end.InputLimit shards disks disks' later cause = tt
 cause_from end.NoMemory shards disks disks' later cause = tt
 
-pub scripted : {D : Type 0} {d : Ghosts D} (rules : RulesValue) (disks : List D) (shards : List (Shard D d)) (streams : Streams) (answer : Answer D) → StartsAll rules disks shards → ((k : ℕ) → disk_faults d.faults disks k ≤ faults_at shards k)
-    → ShardsRun shards streams answer → Scripted d rules streams disks answer
-scripted {d = d} rules disks shards streams answer starts later run =
+pub scripted : {D : Type 0} {d : Ghosts D} (settings : Settings) (disks : List D) (shards : List (Shard D d)) (streams : Streams) (answer : Answer D) → StartsAll settings disks shards → ((k : ℕ) → disk_faults d.faults disks k ≤ faults_at shards k)
+    → ShardsRun shards streams answer → Scripted d settings streams disks answer
+scripted {d = d} settings disks shards streams answer starts later run =
     let led = run.leads (told_of d.image disks) starts.state starts.holds in record {
       sound = starts.sound;
       start = starts.state;

@@ -11,10 +11,10 @@ use Rattle.line_frame.specs.Lines.{lines}
 use Rattle.line_frame.specs.Machine.{Runs as RunsLines}
 use Rattle.carbon_history.specs.declared.entry.Entry.{Entry}
 use Rattle.carbon_model.specs.State.{State}
-use Rattle.carbon_model.specs.RingFiles.{Opens}
+use Rattle.carbon_model.specs.RingFiles.{Opens, Settings}
 use Rattle.carbon_model.specs.Replay.{IsLegalHistory, replay}
 use Rattle.schema_rules.specs.RulesOf.{RulesValue}
-use Rattle.shard_core.specs.Opening.{AreSound, RefusesAll, settings_of}
+use Rattle.shard_core.specs.Opening.{AreSound, RefusesAll}
 use Rattle.shard_core.specs.Shards.{AllTold, DisksStand, HoldsAll, disk_faults, faults_at, told_of}
 use Rattle.shard_core.specs.declared.shard.Shard.{Shard}
 use Rattle.shard_core.specs.declared.opening.Refusal.{Refusal}
@@ -24,6 +24,9 @@ use Rattle.carbon_script.specs.Command.{Command}
 use Rattle.carbon_script.specs.Script.{Does, FailsAt, Machine, RunsShort, ScriptRun, ServesUpTo, Steps, opening}
 use Rattle.carbon_script.specs.declared.serve.ScriptEnd.{ScriptEnd}
 use Rattle.carbon_script.specs.declared.serve.ScriptEnd.TheVariants as end
+use Rattle.schema_rules.specs.LayoutBy.{layout_by}
+use Rattle.carbon_run.specs.Words.{limit_of, order_of}
+use Rattle.carbon_run.specs.declared.words.Options.{Options}
 use Rattle.carbon_run.specs.Conf.{IsRefused, rules_in}
 use Rattle.carbon_run.specs.declared.conf.ConfFault.{ConfFault}
 use Rattle.carbon_run.specs.declared.conf.ConfFault.TheVariants as conf
@@ -200,10 +203,10 @@ pub record ShardsRun {D : Type 0} {d : Ghosts D} (shards : List (Shard D d)) (st
 
 -- The script ran over all sixteen shards, none of whose disks has a damaged file, from a state in which a run may begin over these disks. Its history
 -- is legal.
-pub record Scripted {D : Type 0} (d : Ghosts D) (rules : RulesValue) (streams : Streams) (disks : List D) (answer : Answer D) : Type 0 where
+pub record Scripted {D : Type 0} (d : Ghosts D) (settings : Settings) (streams : Streams) (disks : List D) (answer : Answer D) : Type 0 where
   pub sound : AreSound (told_of d.image disks) 16
   pub start : State
-  pub opens : Opens (settings_of rules) (told_of d.image disks) start
+  pub opens : Opens settings (told_of d.image disks) start
   pub reason : ScriptEnd
   pub tells : TellsEnd reason answer.status streams.written streams.written'
   pub taken : List ℕ
@@ -215,12 +218,16 @@ pub record Scripted {D : Type 0} (d : Ghosts D) (rules : RulesValue) (streams : 
 
 -- ---- all runs of the command
 
+-- what is fixed for a run by its rules and by what its words say
+abbrev pub settings_by : RulesValue → Options → Settings
+settings_by rules said = record { rules = layout_by rules; limit = limit_of said; strategy = order_of said }
+
 -- both rule files are read, and these are the rules that they give
-pub record HasRules {D : Type 0} (d : Ghosts D) (folder : D) (streams : Streams) (disks : List D) (answer : Answer D) : Type 0 where
+pub record HasRules {D : Type 0} (d : Ghosts D) (said : Options) (folder : D) (streams : Streams) (disks : List D) (answer : Answer D) : Type 0 where
   pub rules : RulesValue
   pub read : IfSome (d.image folder) (λ image. rules_in image ≡ Ok rules)
-  pub comes : NoStart d streams disks answer ⊎ Scripted d rules streams disks answer
+  pub comes : NoStart d streams disks answer ⊎ Scripted d (settings_by rules said) streams disks answer
 
--- A run of `script`: it has no rules; or a shard does not start; or the script runs.
-abbrev pub Outcome : {D : Type 0} → Ghosts D → D → D → Streams → List D → Answer D → Type 0
-Outcome d folder folder' streams disks answer = NoRules d folder folder' streams disks answer ⊎ HasRules d folder streams disks answer
+-- A run of `script` with these options: it has no rules; or a shard does not start; or the script runs.
+abbrev pub Outcome : {D : Type 0} → Ghosts D → Options → D → D → Streams → List D → Answer D → Type 0
+Outcome d said folder folder' streams disks answer = NoRules d folder folder' streams disks answer ⊎ HasRules d said folder streams disks answer

@@ -2,8 +2,6 @@
 #![tactic(auto)]
 
 mod conf;
-#[cfg(test)]
-mod counted_disk;
 mod report;
 mod rule_line;
 mod scripts;
@@ -11,6 +9,7 @@ mod telling;
 #[cfg(test)]
 mod tests;
 mod top;
+mod words;
 
 pub use report::Report;
 pub use top::run;

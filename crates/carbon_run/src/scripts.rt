@@ -4,34 +4,34 @@ ghost use Rattle.outside_io.specs.Frames.{CountsReads, CountsWrites};
 ghost use Rattle.outside_io.specs.Image.{Image};
 ghost use Rattle.carbon_model.specs.State.{State};
 ghost use Rattle.shard_core.specs.Shards.{DisksStand, HoldsAll, disk_faults, faults_at};
+ghost use Rattle.shard_core.specs.Opening.{settings_of};
 ghost use Rattle.carbon_run.specs.Runs.{FailsToTell, NoStart, SameIfDone, Scripted, ShardsRun, TellsEnd, TellsStart, answer_of, streams_of};
 
 use crate::Report;
 use crate::telling::{tell_damaged, tell_disk_fault, tell_limit, tell_no_memory, tell_read_fault};
 use carbon_script::{ScriptEnd, Session, script};
 use outside_io::{Disk, Sink, Source};
-use schema_rules::Rules;
-use shard_core::{Refusal, Shards, StartFault};
+use shard_core::{Refusal, Setup, Shards, StartFault};
 use std::alloc::Global;
 
-/// Runs the script of the input over the disks, under the rules. All shards start before the input is read.
+/// Runs the script of the input over the disks, so set up. All shards start before the input is read.
 pub(crate) fn run_script<D: Disk, S: Source, K: Sink>(
     alloc: Global,
     disks: Vec<D>,
-    rules: &Rules,
+    setup: &Setup,
     input: &mut S,
     out: &mut K,
 ) -> Report<D>
     requires { vec_len disks ≡ 16 }
     ensures comes { NoStart D.Disk (streams_of S.Source K.Sink input.old input.new out.old out.new) disks.items
         (answer_of result.status result.history result.disks.items)
-        ⊎ Scripted D.Disk rules.now (streams_of S.Source K.Sink input.old input.new out.old out.new) disks.items
+        ⊎ Scripted D.Disk (settings_of setup.now) (streams_of S.Source K.Sink input.old input.new out.old out.new) disks.items
         (answer_of result.status result.history result.disks.items) }
     ensures reads { CountsReads S.Source input.old input.new (result.status ≡ 6) }
     ensures writes { CountsWrites K.Sink out.old out.new (result.status ≡ 7) }
     ensures all { vec_len result.disks ≡ 16 }
 {
-    match Shards::start(alloc, disks, rules) {
+    match Shards::start(alloc, disks, setup) {
         Ok(shards) => run_shards(alloc, shards, input, out),
         Err((disks, refusal)) => {
             let status = tell_refusal(&refusal, out);

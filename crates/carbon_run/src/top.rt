@@ -1,13 +1,15 @@
-ghost use Rattle.std.specs.Prelude.{◌≡◌, true, false, map, string_bytes, vec_len};
+ghost use Rattle.std.specs.Prelude.{◌≡◌, None, IfSome, map, string_bytes, vec_len};
 ghost use Rattle.outside_io.specs.Frames.{CountsReads, CountsWrites};
 ghost use Rattle.carbon_run.specs.Runs.{NoCommand, Outcome, TellsConf, answer_of, streams_of};
-ghost use Rattle.carbon_run.specs.Words.{is_script};
+ghost use Rattle.carbon_run.specs.Words.{script_options};
 
 use crate::Report;
 use crate::conf::{ConfFault, read_rules};
 use crate::scripts::run_script;
 use crate::telling::{tell_conf_fault, tell_no_memory, tell_rule_fault, tell_usage};
+use crate::words::read_words;
 use outside_io::{Clock, Disk, Net, Sink, Source};
+use shard_core::Setup;
 use std::alloc::Global;
 
 /// Runs carbon: does what the words of the command line say, and answers the program's exit status.
@@ -15,6 +17,12 @@ use std::alloc::Global;
 /// `words` are those after the program's name, and there is one disk for each of the sixteen classes. The one command is
 /// `script`: it reads the rule files `storage-schemas.conf` and `storage-aggregation.conf` of the folder `conf`, of which one that is
 /// absent counts as empty, runs the script that stands on the input over the ring files of the disks, and drains all at its end.
+/// Behind it may stand, in either order and each once:
+///
+/// | Option | Says | Else |
+/// |---|---|---|
+/// | `--limit N` | how many points of a class may be pending: 1 to 10,000,000, in at most 19 digits | 262,144 |
+/// | `--order O` | which metric of a class is drained next: `max`, `sorted`, `timesorted` or `naive` | `sorted` |
 ///
 /// | Status | Comes |
 /// |---|---|
@@ -42,22 +50,29 @@ pub fn run<S: Source, K: Sink, D: Disk + Send + Drop, C: Clock + Sync, N: Net + 
     net: &mut N,
 ) -> Report<D>
     requires { vec_len disks ≡ 16 }
-    ensures usage { is_script (map string_bytes words.now) ≡ false → (conf.new ≡ conf.old)
+    ensures usage { script_options (map string_bytes words.now) ≡ None → (conf.new ≡ conf.old)
         × NoCommand (streams_of S.Source K.Sink input.old input.new out.old out.new) disks.items (answer_of result.status result.history result.disks.items) }
-    ensures outcome { is_script (map string_bytes words.now) ≡ true → Outcome D.Disk conf.old conf.new
-        (streams_of S.Source K.Sink input.old input.new out.old out.new) disks.items (answer_of result.status result.history result.disks.items) }
+    ensures outcome { IfSome (script_options (map string_bytes words.now)) (λ said. Outcome D.Disk said conf.old conf.new
+        (streams_of S.Source K.Sink input.old input.new out.old out.new) disks.items (answer_of result.status result.history result.disks.items)) }
     ensures reads { CountsReads S.Source input.old input.new (result.status ≡ 6) }
     ensures writes { CountsWrites K.Sink out.old out.new (result.status ≡ 7) }
     ensures disks { vec_len result.disks ≡ 16 }
     ensures conf { D.image conf.new ≡ D.image conf.old }
     ensures net { net.new ≡ net.old }
 {
-    if !is_script(words) {
+    let Some(options) = read_words(words) else {
         let status = tell_usage(out);
         return Report::without_command(alloc, status, disks);
-    }
+    };
     match read_rules(alloc, conf) {
-        Ok(rules) => run_script(alloc, disks, &rules, input, out),
+        Ok(rules) => {
+            let setup = Setup {
+                rules,
+                limit: options.limit(),
+                strategy: options.order(),
+            };
+            run_script(alloc, disks, &setup, input, out)
+        }
         Err(fault) => {
             let status = tell_conf(&fault, out);
             Report::without_command(alloc, status, disks)
@@ -74,15 +89,5 @@ fn tell_conf<K: Sink>(fault: &ConfFault, out: &mut K) -> u8
         ConfFault::Refused(file, cause) => tell_rule_fault(out, *file, *cause),
         ConfFault::DiskFault => tell_conf_fault(out),
         ConfFault::NoMemory => tell_no_memory(out),
-    }
-}
-
-/// Whether the words are the one word `script`.
-fn is_script(words: &[String]) -> bool
-    ensures { result ≡ is_script (map string_bytes words.now) }
-{
-    match words {
-        [word] => word.as_str() == "script",
-        _ => false,
     }
 }

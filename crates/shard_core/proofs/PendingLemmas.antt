@@ -1,5 +1,5 @@
 -- Pending metrics stay those of their class.
-use Rattle.std.proofs.Common.{◌≡◌, ℕ, ℤ, Bool, true, false, List, [], ◌∷◌, All, Some, None, unwrap_or, if◌then◌else◌, remove}
+use Rattle.std.proofs.Common.{◌≡◌, ℕ, zero, suc, ℤ, Bool, true, false, List, [], ◌∷◌, All, Some, None, unwrap_or, if◌then◌else◌, remove}
 use Rattle.std.specs.Map.{lookup}
 use Rattle.std.specs.Str.{bytes_eq}
 use Rattle.std.proofs.lemmas.List.Elements.{All-nil, All-cons, All-head, All-tail, All-append, All-filter}
@@ -60,7 +60,10 @@ of_class_after_put class old new path time value Replaced puts all legal here mo
 of_class_after_put class old new path time value Full puts all legal here moment = rw puts.1.1 all
 of_class_after_put class old new path time value NoMemory puts all legal here moment = rw puts.1.1 all
 
--- the metrics without the first
-pub of_class_without : (class : ℕ) (metrics : Metrics) → AreOfClass class metrics → AreOfClass class (remove metrics 0)
-of_class_without class [] all = all
-of_class_without class (m ∷ ms) all = All-tail (IsMetric class) m ms all
+-- the metrics without one
+pub of_class_without : (class : ℕ) (metrics : Metrics) (place : ℕ) → AreOfClass class metrics → AreOfClass class (remove metrics place)
+of_class_without class [] zero all = all
+of_class_without class [] (suc place) all = all
+of_class_without class (m ∷ ms) zero all = All-tail (IsMetric class) m ms all
+of_class_without class (m ∷ ms) (suc place) all =
+    All-cons (IsMetric class) m _ (All-head (IsMetric class) m ms all) (of_class_without class ms place (All-tail (IsMetric class) m ms all))

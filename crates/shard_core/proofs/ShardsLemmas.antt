@@ -7,17 +7,16 @@ use Rattle.std.specs.Str.{bytes_eq}
 use Rattle.outside_io.specs.declared.disk.Disk.{Ghosts}
 use Rattle.metric_path.specs.Class.{class_of}
 use Rattle.point_cache.specs.Points.{has_time}
-use Rattle.point_cache.specs.Pending.{Cache, after_put, points_count, points_of, Puts, with_put}
+use Rattle.point_cache.specs.Pending.{after_put, points_count, points_of, Puts, with_put}
 use Rattle.point_cache.specs.declared.put.Put.{Put}
 use Rattle.point_cache.specs.declared.put.Put.TheVariants.{Stored, Replaced, Full, NoMemory}
 use Rattle.carbon_model.specs.State.{Kept, Metrics, SamePart, State, picked, points_in, with_pending}
 use Rattle.carbon_model.specs.RingFiles.{IsOfClass, SameKept, Stands, kept_on}
 use Rattle.carbon_model.specs.Replay.{drained}
-use Rattle.schema_rules.specs.RulesOf.{RulesValue}
-use Rattle.shard_core.specs.Shard.{Drains, Holds, HoldsKept, LayoutsByPath, Shows}
+use Rattle.shard_core.specs.Shard.{Drains, Holds, HoldsKept, Inside, LayoutsByPath, Shows}
 use Rattle.carbon_model.specs.Series.{series_at}
 use Rattle.carbon_model.specs.declared.series.Series.{Series}
-use Rattle.shard_core.specs.View.{OnlyCache, StandsFor, Stays}
+use Rattle.shard_core.specs.View.{OnlyCache, StandsFor, Stays, inside_of}
 use Rattle.std.proofs.lemmas.Option.{slice_get-get_or}
 use Rattle.std.proofs.Math.ListN.{get_or}
 use Rattle.outside_io.specs.Faults.{Rose}
@@ -74,15 +73,15 @@ kept_alike told class layouts known kept kept' same holds = record {
       (λ opening now stands. stands_alike opening now kept kept' class same stands);
 }
 
-pub holds_alike : (told : Option Image) (class : ℕ) (rules : RulesValue) (cache : Cache) (layouts : LayoutsByPath) (known : Option Image) (s s' : State) → SamePart class s s'
-    → Holds told class rules cache layouts known s → Holds told class rules cache layouts known s'
-holds_alike told class rules cache layouts known s s' same holds = record {
+pub holds_alike : (told : Option Image) (shard : Inside) (s s' : State) → SamePart shard.class s s'
+    → Holds told shard s → Holds told shard s'
+holds_alike told shard s s' same holds = record {
   pending = holds.pending ∙ same.pending;
-  queue = sym same.queue ∙ holds.queue;
-  kept = kept_alike told class layouts known s.kept s'.kept (λ p one. same.kept p one.here) holds.kept;
+  queue = holds.queue ∙ same.queue;
+  kept = kept_alike told shard.class shard.layouts shard.known s.kept s'.kept (λ p one. same.kept p one.here) holds.kept;
   rules = λ p one. sym (same.rules p one) ∙ holds.rules p one;
   limit = holds.limit ∙ same.limit;
-  strategy = sym same.strategy ∙ holds.strategy;
+  strategy = holds.strategy ∙ same.strategy;
 }
 
 -- ---- one shard in place of another
@@ -99,7 +98,7 @@ other_holds : {D : Type 0} {d : Ghosts D} (o : Option (Shard D d)) (told : Optio
     → IfSome o (λ shard. shard.class ≡ j) → IfSome o (λ shard. StandsFor told shard s) → IfSome o (λ shard. StandsFor told shard s')
 other_holds None told j s s' same here holds = tt
 other_holds {d = d} (Some shard) told j s s' same here holds =
-    holds_alike told shard.class shard.given shard.cache shard.layouts (d.image shard.disk) s s' (subst (λ (k : ℕ). SamePart k s s') (sym here) same) holds
+    holds_alike told (inside_of shard) s s' (subst (λ (k : ℕ). SamePart k s s') (sym here) same) holds
 
 pub holds_with : {D : Type 0} {d : Ghosts D} (shards : List (Shard D d)) (told : ℕ → Option Image) (k : ℕ) (shard : Shard D d) (s s' : State) → k < length shards → AreInOrder shards → OthersStay k s s'
     → StandsFor (told k) shard s' → HoldsAll told shards s → HoldsAll told (slice_set shards k shard) s'
@@ -166,11 +165,11 @@ put_others s class metrics j other = record {
 }
 
 -- the state of a shard into whose cache this point was put
-held_put : (told : Option Image) (class : ℕ) (rules : RulesValue) (cache : Cache) (layouts : LayoutsByPath) (known : Option Image) (s : State) (path : List ℕ) (t : ℕ) (v : ℤ) → class_of path ≡ class
-    → Holds told class rules cache layouts known s
-    → Holds told class rules (after_put cache path t v) layouts known (with_pending s (class_of path) (with_put (s.pending (class_of path)) path t v))
-held_put told class rules cache layouts known s path t v one holds = record {
-  pending = rw (one, same_number class) (ap (λ (ms : Metrics). with_put ms path t v) holds.pending);
+held_put : (told : Option Image) (shard : Inside) (s : State) (path : List ℕ) (t : ℕ) (v : ℤ) → class_of path ≡ shard.class
+    → Holds told shard s
+    → Holds told (record shard { cache = after_put shard.cache path t v }) (with_pending s (class_of path) (with_put (s.pending (class_of path)) path t v))
+held_put told shard s path t v one holds = record {
+  pending = rw (one, same_number shard.class) (ap (λ (ms : Metrics). with_put ms path t v) holds.pending);
   queue = holds.queue;
   kept = record { index = holds.kept.index; files = holds.kept.files };
   rules = holds.rules;
@@ -181,19 +180,19 @@ held_put told class rules cache layouts known s path t v one holds = record {
 put_stands : {D : Type 0} {d : Ghosts D} (told : Option Image) (old new : Shard D d) (s : State) (path : List ℕ) (t : ℕ) (v : ℤ) → OnlyCache old new → class_of path ≡ old.class → new.cache ≡ after_put old.cache path t v
     → StandsFor told old s → StandsFor told new (with_pending s (class_of path) (with_put (s.pending (class_of path)) path t v))
 put_stands {d = d} told old new s path t v same one cache holds =
-    rw (same.class, same.given, same.layouts, same.disk, cache) (held_put told old.class old.given old.cache old.layouts (d.image old.disk) s path t v one holds)
+    rw (same.class, same.given, same.picker, same.layouts, same.disk, cache) (held_put told (inside_of old) s path t v one holds)
 
 unchanged_stands : {D : Type 0} {d : Ghosts D} (old new : Shard D d) → OnlyCache old new → new.cache ≡ old.cache → Stays old new
-unchanged_stands old new same cache told s holds = rw (same.class, same.given, same.layouts, same.disk, cache) holds
+unchanged_stands old new same cache told s holds = rw (same.class, same.given, same.picker, same.layouts, same.disk, cache) holds
 
 -- what the cache has of a path is what the state has
-pending_points : (told : Option Image) (class : ℕ) (rules : RulesValue) (cache : Cache) (layouts : LayoutsByPath) (known : Option Image) (s : State) (path : List ℕ) → class_of path ≡ class
-    → Holds told class rules cache layouts known s → points_in s path ≡ points_of cache.metrics path
-pending_points told class rules cache layouts known s path one holds = ap (λ (ms : Metrics). points_of ms path) (ap s.pending one ∙ sym holds.pending)
+pending_points : (told : Option Image) (shard : Inside) (s : State) (path : List ℕ) → class_of path ≡ shard.class
+    → Holds told shard s → points_in s path ≡ points_of shard.cache.metrics path
+pending_points told shard s path one holds = ap (λ (ms : Metrics). points_of ms path) (ap s.pending one ∙ sym holds.pending)
 
-pending_count : (told : Option Image) (class : ℕ) (rules : RulesValue) (cache : Cache) (layouts : LayoutsByPath) (known : Option Image) (s : State) (path : List ℕ) → class_of path ≡ class
-    → Holds told class rules cache layouts known s → points_count (s.pending (class_of path)) ≡ points_count cache.metrics
-pending_count told class rules cache layouts known s path one holds = ap points_count (ap s.pending one ∙ sym holds.pending)
+pending_count : (told : Option Image) (shard : Inside) (s : State) (path : List ℕ) → class_of path ≡ shard.class
+    → Holds told shard s → points_count (s.pending (class_of path)) ≡ points_count shard.cache.metrics
+pending_count told shard s path one holds = ap points_count (ap s.pending one ∙ sym holds.pending)
 
 -- what the definition of a put speaks of, in the shard's own words
 record Seen {D : Type 0} {d : Ghosts D} (shard : Shard D d) (s : State) (path : List ℕ) (t : ℕ) : Type 0 where
@@ -203,8 +202,8 @@ record Seen {D : Type 0} {d : Ghosts D} (shard : Shard D d) (s : State) (path : 
 
 seen : {D : Type 0} {d : Ghosts D} (told : Option Image) (shard : Shard D d) (s : State) (path : List ℕ) (t : ℕ) → class_of path ≡ shard.class → StandsFor told shard s → Seen shard s path t
 seen {d = d} told shard s path t one holds = record {
-  known = ap (λ ps. has_time ps t) (pending_points told shard.class shard.given shard.cache shard.layouts (d.image shard.disk) s path one holds);
-  count = pending_count told shard.class shard.given shard.cache shard.layouts (d.image shard.disk) s path one holds;
+  known = ap (λ ps. has_time ps t) (pending_points told (inside_of shard) s path one holds);
+  count = pending_count told (inside_of shard) s path one holds;
   limit = holds.limit;
 }
 
@@ -278,46 +277,42 @@ unfolding FailedAt
 failed_with shards k old new there within rose = rw (there, set_here shards k new within) rose
 
 drain_none : {D : Type 0} {d : Ghosts D} (shards : List (Shard D d)) (told : ℕ → Option Image) (k : ℕ) (old new : Shard D d) (s : State) → k < length shards → AreInOrder shards → slice_get shards k ≡ Some old → old.class ≡ k
-    → old.cache.metrics ≡ [] → new ≡ old → HoldsAll told shards s → (s.pending k ≡ []) × HoldsAll told (slice_set shards k new) s
-drain_none shards told k old new s within order there class empty same holds =
+    → old.cache.metrics ≡ [] → Stays old new → HoldsAll told shards s → (s.pending k ≡ []) × HoldsAll told (slice_set shards k new) s
+drain_none shards told k old new s within order there class empty stays holds =
     let held = shard_at shards told k old s there holds in (
       ap s.pending (sym class) ∙ sym held.pending ∙ empty,
-      stays_with shards k old new within order there (λ o t stands. subst (λ shard. StandsFor o shard t) (sym same) stands) told s holds,
+      stays_with shards k old new within order there stays told s holds,
     )
 
 drain_some : {D : Type 0} {d : Ghosts D} (shards : List (Shard D d)) (told : ℕ → Option Image) (k : ℕ) (old new : Shard D d) (s : State) (path : List ℕ) (now : ℕ) → k < length shards → AreInOrder shards → slice_get shards k ≡ Some old
-    → old.class ≡ k → new.class ≡ old.class → new.given ≡ old.given → Drains old.class old.given old.cache old.layouts (d.image old.disk) path now new.cache new.layouts (d.image new.disk) → HoldsAll told shards s
-    → DrainsNext (Some path) s k now (HoldsAll told (slice_set shards k new))
-drain_some {d = d} shards told k old new s path now within order there class same given drains holds =
-    let held = shard_at shards told k old s there holds in
-    let done = drains.1 (told k) s held in
+    → old.class ≡ k → Drains (inside_of old) (inside_of new) path now → HoldsAll told shards s → DrainsNext (Some path) s k now (HoldsAll told (slice_set shards k new))
+drain_some shards told k old new s path now within order there class drains holds =
+    let done = drains.1 (told k) s (shard_at shards told k old s there holds) in
     let one = drains.0 ∙ class in (
       one,
       λ pass. (
         subst (λ (c : ℕ). picked s c ≡ Some path) (sym drains.0) done.0,
-        holds_with shards told k new s (drained s path now) within order (drain_others s k path now one)
-            (subst (λ (c : ℕ). Holds (told k) c new.given new.cache new.layouts (d.image new.disk) (drained s path now)) (sym same)
-            (subst (λ (g : RulesValue). Holds (told k) old.class g new.cache new.layouts (d.image new.disk) (drained s path now)) (sym given) done.1)) holds,
+        holds_with shards told k new s (drained s path now) within order (drain_others s k path now one) done.1 holds,
       ),
     )
 
 -- a drain of the shard of a class
 pub drains_next : {D : Type 0} {d : Ghosts D} (r : Result (Option (List ℕ)) RingFault) (shards : List (Shard D d)) (k : ℕ) (old new : Shard D d) (now : ℕ) → k < length shards → AreInOrder shards → slice_get shards k ≡ Some old
-    → new.class ≡ old.class → new.given ≡ old.given → IfOk r (λ o. IfSome o (λ path. Drains old.class old.given old.cache old.layouts (d.image old.disk) path now new.cache new.layouts (d.image new.disk)))
-    → IfOk r (λ o. o ≡ None → (old.cache.metrics ≡ []) × (new ≡ old))
+    → IfOk r (λ o. IfSome o (λ path. Drains (inside_of old) (inside_of new) path now))
+    → IfOk r (λ o. o ≡ None → (old.cache.metrics ≡ []) × Stays old new)
     → IfOk r (λ o. (told : ℕ → Option Image) (s : State) → HoldsAll told shards s → DrainsNext o s k now (HoldsAll told (slice_set shards k new)))
-drains_next (Err fault) shards k old new now within order there same given drains idle = tt
-drains_next (Ok None) shards k old new now within order there same given drains idle = λ told s holds.
+drains_next (Err fault) shards k old new now within order there drains idle = tt
+drains_next (Ok None) shards k old new now within order there drains idle = λ told s holds.
     let class = subst (λ o. IfSome o (λ shard. shard.class ≡ k)) there (order k) in
     drain_none shards told k old new s within order there class (idle refl).0 (idle refl).1 holds
-drains_next (Ok (Some path)) shards k old new now within order there same given drains idle = λ told s holds.
+drains_next (Ok (Some path)) shards k old new now within order there drains idle = λ told s holds.
     let class = subst (λ o. IfSome o (λ shard. shard.class ≡ k)) there (order k) in
-    drain_some shards told k old new s path now within order there class same given drains holds
+    drain_some shards told k old new s path now within order there class drains holds
 
 -- ---- questions
 
 pub shows_at : {D : Type 0} {d : Ghosts D} (r : Result (Option Series) RingFault) (shards : List (Shard D d)) (k : ℕ) (shard : Shard D d) (path : List ℕ) (now from until : ℕ) → slice_get shards k ≡ Some shard → k ≡ class_of path
-    → IfOk r (Shows shard.class shard.given shard.cache shard.layouts (d.image shard.disk) path now from until) → IfOk r (ShowsAt shards path now from until)
+    → IfOk r (Shows (inside_of shard) path now from until) → IfOk r (ShowsAt shards path now from until)
 shows_at (Err fault) shards k shard path now from until there one shows = tt
 shows_at (Ok series) shards k shard path now from until there one shows = λ told s holds.
     subst (λ (j : ℕ). IfSome (told j) (λ opening. series ≡ series_at s path now from until)) one (shows (told k) s (shard_at shards told k shard s there holds))

@@ -12,15 +12,14 @@ use Rattle.series_fetch.specs.declared.range.Window.TheVariants.{Range}
 use Rattle.series_fetch.specs.Shown.{shown}
 use Rattle.std.proofs.lemmas.Option.{none-some}
 use Rattle.metric_path.specs.FileName.{file_name_of}
-use Rattle.point_cache.specs.Pending.{Cache, points_of}
+use Rattle.point_cache.specs.Pending.{points_of}
 use Rattle.series_fetch.specs.Window.{window}
 use Rattle.carbon_model.specs.State.{Kept, Metrics, State, no_rings, points_in, rings_of}
 use Rattle.carbon_model.specs.RingFiles.{IsOfClass, Stands}
 use Rattle.carbon_model.specs.Series.{series_at, series_in, series_of}
 use Rattle.carbon_model.specs.declared.series.Series.{Series}
-use Rattle.schema_rules.specs.RulesOf.{RulesValue}
 use Rattle.shard_core.specs.Drained.{ShowsFile}
-use Rattle.shard_core.specs.Shard.{Holds, LayoutsByPath, Shows}
+use Rattle.shard_core.specs.Shard.{Holds, Inside, Shows}
 use Rattle.shard_core.proofs.KeptLemmas.{read_before, reads_kept}
 use Rattle.shard_core.proofs.DrainedLemmas.{any_path, fresh_is_empty, no_cells}
 
@@ -67,12 +66,12 @@ series_by false given (Some k) layout points now from until series known some e 
     e ∙ ap (λ (l : LayoutValue). series_in l k.rings points (window l now from until)) (sym (ap (λ (o : Option LayoutValue). unwrap_or o k.layout) known))
 
 -- from what the file shows to what the state does
-pub shows_from : (fresh : Bool) (class : ℕ) (rules : RulesValue) (cache : Cache) (layouts : LayoutsByPath) (known : Option Image) (path : List ℕ) (layout : LayoutValue) (points : List (ℕ × ℤ)) (now from until : ℕ) (series : Option Series)
-    → ((told : Option Image) (s : State) → Holds told class rules cache layouts known s → read_before fresh (s.rules path) (s.kept path) layout) → (fresh ≡ true → points ≡ [] → ⊥) → IsOfClass class path → points ≡ points_of cache.metrics path
-    → ShowsFile fresh known (file_name_of path) layout points (window layout now from until) series → Shows class rules cache layouts known path now from until series
-shows_from fresh class rules cache layouts known path layout points now from until series was some one held shows told s holds = by told known holds.kept.files shows
+pub shows_from : (fresh : Bool) (shard : Inside) (path : List ℕ) (layout : LayoutValue) (points : List (ℕ × ℤ)) (now from until : ℕ) (series : Option Series)
+    → ((told : Option Image) (s : State) → Holds told shard s → read_before fresh (s.rules path) (s.kept path) layout) → (fresh ≡ true → points ≡ [] → ⊥) → IsOfClass shard.class path → points ≡ points_of shard.cache.metrics path
+    → ShowsFile fresh shard.known (file_name_of path) layout points (window layout now from until) series → Shows shard path now from until series
+shows_from fresh shard path layout points now from until series was some one held shows told s holds = by told shard.known holds.kept.files shows
   where
-    by : (t k : Option Image) → WhereKnown t k (λ opening now. Stands opening now s.kept class) → ShowsFile fresh k (file_name_of path) layout points (window layout now from until) series
+    by : (t k : Option Image) → WhereKnown t k (λ opening now. Stands opening now s.kept shard.class) → ShowsFile fresh k (file_name_of path) layout points (window layout now from until) series
         → IfSome t (λ opening. series ≡ series_at s path now from until)
     by None k files shown = tt
     by (Some opening) None files shown = absurd files
@@ -84,9 +83,9 @@ shows_from fresh class rules cache layouts known path layout points now from unt
         ∙ ap (λ (ps : List (ℕ × ℤ)). series_of (s.rules path) (s.kept path) ps now from until) its
 
 -- a metric without file and points shows nothing
-pub shows_none : (class : ℕ) (rules : RulesValue) (cache : Cache) (layouts : LayoutsByPath) (known : Option Image) (path : List ℕ) (now from until : ℕ) → IsOfClass class path → lookup (bytes_eq path) layouts ≡ None → points_of cache.metrics path ≡ []
-    → Shows class rules cache layouts known path now from until None
-shows_none class rules cache layouts known path now from until one unfiled empty told s holds = by told
+pub shows_none : (shard : Inside) (path : List ℕ) (now from until : ℕ) → IsOfClass shard.class path → lookup (bytes_eq path) shard.layouts ≡ None → points_of shard.cache.metrics path ≡ []
+    → Shows shard path now from until None
+shows_none shard path now from until one unfiled empty told s holds = by told
   where
     its : points_in s path ≡ []
     its = ap (λ (ms : Metrics). points_of ms path) (ap s.pending one.here ∙ sym holds.pending) ∙ empty

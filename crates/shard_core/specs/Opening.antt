@@ -1,40 +1,40 @@
 -- What the starts of single shards make of the disks of all classes.
-use Rattle.std.specs.Prelude.{◌≡◌, ◌<◌, ◌≤◌, ◌-◌, ◌^◌, ℕ, List, [], ◌∷◌, ◌++◌, length, map, Option, IfSome, IsSomeAnd, slice_get}
+use Rattle.std.specs.Prelude.{◌≡◌, ◌<◌, ◌≤◌, ℕ, List, [], ◌∷◌, ◌++◌, length, map, Option, None, IfSome, IsSomeAnd, slice_get}
 use Rattle.outside_io.specs.Image.{Image}
 use Rattle.outside_io.specs.Faults.{Rose}
 use Rattle.outside_io.specs.declared.disk.Disk.{Ghosts}
 use Rattle.schema_rules.specs.LayoutBy.{layout_by}
-use Rattle.schema_rules.specs.RulesOf.{RulesValue}
 use Rattle.carbon_model.specs.State.{State}
 use Rattle.carbon_model.specs.RingFiles.{Opens as OpensState, Settings}
-use Rattle.drain_order.specs.declared.strategy.Strategy.TheVariants.{Naive}
 use Rattle.shard_core.specs.Opened.{IsSoundDisk, Opens}
 use Rattle.shard_core.specs.StartFaults.{IsDamagedFile, IsDiskFault}
 use Rattle.shard_core.specs.Shards.{HoldsAll, disk_faults, told_of}
 use Rattle.shard_core.specs.declared.fault.StartFault.{StartFault}
 use Rattle.shard_core.specs.declared.opening.Refusal.{Refusal}
+use Rattle.shard_core.specs.declared.setup.Setup.{Setup}
 use Rattle.shard_core.specs.declared.shard.Shard.{Shard}
 
--- the shard of a class started from this disk, under these rules
-pub record StartedFrom {D : Type 0} {d : Ghosts D} (class : ℕ) (rules : RulesValue) (disk : D) (shard : Shard D d) : Type 0 where
+-- the shard of a class started from this disk, with what is fixed for the run
+pub record StartedFrom {D : Type 0} {d : Ghosts D} (class : ℕ) (settings : Settings) (disk : D) (shard : Shard D d) : Type 0 where
   pub here : shard.class ≡ class
-  pub given : shard.given ≡ rules
-  pub empty : shard.cache ≡ record { limit = 2 ^ 64 - 1; metrics = [] }
+  pub given : (path : List ℕ) → layout_by shard.given path ≡ settings.rules path
+  pub empty : shard.cache ≡ record { limit = settings.limit; metrics = [] }
+  pub waiting : shard.picker ≡ record { strategy = settings.strategy; queue = []; settled = None }
   pub same : d.image shard.disk ≡ d.image disk
   pub opens : Opens class (d.image disk) shard.layouts
   pub later : d.faults disk ≤ d.faults shard.disk
 
 -- each shard started from the disk of its place
-abbrev pub AreStarted : {D : Type 0} {d : Ghosts D} → RulesValue → List D → List (Shard D d) → Type 0
-AreStarted rules disks shards = (k : ℕ) → IfSome (slice_get shards k) (λ shard. IsSomeAnd (slice_get disks k) (λ disk. StartedFrom k rules disk shard))
+abbrev pub AreStarted : {D : Type 0} {d : Ghosts D} → Settings → List D → List (Shard D d) → Type 0
+AreStarted settings disks shards = (k : ℕ) → IfSome (slice_get shards k) (λ shard. IsSomeAnd (slice_get disks k) (λ disk. StartedFrom k settings disk shard))
 
 -- the first disk is that of the next shard
-pub record StartsNext {D : Type 0} {d : Ghosts D} (rules : RulesValue) (disks : List D) (shards shards' : List (Shard D d)) (disks' : List D) : Type 0 where
+pub record StartsNext {D : Type 0} {d : Ghosts D} (settings : Settings) (disks : List D) (shards shards' : List (Shard D d)) (disks' : List D) : Type 0 where
   pub disk : D
   pub shard : Shard D d
   pub taken : disks ≡ disk ∷ disks'
   pub more : shards' ≡ shards ++ shard ∷ []
-  pub started : StartedFrom (length shards) rules disk shard
+  pub started : StartedFrom (length shards) settings disk shard
 
 -- the next shard did not start, and the first disk is back
 pub record RefusesNext {D : Type 0} {d : Ghosts D} (fault : StartFault) (disks : List D) (shards shards' : List (Shard D d)) (disks' : List D) : Type 0 where
@@ -58,18 +58,18 @@ pub record HandsBack {D : Type 0} (image : D → Option Image) (faults : D → �
 
 -- ---- what the start of all shards tells
 
--- what is fixed for a run under these rules: drains go in order of arrival, and as many points may be pending as can be counted
-abbrev pub settings_of : RulesValue → Settings
-settings_of rules = record { rules = layout_by rules; limit = 2 ^ 64 - 1; strategy = Naive }
+-- what is fixed for a run that is so set up
+abbrev pub settings_of : Setup → Settings
+settings_of setup = record { rules = layout_by setup.rules; limit = setup.limit; strategy = setup.strategy }
 
 -- no class below this number has a damaged file on a disk that tells its image
 abbrev pub AreSound : (ℕ → Option Image) → ℕ → Type 0
 AreSound told count = (k : ℕ) → k < count → IfSome (told k) (IsSoundDisk k)
 
 -- All shards started: there is a state in which a run may begin over the disks, for which they stand.
-pub record StartsAll {D : Type 0} {d : Ghosts D} (rules : RulesValue) (disks : List D) (shards : List (Shard D d)) : Type 0 where
+pub record StartsAll {D : Type 0} {d : Ghosts D} (settings : Settings) (disks : List D) (shards : List (Shard D d)) : Type 0 where
   pub state : State
-  pub opens : OpensState (settings_of rules) (told_of d.image disks) state
+  pub opens : OpensState settings (told_of d.image disks) state
   pub holds : HoldsAll (told_of d.image disks) shards state
   pub sound : AreSound (told_of d.image disks) 16
 

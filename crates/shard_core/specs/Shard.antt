@@ -12,7 +12,7 @@ use Rattle.ring_archive.specs.Ring.{IsRingFile}
 use Rattle.carbon_model.specs.State.{Kept, Metrics, State, picked}
 use Rattle.carbon_model.specs.RingFiles.{IsOfClass, Stands}
 use Rattle.carbon_model.specs.Replay.{drained, with_drained}
-use Rattle.drain_order.specs.declared.strategy.Strategy.TheVariants.{Naive}
+use Rattle.drain_order.specs.Picking.{Picking}
 use Rattle.point_cache.specs.Pending.{Cache}
 use Rattle.schema_rules.specs.LayoutBy.{layout_by}
 use Rattle.schema_rules.specs.RulesOf.{RulesValue}
@@ -55,20 +55,30 @@ pub record HoldsKept (told : Option Image) (class : ℕ) (layouts : LayoutsByPat
   pub index : (path : List ℕ) → IsOfClass class path → lookup (bytes_eq path) layouts ≡ option_map (λ k. k.layout) (kept path)
   pub files : WhereKnown told known (λ opening now. Stands opening now kept class)
 
--- A shard stands for its class's part of a state whose drains go in order of arrival.
-pub record Holds (told : Option Image) (class : ℕ) (given : RulesValue) (cache : Cache) (layouts : LayoutsByPath) (known : Option Image) (s : State) : Type 0 where
-  pub pending : cache.metrics ≡ s.pending class
-  pub queue : s.queue class ≡ []
-  pub kept : HoldsKept told class layouts known s.kept
-  pub rules : (path : List ℕ) → class_of path ≡ class → s.rules path ≡ layout_by given path
-  pub limit : cache.limit ≡ s.limit
-  pub strategy : s.strategy ≡ Naive
+-- What a shard holds, as contracts see it: its class, the rules, the pending points, which of them go next, the layouts of the metrics that have a
+-- file, and what its disk tells.
+pub record Inside : Type 0 where
+  pub class : ℕ
+  pub given : RulesValue
+  pub cache : Cache
+  pub picker : Picking
+  pub layouts : LayoutsByPath
+  pub known : Option Image
 
--- Whatever state the shard stood for, it picks this path, and stands for the state after its drain.
-abbrev pub Drains : ℕ → RulesValue → Cache → LayoutsByPath → Option Image → List ℕ → ℕ → Cache → LayoutsByPath → Option Image → Type 0
-Drains class rules cache layouts known path now cache' layouts' known' =
-    (class_of path ≡ class) × ((told : Option Image) (s : State) → Holds told class rules cache layouts known s
-    → (picked s class ≡ Some path) × Holds told class rules cache' layouts' known' (drained s path now))
+-- A shard stands for its class's part of a state.
+pub record Holds (told : Option Image) (shard : Inside) (s : State) : Type 0 where
+  pub pending : shard.cache.metrics ≡ s.pending shard.class
+  pub queue : shard.picker.queue ≡ s.queue shard.class
+  pub kept : HoldsKept told shard.class shard.layouts shard.known s.kept
+  pub rules : (path : List ℕ) → class_of path ≡ shard.class → s.rules path ≡ layout_by shard.given path
+  pub limit : shard.cache.limit ≡ s.limit
+  pub strategy : shard.picker.strategy ≡ s.strategy
+
+-- Whatever state the shard stood for, its class picks this path, and it stands for the state after its drain.
+abbrev pub Drains : Inside → Inside → List ℕ → ℕ → Type 0
+Drains old new path now =
+    (class_of path ≡ old.class) × ((told : Option Image) (s : State) → Holds told old s
+    → (picked s old.class ≡ Some path) × Holds told new (drained s path now))
 
 -- the same of what is kept alone, where the path is given this layout
 abbrev pub DrainsKept : ℕ → LayoutsByPath → Option Image → List ℕ → LayoutValue → ℕ → List (ℕ × ℤ) → LayoutsByPath → Option Image → Type 0
@@ -77,6 +87,6 @@ DrainsKept class layouts known path given now points layouts' known' =
     → HoldsKept told class layouts' known' (with_drained kept path given now points)
 
 -- what is shown of a path in whatever state the shard stands for, where its disk tells what it holds
-abbrev pub Shows : ℕ → RulesValue → Cache → LayoutsByPath → Option Image → List ℕ → ℕ → ℕ → ℕ → Option Series → Type 0
-Shows class rules cache layouts known path now from until series =
-    (told : Option Image) (s : State) → Holds told class rules cache layouts known s → IfSome told (λ opening. series ≡ series_at s path now from until)
+abbrev pub Shows : Inside → List ℕ → ℕ → ℕ → ℕ → Option Series → Type 0
+Shows shard path now from until series =
+    (told : Option Image) (s : State) → Holds told shard s → IfSome told (λ opening. series ≡ series_at s path now from until)

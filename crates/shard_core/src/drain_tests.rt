@@ -2,6 +2,7 @@
 ghost use Rattle.std.specs.Prelude.{◌≡◌, ◌<◌, ◌+◌, ◌*◌, ◌^◌, IfOk, vec_len};
 
 use super::*;
+use crate::tests::setup;
 use fixed_num::Milli;
 use metric_line::{Datum, read_line};
 use metric_path::MetricPath;
@@ -74,8 +75,8 @@ fn a_drain_makes_as_many_calls_for_any_number_of_neighbours(rt: HostRuntime) -> 
         (THREE, 1_200, 16),
     ];
     for (schemas, count, most) in table {
-        let rules = Rules::read(alloc, schemas, b"")?;
-        let Ok(mut shards) = Shards::start(alloc, disks_with(alloc, "", b"")?, &rules) else {
+        let setup = setup(Rules::read(alloc, schemas, b"")?);
+        let Ok(mut shards) = Shards::start(alloc, disks_with(alloc, "", b"")?, &setup) else {
             panic!(rt; "no file is damaged")
         };
         put_minutes(alloc, &mut shards, "a.b", MINUTE, 1)?;
@@ -119,8 +120,8 @@ fn a_new_file_has_the_layout_that_the_rules_give(rt: HostRuntime) -> Result<(), 
         (TWO_SECTIONS, &there, "a.b", "a/b.ring", 304),
     ];
     for (schemas, held, path, name, size) in table {
-        let rules = Rules::read(alloc, schemas, b"")?;
-        let Ok(mut shards) = Shards::start(alloc, disks_with(alloc, name, held)?, &rules) else {
+        let setup = setup(Rules::read(alloc, schemas, b"")?);
+        let Ok(mut shards) = Shards::start(alloc, disks_with(alloc, name, held)?, &setup) else {
             panic!(rt; "no file is damaged")
         };
         put_minutes(alloc, &mut shards, path, MINUTE, 2)?;

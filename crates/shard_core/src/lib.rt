@@ -6,6 +6,7 @@ mod fault;
 mod given;
 mod layouts;
 mod opening;
+mod setup;
 mod shard;
 mod shards;
 mod showing;
@@ -15,6 +16,7 @@ pub use fault::StartFault;
 pub use given::GivenLayouts;
 pub use layouts::Layouts;
 pub use opening::Refusal;
+pub use setup::Setup;
 pub use shard::Shard;
 pub use shards::{CLASSES, Shards};
 

@@ -1,13 +1,13 @@
 //! Starting all shards, and giving their disks back.
 ghost use Rattle.std.specs.Prelude.{◌≡◌, ◌≤◌, ◌<◌, ◌+◌, ◌++◌, IfErr, IfOk, OnOk, map, vec_len, vec_capacity};
-ghost use Rattle.shard_core.specs.Opening.{AreStarted, HandsBack, RefusesNext, StartedFrom, StartsNext};
+ghost use Rattle.shard_core.specs.Opening.{AreStarted, HandsBack, RefusesNext, StartedFrom, StartsNext, settings_of};
 ghost use Rattle.shard_core.specs.StartFaults.{NotStarted};
 
 use crate::fault::StartFault;
+use crate::setup::Setup;
 use crate::shard::Shard;
 use crate::shards::{CLASSES, Shards};
 use outside_io::Disk;
-use schema_rules::Rules;
 use std::alloc::Global;
 
 /// Why the shards did not start.
@@ -21,24 +21,24 @@ pub struct Refusal {
 
 impl<D: Disk> Shards<D> {
     ghost use Rattle.std.specs.Prelude.{◌≡◌, ◌≤◌, ℕ, IfOk, IfErr, map, vec_len};
-    ghost use Rattle.shard_core.specs.Opening.{RefusesAll, StartsAll};
+    ghost use Rattle.shard_core.specs.Opening.{RefusesAll, StartsAll, settings_of};
     ghost use Rattle.shard_core.specs.Shards.{disk_faults, faults_at};
 
-    /// The shards of all classes over their disks, in order of class, under the rules, with nothing pending. The first class whose
+    /// The shards of all classes over their disks, in order of class, so set up, with nothing pending. The first class whose
     /// start is refused ends it, and the refusal hands all disks back, in order.
     pub fn start(
         alloc: Global,
         disks: Vec<D>,
-        rules: &Rules,
+        setup: &Setup,
     ) -> Result<Shards<D>, (Vec<D>, Refusal)>
         requires { vec_len disks ≡ 16 }
-        ensures starts { IfOk result (λ shards. StartsAll rules.now disks.items shards.items.items) }
+        ensures starts { IfOk result (λ shards. StartsAll (settings_of setup.now) disks.items shards.items.items) }
         ensures later { IfOk result (λ shards. (k : ℕ) → disk_faults D.faults disks.items k ≤ faults_at shards.items.items k) }
         ensures refused { IfErr result (λ refusal. RefusesAll D.Disk disks.items refusal.0.items refusal.1) }
         ensures back { IfErr result (λ refusal. vec_len refusal.0 ≡ 16) }
     {
         match Vec::with_capacity(alloc, CLASSES) {
-            Ok(items) => start_each(alloc, items, disks, rules),
+            Ok(items) => start_each(alloc, items, disks, setup),
             Err(_) => Err((
                 disks,
                 Refusal {
@@ -63,19 +63,19 @@ fn start_each<D: Disk>(
     alloc: Global,
     items: Vec<Shard<D>>,
     disks: Vec<D>,
-    rules: &Rules,
+    setup: &Setup,
 ) -> Result<Shards<D>, (Vec<D>, Refusal)>
     requires none { vec_len items ≡ 0 }
     requires room { 16 ≤ vec_capacity items }
     requires all { vec_len disks ≡ 16 }
-    ensures opens { IfOk result (λ shards. AreStarted rules.now disks.items shards.items.items) }
+    ensures opens { IfOk result (λ shards. AreStarted (settings_of setup.now) disks.items shards.items.items) }
     ensures refused { IfErr result (λ refusal. HandsBack D.image D.faults refusal.1.fault disks.items refusal.1.class refusal.0.items) }
     ensures class { IfErr result (λ refusal. refusal.1.class < 16) }
 {
     let mut items = items;
     let mut disks = disks;
     for class in 0..CLASSES as u32 {
-        match start_next(alloc, &mut items, &mut disks, rules) {
+        match start_next(alloc, &mut items, &mut disks, setup) {
             Ok(()) => {}
             Err(fault) => return Err((hand_back(items, disks), Refusal { class, fault })),
         }
@@ -88,18 +88,18 @@ fn start_next<D: Disk>(
     alloc: Global,
     items: &mut Vec<Shard<D>>,
     disks: &mut Vec<D>,
-    rules: &Rules,
+    setup: &Setup,
 ) -> Result<(), StartFault>
     requires class { vec_len items.old < 16 }
     requires room { 16 ≤ vec_capacity items.old }
     requires next { 0 < vec_len disks.old }
-    ensures starts { OnOk result (StartsNext rules.now disks.old.items items.old.items items.new.items disks.new.items) }
+    ensures starts { OnOk result (StartsNext (settings_of setup.now) disks.old.items items.old.items items.new.items disks.new.items) }
     ensures refused { IfErr result (λ fault. RefusesNext fault disks.old.items items.old.items items.new.items disks.new.items) }
     ensures room { vec_capacity items.old ≤ vec_capacity items.new }
     ensures disk_room { vec_capacity disks.old ≤ vec_capacity disks.new }
 {
     let disk = disks.remove(0);
-    match start_one(alloc, items.len() as u32, disk, rules) {
+    match start_one(alloc, items.len() as u32, disk, setup) {
         Ok(shard) => match items.push(shard) {
             Ok(()) => Ok(()),
             Err(_) => unreachable!(),
@@ -111,19 +111,19 @@ fn start_next<D: Disk>(
     }
 }
 
-// Starts the shard of a class, which shares the rules with others.
+// Starts the shard of a class, which shares the rules with the others.
 fn start_one<D: Disk>(
     alloc: Global,
     class: u32,
     disk: D,
-    rules: &Rules,
+    setup: &Setup,
 ) -> Result<Shard<D>, (D, StartFault)>
     requires { class < 16 }
-    ensures started { IfOk result (StartedFrom class rules.now disk) }
+    ensures started { IfOk result (StartedFrom class (settings_of setup.now) disk) }
     ensures refused { IfErr result (λ refusal. NotStarted D.Disk class disk refusal.0 refusal.1) }
 {
-    match rules.share() {
-        Ok(rules) => Shard::start(alloc, class, disk, rules),
+    match setup.rules.share() {
+        Ok(rules) => Shard::start(alloc, class, disk, rules, setup.limit, setup.strategy),
         Err(_) => Err((disk, StartFault::NoMemory)),
     }
 }

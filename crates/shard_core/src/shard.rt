@@ -1,6 +1,7 @@
 //! The shard of a class.
 ghost use Rattle.std.specs.Prelude.{◌≡◌};
 ghost use Rattle.std.proofs.Props.{props};
+ghost use Rattle.drain_order.specs.Pick.{AllPending};
 ghost use Rattle.shard_core.specs.Shard.{AreOfClass, HasFiles};
 
 use crate::draining::{drain_file, file_anew};
@@ -10,6 +11,7 @@ use crate::layouts::Layouts;
 use crate::showing::show_file;
 use crate::starting::read_layouts;
 use carbon_model::Series;
+use drain_order::{Picker, Strategy};
 use metric_line::Datum;
 use metric_path::MetricPath;
 use outside_io::Disk;
@@ -18,44 +20,49 @@ use ring_archive::RingFault;
 use schema_rules::Rules;
 use std::alloc::Global;
 
-/// How many points of a class may be pending: as many as can be counted, until a limit can be set.
-const NO_LIMIT: u64 = u64::MAX;
-
-/// One class of metrics over its disk: the points that are pending, which metrics have a ring file, and the layouts that the rules give the others.
+/// One class of metrics over its disk: the points that are pending, which of them go next, which metrics have a ring file, and the layouts that the
+/// rules give the others.
 #[derive(Drop)]
 pub struct Shard<D: Disk> {
     class: u32,
     disk: D,
     cache: PointCache,
+    picker: Picker,
     layouts: Layouts,
     given: GivenLayouts,
     alloc: Global,
     ghost metrics: { AreOfClass class cache.metrics } by { Prim.hlevel props },
+    ghost waiting: { AllPending picker.queue cache.metrics } by { Prim.hlevel props },
     ghost files: { HasFiles class layouts (D.image disk) } by { Prim.hlevel props },
 }
 
 impl<D: Disk> Shard<D> {
-    ghost use Rattle.std.specs.Prelude.{◌≡◌, ◌<◌, ◌≤◌, None, [], length, IfOk, IfErr, IfSome, IsErrOf, OnErr, OnOk};
+    ghost use Rattle.std.specs.Prelude.{◌≡◌, ◌<◌, ◌≤◌, ℕ, List, None, Some, [], length, slice_get, IfOk, IfErr, IfSome, IsErrOf, OnErr, OnOk};
     ghost use Rattle.outside_io.specs.Frames.{CountsFaults, ReadsOnly};
     ghost use Rattle.metric_path.specs.Class.{class_of};
-    ghost use Rattle.point_cache.specs.Pending.{Puts};
+    ghost use Rattle.point_cache.specs.Pending.{Puts, paths_of};
     ghost use Rattle.carbon_model.specs.Series.{EndsInTime};
     ghost use Rattle.shard_core.specs.Shard.{Drains, Shows};
+    ghost use Rattle.schema_rules.specs.LayoutBy.{layout_by};
     ghost use Rattle.shard_core.specs.Opening.{StartedFrom};
     ghost use Rattle.shard_core.specs.StartFaults.{NotStarted};
-    ghost use Rattle.shard_core.specs.View.{FilesFirst, OnlyCache, SameShard, Stays};
+    ghost use Rattle.shard_core.specs.View.{FilesPath, OnlyCache, SameShard, Stays, inside_of};
 
-    /// The shard of a class over its disk, under the rules, with nothing pending. Each file of the class is looked up, and its head
-    /// is read: a head of zero counts as no file. A file of any other name, or of a path of another class, is left alone. The
-    /// refusal hands the disk back.
+    /// The shard of a class over its disk, with nothing pending, the rules, how many points may be pending, and the drain order. Each
+    /// file of the class is looked up, and its head is read: a head of zero counts as no file. A file of any other name, or of a path of another
+    /// class, is left alone. The refusal hands the disk back.
     pub fn start(
         alloc: Global,
         class: u32,
         disk: D,
         rules: Rules,
+        limit: u64,
+        strategy: Strategy,
     ) -> Result<Shard<D>, (D, StartFault)>
-        requires { class < 16 }
-        ensures started { IfOk result (StartedFrom class rules disk) }
+        requires class { class < 16 }
+        requires some { 0 < limit }
+        ensures started { IfOk result (StartedFrom class
+            (record { rules = layout_by rules; limit = limit; strategy = strategy }) disk) }
         ensures refused { IfErr result (λ refusal. NotStarted D.Disk class disk refusal.0 refusal.1) }
     {
         let mut disk = disk;
@@ -63,7 +70,8 @@ impl<D: Disk> Shard<D> {
             Ok(layouts) => Ok(Shard {
                 class,
                 disk,
-                cache: PointCache::new(alloc, NO_LIMIT),
+                cache: PointCache::new(alloc, limit),
+                picker: Picker::new(alloc, strategy),
                 layouts,
                 given: GivenLayouts::new(alloc, rules),
                 alloc,
@@ -88,39 +96,42 @@ impl<D: Disk> Shard<D> {
         put
     }
 
-    /// Drains the metric that got its first pending point before all others, at the moment `now`: its points go into its ring file,
-    /// which is created where it has none. `None` where nothing is pending. The points leave the cache last: after want of memory
-    /// all is as before, and after a disk fault the points are pending still, but nothing is said of what the metric's file holds.
+    /// Drains the metric that goes next at the moment `now`: its points go into its ring file, which is created where it has none.
+    /// `None` where nothing is pending. The points leave the cache last: after want of memory all is as before, and after a disk fault the
+    /// points are pending still, and go next again, but nothing is said of what the metric's file holds.
     pub fn drain_whole(&mut self, now: u32) -> Result<Option<MetricPath>, RingFault>
-        ensures drains { IfOk result (λ picked. IfSome picked (λ path. Drains self.old.class self.old.given self.old.cache
-            self.old.layouts (D.image self.old.disk) path now self.new.cache self.new.layouts (D.image self.new.disk))) }
-        ensures idle { IfOk result (λ picked. picked ≡ None → (self.old.cache.metrics ≡ []) × (self.new ≡ self.old)) }
+        ensures drains { IfOk result (λ picked. IfSome picked (λ path. Drains (inside_of self.old) (inside_of self.new) path now)) }
+        ensures idle { IfOk result (λ picked. picked ≡ None → (self.old.cache.metrics ≡ []) × Stays self.old self.new) }
         ensures fewer { IfOk result (λ picked. IfSome picked (λ path. length self.new.cache.metrics < length self.old.cache.metrics)) }
         ensures pending { OnErr result (self.new.cache ≡ self.old.cache) }
         ensures memory { IsErrOf result RingFault.NoMemory → Stays self.old self.new }
         ensures same { SameShard self.old self.new }
         ensures frame { CountsFaults D.Disk self.old.disk self.new.disk (IsErrOf result RingFault.DiskFault) }
     {
-        if self.cache.metrics() == 0 {
-            return Ok(None);
-        }
-        self.file_first(now)?;
-        let (path, _points) = self.cache.take(0);
+        let place = match self.picker.pick(&self.cache)? {
+            Some(place) => place,
+            None => return Ok(None),
+        };
+        let _ = self.cache.metrics();
+        self.file(place, now)?;
+        let (path, _points) = self.cache.take(place);
+        self.picker.settle();
         self.given.forget(&path);
         Ok(Some(path))
     }
 
-    // Puts the points of the metric that comes first into its ring file. They stay pending.
-    fn file_first(&mut self, now: u32) -> Result<(), RingFault>
-        requires { 0 < length self.old.cache.metrics }
-        ensures files { OnOk result (FilesFirst self.old self.new now) }
-        ensures pending { self.new.cache ≡ self.old.cache }
+    // Puts the points of the metric at a place into its ring file. They stay pending.
+    fn file(&mut self, place: usize, now: u32) -> Result<(), RingFault>
+        requires { place < length self.old.cache.metrics }
+        ensures files { OnOk result ((path : List ℕ) → slice_get (paths_of self.old.cache.metrics) place ≡ Some path → FilesPath self.old self.new path now) }
+        ensures pending { (self.new.cache ≡ self.old.cache) × (self.new.picker ≡ self.old.picker) }
         ensures memory { IsErrOf result RingFault.NoMemory → Stays self.old self.new }
         ensures same { SameShard self.old self.new }
         ensures frame { CountsFaults D.Disk self.old.disk self.new.disk (IsErrOf result RingFault.DiskFault) }
     {
-        let path = self.cache.path(0);
-        let points = self.cache.points(0);
+        let _ = self.cache.metrics();
+        let path = self.cache.path(place);
+        let points = self.cache.points(place);
         match self.layouts.get(path) {
             Some(layout) => drain_file(
                 self.alloc,
@@ -158,8 +169,7 @@ impl<D: Disk> Shard<D> {
         requires here { class_of path.now ≡ self.old.class }
         requires order { ends.0 ≤ ends.1 }
         requires now { now ≤ 4_000_000_000 }
-        ensures shows { IfOk result (Shows self.old.class self.old.given self.old.cache self.old.layouts (D.image self.old.disk)
-            path.now now ends.0 ends.1) }
+        ensures shows { IfOk result (Shows (inside_of self.old) path.now now ends.0 ends.1) }
         ensures fits { IfOk result (λ series. IfSome series EndsInTime) }
         ensures stays { Stays self.old self.new }
         ensures same { SameShard self.old self.new × (self.new.cache ≡ self.old.cache) }

@@ -59,8 +59,7 @@ impl<D: Disk> Shards<D> {
         self.items[path.class() as usize].show(path, ends, now)
     }
 
-    /// Drains the metric of a class that got its first pending point before all others, at the moment `now`, as `Shard::drain_whole`
-    /// says. Want of memory changes nothing.
+    /// Drains the metric of a class that goes next, at the moment `now`, as `Shard::drain_whole` says. Want of memory changes nothing.
     pub fn drain_next(&mut self, class: u32, now: u32) -> Result<Option<MetricPath>, RingFault>
         requires { class < 16 }
         ensures drains { IfOk result (λ picked. DrainsAt self.old.items.items self.new.items.items class now picked) }

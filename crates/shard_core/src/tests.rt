@@ -3,6 +3,7 @@ ghost use Rattle.std.specs.Prelude.{◌≡◌, None};
 ghost use Rattle.metric_path.specs.Class.{class_of};
 
 use super::*;
+use drain_order::Strategy;
 use metric_path::MetricPath;
 use outside_io::{Disk, DiskFailed, MemDisk, NamesFault};
 use schema_rules::{RuleFault, Rules};
@@ -11,6 +12,9 @@ use std::test::Fail;
 
 // A file's name, the numbers that it begins with, and its size, up to which it is zero.
 type Held = (&'static str, &'static [u32], usize);
+
+// More points than any test puts.
+const LIMIT: u64 = 1_000_000;
 
 // The head of one archive of 10 points of 60 seconds each; its file has 148 bytes.
 const SOUND: &[u32] = &[1, 600, 500_000, 1, 28, 60, 10];
@@ -51,11 +55,20 @@ fn no_rules(alloc: Global) -> Result<Rules, RuleFault> {
     Rules::read(alloc, b"", b"")
 }
 
+// So many points, drained in order of arrival.
+pub(crate) fn setup(rules: Rules) -> Setup {
+    Setup {
+        rules,
+        limit: LIMIT,
+        strategy: Strategy::Naive,
+    }
+}
+
 // What the start of class 12 finds of a path on a disk.
 fn found(alloc: Global, disk: MemDisk, rules: Rules, path: &MetricPath) -> &'static str
     requires { class_of path.now ≡ 12 }
 {
-    match Shard::start(alloc, 12, disk, rules) {
+    match Shard::start(alloc, 12, disk, rules, LIMIT, Strategy::Naive) {
         Ok(mut shard) => match shard.show(path, (999_999_400, 999_999_999), 1_000_000_000) {
             Ok(Some(_)) => "ring",
             Ok(None) => "none",
@@ -135,7 +148,7 @@ fn heads_of_files(rt: HostRuntime) -> Result<(), Fail> {
 
 // The damaged file that the start of class 12 tells.
 fn damaged_name(alloc: Global, disk: MemDisk, rules: Rules) -> Option<String> {
-    match Shard::start(alloc, 12, disk, rules) {
+    match Shard::start(alloc, 12, disk, rules, LIMIT, Strategy::Naive) {
         Ok(_) => None,
         Err(refusal) => {
             let (_, fault) = refusal;
@@ -202,7 +215,7 @@ fn other_files_are_left_alone(rt: HostRuntime) -> Result<(), Fail> {
         ("a/b.ring", SOUND, 148),
     ];
     let disk = disk_with(alloc, &files)?;
-    let Ok(shard) = Shard::start(alloc, 12, disk, no_rules(alloc)?) else {
+    let Ok(shard) = Shard::start(alloc, 12, disk, no_rules(alloc)?, LIMIT, Strategy::Naive) else {
         panic!(rt; "no file of the class is damaged")
     };
     let mut disk = shard.finish();
@@ -305,7 +318,7 @@ fn a_failed_call_is_counted(rt: HostRuntime) -> Result<(), Fail> {
             call,
             faults: 0,
         };
-        match Shard::start(alloc, 12, disk, no_rules(alloc)?) {
+        match Shard::start(alloc, 12, disk, no_rules(alloc)?, LIMIT, Strategy::Naive) {
             Ok(shard) => assert_eq!(rt; shard.finish().faults(), want),
             Err(refusal) => {
                 let (disk, fault) = refusal;
@@ -358,7 +371,7 @@ fn the_first_class_that_is_refused(rt: HostRuntime) -> Result<(), Fail> {
     for (damaged, class, want) in cases {
         let disks = sixteen_disks(alloc, damaged)?;
         assert!(rt; disks.len() == CLASSES);
-        let Err(refused) = Shards::start(alloc, disks, &no_rules(alloc)?) else {
+        let Err(refused) = Shards::start(alloc, disks, &setup(no_rules(alloc)?)) else {
             panic!(rt; "{want} is damaged")
         };
         let (disks, refusal) = refused;
@@ -378,7 +391,7 @@ fn the_disks_come_back_in_order(rt: HostRuntime) -> Result<(), Fail> {
     let alloc = rt.alloc();
     let disks = sixteen_disks(alloc, &[("x.txt", DAMAGED, 148)])?;
     assert!(rt; disks.len() == CLASSES);
-    let Ok(shards) = Shards::start(alloc, disks, &no_rules(alloc)?) else {
+    let Ok(shards) = Shards::start(alloc, disks, &setup(no_rules(alloc)?)) else {
         panic!(rt; "no file is damaged")
     };
     let disks = shards.finish();

@@ -1,17 +1,18 @@
 use Rattle.std.proofs.Common.{arith}
+use Rattle.shard_core.specs.Opening.{settings_of}
 use Rattle.shard_core.proofs.OpeningLemmas.{handed_back, next_counts, started_more}
 use Rattle.shard_core.proofs.opening.start_each.Goals as goal
 
 pub returns-in-Err-clause-refused : goal.returns-in-Err-clause-refused
 returns-in-Err-clause-refused g c =
-    handed_back c.args.rules.now c.in-Err.fault c.args.disks.items c.loop-class.disks.items c.start_next.new.disks.items c.hand_back.result.items c.loop-class.items.items c.start_next.new.items.items c.loop-class.class
+    handed_back (settings_of c.args.setup.now) c.in-Err.fault c.args.disks.items c.loop-class.disks.items c.start_next.new.disks.items c.hand_back.result.items c.loop-class.items.items c.start_next.new.items.items c.loop-class.class
     c.loop-class.invariant.started c.loop-class.invariant.rest c.in-Err.ensures.refused c.hand_back.ensures.items (omega (arith, c.loop-class.items.ok.0, c.loop-class.invariant.count))
 
 pub loop-class-preserved : goal.loop-class-preserved
 loop-class-preserved g c =
     let next = c.in-Ok.ensures.starts in
-    let more = started_more c.args.rules.now c.args.disks.items c.loop-class.disks.items c.start_next.new.disks.items c.loop-class.items.items c.start_next.new.items.items c.loop-class.invariant.rest next c.loop-class.invariant.started in
-    let counts = next_counts c.args.rules.now c.loop-class.disks.items c.start_next.new.disks.items c.loop-class.items.items c.start_next.new.items.items next in
+    let more = started_more (settings_of c.args.setup.now) c.args.disks.items c.loop-class.disks.items c.start_next.new.disks.items c.loop-class.items.items c.start_next.new.items.items c.loop-class.invariant.rest next c.loop-class.invariant.started in
+    let counts = next_counts (settings_of c.args.setup.now) c.loop-class.disks.items c.start_next.new.disks.items c.loop-class.items.items c.start_next.new.items.items next in
     record {
       started = more.0;
       rest = more.1;

@@ -1,11 +1,11 @@
 use Rattle.std.proofs.Common.{◌≡◌, ◌+◌, ◌≤◌, length}
 use Rattle.std.specs.Prelude.{drop, vec_capacity, vec_len}
-use Rattle.shard_core.specs.Opening.{AreStarted}
+use Rattle.shard_core.specs.Opening.{AreStarted, settings_of}
 use Rattle.shard_core.proofs.opening.start_each.Given as goal
 
 abbrev pub invariant-loop-class : goal.invariant-loop-class
 invariant-loop-class g l = record {
-  started : AreStarted l.rules l.fn.disks.items l.items.items;
+  started : AreStarted (settings_of l.setup) l.fn.disks.items l.items.items;
   rest : l.disks.items ≡ drop (length l.items.items) l.fn.disks.items;
   count : vec_len l.items ≡ l.class;
   left : vec_len l.disks + l.class ≡ 16;

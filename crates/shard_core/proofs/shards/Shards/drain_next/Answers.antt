@@ -5,7 +5,7 @@ pub returns-clause-drains : goal.returns-clause-drains
 returns-clause-drains g c =
     let within = below _ _ c.args.self.now.all c.requires in
     let there = at_place c.args.self.now.items.items c.args.class c.index_mut.result.now _ within c.index_mut.ensures.value in
-    drains_next c.drain_whole.result c.args.self.now.items.items c.args.class c.index_mut.result.now c.drain_whole.new.self c.args.now within c.args.self.now.classes there c.drain_whole.ensures.same.class c.drain_whole.ensures.same.given
+    drains_next c.drain_whole.result c.args.self.now.items.items c.args.class c.index_mut.result.now c.drain_whole.new.self c.args.now within c.args.self.now.classes there
     c.drain_whole.ensures.drains c.drain_whole.ensures.idle
 
 pub returns-clause-memory : goal.returns-clause-memory

@@ -1,4 +1,5 @@
 use Rattle.std.proofs.Common.{◌≡◌, arith, length}
+use Rattle.shard_core.specs.Opening.{settings_of}
 use Rattle.shard_core.proofs.DrainedLemmas.{if_ok_more}
 use Rattle.shard_core.proofs.OpeningLemmas.{if_err_both, refuses_all, starts_all}
 use Rattle.shard_core.proofs.shards.Shards.start.Goals as goal
@@ -7,7 +8,7 @@ pub returns-in-Ok-clause-starts : goal.returns-in-Ok-clause-starts
 returns-in-Ok-clause-starts g c =
     let all : length c.args.disks.items ≡ 16 = omega (arith, c.requires, c.args.disks.ok.0) in
     if_ok_more c.start_each.result _ _ c.start_each.ensures.opens (λ shards started.
-    starts_all c.args.rules.now c.args.disks.items shards.items.items all shards.all started)
+    starts_all (settings_of c.args.setup.now) c.args.disks.items shards.items.items all shards.all started)
 
 pub returns-in-Ok-clause-refused : goal.returns-in-Ok-clause-refused
 returns-in-Ok-clause-refused g c =
