@@ -1,0 +1,5 @@
+mod CoverLemmas
+mod FaultLemmas
+mod FlagLemmas
+mod PartLemmas
+mod PositionLemmas
