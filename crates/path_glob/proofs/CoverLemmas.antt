@@ -57,14 +57,14 @@ pub plain_itself : (text bytes : List ℕ) → IsPlain text → bytes ≡ text �
 plain_itself text bytes plain is = rw (is, pieces_of_plain text plain) (itself text)
 
 -- a text has a node
-nodes_never_none : (text : List ℕ) → 0 < length (nodes_of text)
+pub nodes_never_none : (text : List ℕ) → 0 < length (nodes_of text)
 nodes_never_none text = omega (arith, length-slice_split is_dot text)
 
-none_fits : (globs : List (List ℕ)) → 0 < length globs → Fits (map pieces_of globs) [] → ⊥
+pub none_fits : (globs : List (List ℕ)) → 0 < length globs → Fits (map pieces_of globs) [] → ⊥
 none_fits [] some fits = omega arith
 none_fits (glob ∷ globs) some fits = fits
 
-fits_none : (nodes : List (List ℕ)) → 0 < length nodes → Fits [] nodes → ⊥
+pub fits_none : (nodes : List (List ℕ)) → 0 < length nodes → Fits [] nodes → ⊥
 fits_none [] some fits = omega arith
 fits_none (node ∷ nodes) some fits = fits
 
@@ -106,10 +106,10 @@ last_of_one pieces nodes node answer is tells = (
   λ fits. tells.1 (subst (λ (l : List (List ℕ)). Fits (pieces ∷ []) l) is fits).0,
 )
 
-abbrev FitsParts : List (List ℕ) → List (List ℕ) → Type 0
+abbrev pub FitsParts : List (List ℕ) → List (List ℕ) → Type 0
 FitsParts globs nodes = Fits (map pieces_of globs) nodes
 
-moved : (gs gs' ns ns' : List (List ℕ)) → gs ≡ gs' → ns ≡ ns' → FitsParts gs ns → FitsParts gs' ns'
+pub moved : (gs gs' ns ns' : List (List ℕ)) → gs ≡ gs' → ns ≡ ns' → FitsParts gs ns → FitsParts gs' ns'
 moved gs gs' ns ns' e f fits = subst (λ (l : List (List ℕ)). FitsParts l ns') e (subst (λ (l : List (List ℕ)). FitsParts gs l) f fits)
 
 -- what is left of a glob and a path fits exactly where this holds

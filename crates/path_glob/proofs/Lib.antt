@@ -1,5 +1,6 @@
 mod CoverLemmas
 mod FaultLemmas
+mod FirstLemmas
 mod FlagLemmas
 mod PartLemmas
 mod PositionLemmas

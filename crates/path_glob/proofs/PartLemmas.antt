@@ -61,10 +61,10 @@ part_at mark before after none = slice_split_at (λ b. b == mark) before mark af
 pub part_nowhere : (mark : ℕ) (text : List ℕ) → HasNone mark text → slice_split (λ b. b == mark) text ≡ text ∷ []
 part_nowhere mark text none = slice_split_none (λ b. b == mark) text none
 
-first_differs : (mark b : ℕ) (text : List ℕ) → HasNone mark (b ∷ text) → (b == mark) ≡ false
+pub first_differs : (mark b : ℕ) (text : List ℕ) → HasNone mark (b ∷ text) → (b == mark) ≡ false
 first_differs mark b text none = All-head (λ x. (x == mark) ≡ false) b text none
 
-others_differ : (mark b : ℕ) (text : List ℕ) → HasNone mark (b ∷ text) → HasNone mark text
+pub others_differ : (mark b : ℕ) (text : List ℕ) → HasNone mark (b ∷ text) → HasNone mark text
 others_differ mark b text none = All-tail (λ x. (x == mark) ≡ false) b text none
 
 onto : (seen text : List ℕ) (b : ℕ) → (seen ++ b ∷ []) ++ text ≡ seen ++ b ∷ text

@@ -176,11 +176,11 @@ adds_last value node old a b adds j within = (
 )
 
 -- simple pieces alone
-row_alone : (row : List Simple) (bytes : List ℕ) → RowCovers row bytes → NodeCovers (map Plain row) bytes
+pub row_alone : (row : List Simple) (bytes : List ℕ) → RowCovers row bytes → NodeCovers (map Plain row) bytes
 row_alone [] bytes is = is
 row_alone (piece ∷ row) bytes (front, rest, is, first, others) = (front, rest, is, first, row_alone row rest others)
 
-alone_row : (row : List Simple) (bytes : List ℕ) → NodeCovers (map Plain row) bytes → RowCovers row bytes
+pub alone_row : (row : List Simple) (bytes : List ℕ) → NodeCovers (map Plain row) bytes → RowCovers row bytes
 alone_row [] bytes is = is
 alone_row (piece ∷ row) bytes (front, rest, is, first, others) = (front, rest, is, first, alone_row row rest others)
 

@@ -12,15 +12,19 @@ is_comma b = b == 44
 abbrev pub is_special : ℕ → Bool
 is_special b = b == 42 || (b == 63 || (b == 91 || b == 123))
 
+-- the bytes from the one to the other
+abbrev pub range : ℕ → ℕ → Range
+range a b = record { first = a; last = b }
+
 -- the range of one byte
 abbrev pub only : ℕ → Range
-only b = record { first = b; last = b }
+only b = range b b
 
 -- The members of a list, read from the left: a byte, a `-` and a further byte are a range, and any other
 -- byte is itself.
 abbrev pub ranges_of : List ℕ → List Range
 ranges_of (a ∷ dash ∷ b ∷ rest) =
-    if dash == 45 then record { first = a; last = b } ∷ ranges_of rest else only a ∷ ranges_of (dash ∷ b ∷ rest)
+    if dash == 45 then range a b ∷ ranges_of rest else only a ∷ ranges_of (dash ∷ b ∷ rest)
 ranges_of (a ∷ b ∷ []) = only a ∷ only b ∷ []
 ranges_of (a ∷ []) = only a ∷ []
 ranges_of [] = []

@@ -1,9 +1,10 @@
 //! Whether the pieces of a glob cover the nodes of a path.
-ghost use Rattle.std.specs.Prelude.{◌≡◌, ◌↔◌, ◌≤◌, ◌∷◌, [], IsTrue, None, true, length, nat_le, position};
+ghost use Rattle.std.specs.Prelude.{◌≡◌, ◌↔◌, ◌<◌, ◌≤◌, IfSome, ◌∷◌, [], IsTrue, None, true, length, nat_le, position};
 ghost use Rattle.std.specs.List.{list_all};
 ghost use Rattle.metric_path.specs.Path.{nodes_of, path_fault};
 ghost use Rattle.path_glob.specs.Glob.{Fits, NodeCovers, RowCovers, SomeCovers};
 ghost use Rattle.path_glob.specs.Reading.{globs_of, is_special, pieces_of, row_of, values_of};
+ghost use Rattle.path_glob.specs.Laws.{literal_front};
 ghost use Rattle.path_glob.specs.Positions.{Leads, held};
 
 use crate::cut::{cut_at, next_braces, next_piece};
@@ -51,9 +52,20 @@ fn node_fits(pieces: &[u8], node: &[u8]) -> bool
     }
 }
 
-/// Where the first wildcard, bracket or brace stands.
-pub(crate) fn special_in(pieces: &[u8]) -> Option<usize>
-    ensures { result ≡ position is_special pieces.now }
+/// What stands before the first wildcard, bracket or brace.
+pub(crate) fn literal_front(text: &[u8]) -> &[u8]
+    ensures { result.now ≡ literal_front text.now }
+{
+    match special_in(text) {
+        Some(at) => return &text[..at],
+        None => return text,
+    }
+}
+
+// Where the first wildcard, bracket or brace stands.
+fn special_in(pieces: &[u8]) -> Option<usize>
+    ensures value { result ≡ position is_special pieces.now }
+    ensures within { IfSome result (λ at. at < length pieces.now) }
 {
     pieces.iter().position(|b| is_special(*b))
 }

@@ -2,7 +2,7 @@
 ghost use Rattle.std.specs.Prelude.{◌≡◌};
 
 use crate::check::fault_of;
-use crate::cover::text_fits;
+use crate::cover::{literal_front, text_fits};
 use crate::fault::GlobFault;
 use metric_path::MetricPath;
 use std::alloc::Global;
@@ -26,10 +26,11 @@ impl Model for Glob {
 }
 
 impl Glob {
-    ghost use Rattle.std.specs.Prelude.{◌≡◌, ◌≢◌, ◌↔◌, IsTrue, None, Ok, Err};
+    ghost use Rattle.std.specs.Prelude.{◌≡◌, ◌≢◌, ◌↔◌, ℕ, List, IsTrue, None, Ok, Err};
     ghost use Rattle.metric_path.specs.Path.{nodes_of};
     ghost use Rattle.path_glob.specs.Faults.{glob_fault, legal_glob, said_by};
     ghost use Rattle.path_glob.specs.Glob.{Fits};
+    ghost use Rattle.path_glob.specs.Laws.{BeginsWith, literal_front};
     ghost use Rattle.path_glob.specs.declared.fault.GlobFault.TheVariants.{NoMemory};
 
     /// The glob with this text, or the text's first fault.
@@ -56,11 +57,20 @@ impl Glob {
     }
 
     /// Whether the glob fits a path: both have the same number of nodes, and the pieces of each node of the
-    /// glob cover the path's node. The work is at most the product of the bytes of a glob's node and of the
-    /// path's, whatever the glob. No memory is taken.
+    /// glob cover the path's node. Each byte of the glob is one step for each place in the path's node, of
+    /// which there are at most 241, whatever the glob. No memory is taken.
     pub fn matches(&self, path: &MetricPath) -> bool
         ensures { IsTrue result ↔ Fits self.now.nodes (nodes_of path.now) }
     {
         text_fits(self.text.as_slice(), path.text())
+    }
+
+    /// The bytes before the first wildcard, bracket or brace: all paths that the glob fits begin with them.
+    pub fn literal_front(&self) -> &[u8]
+        ensures value { result.now ≡ literal_front self.now.text }
+        ensures fits { (path : List ℕ) → Fits self.now.nodes (nodes_of path)
+            → BeginsWith result.now path }
+    {
+        literal_front(self.text.as_slice())
     }
 }

@@ -15,10 +15,15 @@ mod cover;
 mod cut;
 mod fault;
 mod glob;
+mod laws;
 mod positions;
 
 pub use fault::GlobFault;
 pub use glob::Glob;
+pub use laws::{
+    braces_stand_for_their_values, bytes_stand_for_themselves, dashes_make_ranges,
+    lists_stand_for_one_byte, values_are_closed, wildcards_stay_within_a_node,
+};
 
 #[cfg(test)]
 mod tests;

@@ -16,6 +16,6 @@ pub returns-in-None : goal.returns-in-None
 returns-in-None c =
     let pieces = c.args.pieces.now in
     let node = c.args.node.now in
-    let plain = plain_where_none pieces (sym c.special_in.ensures ∙ c.in-None.is) in
+    let plain = plain_where_none pieces (sym c.special_in.ensures.value ∙ c.in-None.is) in
     let decides = bytes_eq-Decides pieces node in
     (λ is. plain_itself pieces node plain (sym (decides.0 (sym c.eq.ensures ∙ is))), λ covers. c.eq.ensures ∙ decides.1 (sym (plain_covers pieces node plain covers)))
