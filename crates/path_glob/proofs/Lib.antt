@@ -2,5 +2,6 @@ mod CoverLemmas
 mod FaultLemmas
 mod FirstLemmas
 mod FlagLemmas
+mod OrderLemmas
 mod PartLemmas
 mod PositionLemmas

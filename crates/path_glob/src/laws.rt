@@ -1,8 +1,11 @@
 //! What globs fit, piece by piece from the left. The functions do nothing: what they ensure is the law.
-ghost use Rattle.std.specs.Prelude.{◌≡◌, ◌↔◌, ◌==◌, ℕ, List, [], ◌∷◌, ◌++◌, All, false, codes};
+ghost use Rattle.std.specs.Prelude.{◌≡◌, ◌≢◌, ◌↔◌, ◌==◌, ℕ, List, [], ◌∷◌, ◌++◌, All, false, codes};
+ghost use Rattle.std.specs.Cmp.Lexicographic.{slice_cmp};
 ghost use Rattle.std.specs.List.{slice_split};
+ghost use Rattle.std.specs.Ordering.{nat_cmp};
+ghost use Rattle.std.specs.declared.cmp.Ordering.TheVariants.{Less};
 ghost use Rattle.path_glob.specs.Glob.{Range};
-ghost use Rattle.path_glob.specs.Laws.{AreBytes, DotThen, FirstThen, FitsPath, FitsSome, IsByte, IsClosed, IsMember, IsOneByte};
+ghost use Rattle.path_glob.specs.Laws.{AreBytes, BeginsWith, DotThen, FirstThen, FitsPath, FitsSome, IsByte, IsClosed, IsMember, IsOneByte};
 ghost use Rattle.path_glob.specs.Parts.{HasNone};
 ghost use Rattle.path_glob.specs.Reading.{is_comma, is_special, members_of, only, range};
 
@@ -53,4 +56,13 @@ pub fn values_are_closed()
         → HasNone 46 members → HasNone 93 members → HasNone 123 members
         → IsClosed (91 ∷ (members ++ 93 ∷ [])) }
     ensures both { (first value : List ℕ) → IsClosed first → IsClosed value → IsClosed (first ++ value) }
+{}
+
+/// In byte order the texts that begin with a front stand together, from the front on: none is below it, and
+/// none stands behind a text above it that does not begin with it.
+pub fn texts_with_one_front_stand_together()
+    ensures from { (front rest : List ℕ) → slice_cmp nat_cmp (front ++ rest) front ≢ Less }
+    ensures to { (front text later : List ℕ) → slice_cmp nat_cmp text front ≢ Less
+        → (BeginsWith front text → ⊥) → slice_cmp nat_cmp later text ≢ Less
+        → BeginsWith front later → ⊥ }
 {}
