@@ -1,0 +1,7 @@
+mod CoverLemmas
+mod FaultLemmas
+mod FirstLemmas
+mod FlagLemmas
+mod OrderLemmas
+mod PartLemmas
+mod PositionLemmas

@@ -1,0 +1,32 @@
+#![tactic(auto)]
+//! Globs over metric paths, with wildcards that work within one node, as `servers.web[1-4].{cpu,mem*}`.
+//!
+//! A glob has at most 4,096 bytes. It is nodes joined by dots, and a node is one or more pieces:
+//!
+//! - a byte that a node of a path may hold, which stands for itself;
+//! - `*`, any row of bytes, and `?`, any one byte;
+//! - `[` members `]`, one byte of the list: members are bytes that a node of a path may hold, and ranges
+//!   as `a-f`. The first member is no `!`. A first `-`, and one directly before the `]`, is itself;
+//! - `{` values `}`, one of the values, which commas separate: each is a row of the pieces above, and may
+//!   have none.
+
+mod check;
+mod cover;
+mod cut;
+mod fault;
+mod glob;
+mod laws;
+mod positions;
+#[cfg(test)]
+mod slow;
+
+pub use fault::GlobFault;
+pub use glob::Glob;
+pub use laws::{
+    braces_stand_for_their_values, bytes_stand_for_themselves, dashes_make_ranges,
+    lists_stand_for_one_byte, texts_with_one_front_stand_together, values_are_closed,
+    wildcards_stay_within_a_node,
+};
+
+#[cfg(test)]
+mod tests;
