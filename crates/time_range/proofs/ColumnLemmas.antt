@@ -1,0 +1,162 @@
+-- Numbers of any length, digit by digit.
+use Rattle.std.proofs.Common.{cond, ◌≡◌, ℕ, zero, suc, ◌+◌, ◌-◌, ◌*◌, ◌^◌, ◌<◌, ◌≤◌, min, nat_lt, Bool, true, false, ◌⊎◌, inl, inr, List, [], ◌∷◌, length, take, drop, get_or, slice_index, length-take, Option, Some, None, option_map, option_and_then, refl, sym, ap, subst, ◌∙◌, arith, rules, ◌==◌}
+use Rattle.std.specs.Char.{is_ascii_digit}
+use Rattle.std.specs.List.{list_all}
+use Rattle.std.specs.Option.{unwrap_or}
+use Rattle.std.specs.Str.Parse.{digits_value}
+use Rattle.std.proofs.lemmas.Bool.{cases_lt, lt-ltb}
+use Rattle.std.proofs.lemmas.Bool.Decides.{nat_tests}
+use Rattle.std.proofs.lemmas.List.{take_all}
+use Rattle.std.specs.List.{position_or_len}
+use Rattle.fixed_num.proofs.DigitLemmas.{number_more}
+use Rattle.time_range.specs.Columns.{column, digit_at, front, fronts, kept, span_column, unit_in}
+use Rattle.time_range.specs.Spans.{digits_of, ends_span, first_length, in_front, is_no_digit, seconds_of, span_seconds, spans_of, total_of, unit_of}
+use Rattle.time_range.specs.TimeUnits.{unit_seconds}
+use Rattle.time_range.proofs.SpanLemmas.{digits_are_digits, first_is_cut}
+
+-- ---- one digit more
+
+front_at : (digits : List ℕ) (place : ℕ) → list_all is_ascii_digit digits ≡ true → (place < length digits) ⊎ (length digits ≤ place)
+    → front place digits ≡ front (place + 1) digits * 10 + digit_at place digits
+unfolding digit_at
+front_at ds place digits (inl h) =
+    let next : length ds - place ≡ length ds - (place + 1) + 1 = omega arith in
+    let more = number_more ds (length ds - (place + 1)) digits (omega arith) in
+    rw (lt-ltb place (length ds) h, next) more
+front_at ds place digits (inr h) =
+    let here : length ds - place ≡ 0 = omega arith in
+    let next : length ds - (place + 1) ≡ 0 = omega arith in
+    let over : nat_lt place (length ds) ≡ false = grind (arith, nat_tests) in
+    rw (here, next, over) refl
+
+pub front_more : (digits : List ℕ) (place : ℕ) → list_all is_ascii_digit digits ≡ true → front place digits ≡ front (place + 1) digits * 10 + digit_at place digits
+front_more ds place digits = front_at ds place digits (cases_lt place (length ds))
+
+spread : (u f d rest c : ℕ) → u * (f * 10 + d) + (rest * 10 + c) ≡ (u * f + rest) * 10 + (u * d + c)
+spread u f d rest c = omega arith
+
+pub fronts_more : (spans : List (List ℕ)) (place : ℕ) → fronts place spans ≡ fronts (place + 1) spans * 10 + column place spans
+unfolding fronts column span_column
+fronts_more [] place = refl
+fronts_more (span ∷ spans) place =
+    rw (front_more (digits_of span) place (digits_are_digits span), fronts_more spans place)
+    (spread (unit_in span) (front (place + 1) (digits_of span)) (digit_at place (digits_of span)) (fronts (place + 1) spans) (column place spans))
+
+kept_more_by : (x y d c : ℕ) → d ≤ 9 → c ≤ 2 ^ 95 → min (kept x y * 10 + d - (c + 9 * 2 ^ 100)) (2 ^ 101) ≡ kept (x * 10 + d) (y * 10 + c)
+kept_more_by x y d c few small = omega arith
+
+pub kept_more : (digits : List ℕ) (spans : List (List ℕ)) (place : ℕ) → list_all is_ascii_digit digits ≡ true → digit_at place digits ≤ 9 → column place spans ≤ 2 ^ 95
+    → min (kept (front (place + 1) digits) (fronts (place + 1) spans) * 10 + digit_at place digits - (column place spans + 9 * 2 ^ 100)) (2 ^ 101) ≡ kept (front place digits) (fronts place spans)
+kept_more ds spans place digits few small =
+    kept_more_by (front (place + 1) ds) (fronts (place + 1) spans) (digit_at place ds) (column place spans) few small
+    ∙ rw (front_more ds place digits, fronts_more spans place) refl
+
+-- ---- in front of all digits
+
+pub front_none : (digits : List ℕ) (place : ℕ) → length digits ≤ place → front place digits ≡ 0
+front_none ds place h =
+    let none : length ds - place ≡ 0 = omega arith in
+    rw none refl
+
+pub front_all : (digits : List ℕ) → front 0 digits ≡ digits_value 10 digits
+front_all ds = ap (digits_value 10) (take_all (length ds - 0) ds (omega arith))
+
+abbrev AreWithin : ℕ → List (List ℕ) → Type 0
+AreWithin n [] = Unit {0}
+AreWithin n (span ∷ spans) = (length span ≤ n) × AreWithin n spans
+
+within_more : (n : ℕ) (spans : List (List ℕ)) → AreWithin n spans → AreWithin (n + 1) spans
+within_more n [] within = tt
+within_more n (span ∷ spans) (own, others) = (omega arith, within_more n spans others)
+
+front_within : (b n : ℕ) (spans : List (List ℕ)) → AreWithin n spans → AreWithin (n + 1) (in_front b spans)
+front_within b n [] within = (omega arith, tt)
+front_within b n (span ∷ spans) (own, others) = (omega arith, within_more n spans others)
+
+after : (n : ℕ) → n + 1 ≡ suc n
+after n = omega arith
+
+spans_within : (text : List ℕ) → AreWithin (length text) (spans_of text)
+unfolding spans_of
+spans_within [] = tt
+spans_within (b ∷ bs) = by (ends_span b bs) (spans_within bs)
+  where
+    by : (t : Bool) → AreWithin (length bs) (spans_of bs) → AreWithin (suc (length bs)) (cond t ((b ∷ []) ∷ spans_of bs) (in_front b (spans_of bs)))
+    by true within = subst (λ (n : ℕ). AreWithin n ((b ∷ []) ∷ spans_of bs)) (after (length bs)) (omega arith, within_more (length bs) (spans_of bs) within)
+    by false within = subst (λ (n : ℕ). AreWithin n (in_front b (spans_of bs))) (after (length bs)) (front_within b (length bs) (spans_of bs) within)
+
+fronts_none : (spans : List (List ℕ)) (place n : ℕ) → AreWithin n spans → n ≤ place → fronts place spans ≡ 0
+unfolding fronts
+fronts_none [] place n within h = refl
+fronts_none (span ∷ spans) place n (own, others) h =
+    let few : length (digits_of span) ≤ place = omega (arith, length-take (position_or_len is_no_digit span) span) in
+    rw (front_none (digits_of span) place few, fronts_none spans place n others h) (omega arith)
+
+pub kept_start : (digits text : List ℕ) (place : ℕ) → length digits ≤ place → length text ≤ place → 2 ^ 100 ≡ kept (front place digits) (fronts place (spans_of text))
+kept_start ds text place h k = rw (front_none ds place h, fronts_none (spans_of text) place (length text) (spans_within text) k) (omega arith)
+
+pub kept_step : (digits : List ℕ) (spans : List (List ℕ)) (place : ℕ) → 0 < place → list_all is_ascii_digit digits ≡ true → digit_at (place - 1) digits ≤ 9 → column (place - 1) spans ≤ 2 ^ 95
+    → min (kept (front place digits) (fronts place spans) * 10 + digit_at (place - 1) digits - (column (place - 1) spans + 9 * 2 ^ 100)) (2 ^ 101) ≡ kept (front (place - 1) digits) (fronts (place - 1) spans)
+kept_step ds spans place some digits few small =
+    let next : place - 1 + 1 ≡ place = omega arith in
+    rw next at (kept_more ds spans (place - 1) digits few small)
+
+-- what a step of the reading makes of what is kept
+pub kept_next : (digits : List ℕ) (spans : List (List ℕ)) (place k d c : ℕ) → 0 < place → list_all is_ascii_digit digits ≡ true
+    → k ≡ kept (front place digits) (fronts place spans) → d ≡ digit_at (place - 1) digits → d ≤ 9 → c ≡ column (place - 1) spans → c ≤ 2 ^ 95
+    → min (k * 10 + d - (c + 9 * 2 ^ 100)) (2 ^ 101) ≡ kept (front (place - 1) digits) (fronts (place - 1) spans)
+kept_next ds spans place k d c some digits ke de few ce small =
+    rw (ke, de, ce) (kept_step ds spans place some digits (omega (arith, de, few)) (omega (arith, ce, small)))
+
+pub kept_end : (digits : List ℕ) (spans : List (List ℕ)) (place : ℕ) → place ≡ 0 → kept (front place digits) (fronts place spans) ≡ kept (digits_value 10 digits) (fronts 0 spans)
+kept_end ds spans place none = rw (none, front_all ds) refl
+
+-- ---- a column of spans
+
+pub column_more : (place : ℕ) (text : List ℕ) → 0 < length text
+    → column place (spans_of text) ≡ span_column place (take (first_length text) text) + column place (spans_of (drop (first_length text) text))
+unfolding column
+column_more place text h = ap (column place) (first_is_cut text h)
+
+pub column_none : (place : ℕ) (text : List ℕ) → length text ≡ 0 → column place (spans_of text) ≡ 0
+unfolding column spans_of
+column_none place [] e = refl
+column_none place (b ∷ bs) e = absurd (omega arith)
+
+-- ---- the seconds of spans, from all their digits
+
+found_seconds : (none : Bool) (number a : ℕ) (unit : Option ℕ) → cond none None (option_map (λ u. number * u) unit) ≡ Some a → a ≡ unwrap_or unit 0 * number
+found_seconds true number a unit e = absurd cc
+found_seconds false number a None e = absurd cc
+found_seconds false number a (Some u) e =
+    let same : a ≡ number * u = cc in
+    omega (arith, same)
+
+span_is_front : (span : List ℕ) (a : ℕ) → span_seconds span ≡ Some a → a ≡ unit_in span * front 0 (digits_of span)
+unfolding span_seconds
+span_is_front span a e =
+    rw (front_all (digits_of span)) (found_seconds (length (digits_of span) == 0) (digits_value 10 (digits_of span)) a (unit_seconds (unit_of span)) e)
+
+summed : (s : ℕ) (own others : Option ℕ) (f g : ℕ) → ((a : ℕ) → own ≡ Some a → a ≡ f) → ((m : ℕ) → others ≡ Some m → m ≡ g)
+    → option_and_then (λ seconds. option_map (λ more. seconds + more) others) own ≡ Some s → s ≡ f + g
+summed s None others f g first rest e = absurd cc
+summed s (Some a) None f g first rest e = absurd cc
+summed s (Some a) (Some m) f g first rest e =
+    let sum : s ≡ a + m = cc in
+    omega (arith, sum, first a refl, rest m refl)
+
+total_is_fronts : (spans : List (List ℕ)) (s : ℕ) → total_of spans ≡ Some s → s ≡ fronts 0 spans
+unfolding total_of fronts
+total_is_fronts [] s e =
+    let none : s ≡ 0 = cc in
+    none
+total_is_fronts (span ∷ spans) s e =
+    summed s (span_seconds span) (total_of spans) (unit_in span * front 0 (digits_of span)) (fronts 0 spans) (span_is_front span) (total_is_fronts spans) e
+
+found_total : (none : Bool) (s : ℕ) (total : Option ℕ) → cond none None total ≡ Some s → total ≡ Some s
+found_total true s total e = absurd cc
+found_total false s total e = e
+
+pub seconds_are_fronts : (text : List ℕ) (s : ℕ) → seconds_of text ≡ Some s → s ≡ fronts 0 (spans_of text)
+unfolding seconds_of
+seconds_are_fronts text s e = total_is_fronts (spans_of text) s (found_total (length text == 0) s (total_of (spans_of text)) e)

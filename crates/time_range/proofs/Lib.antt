@@ -1,0 +1,4 @@
+pub mod ColumnLemmas
+pub mod DateLemmas
+pub mod SpanLemmas
+pub mod TimeLemmas

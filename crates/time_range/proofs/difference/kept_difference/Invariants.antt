@@ -1,0 +1,10 @@
+use Rattle.std.proofs.Common.{◌≡◌}
+use Rattle.time_range.specs.Columns.{front, fronts, kept}
+use Rattle.time_range.specs.Spans.{spans_of}
+use Rattle.time_range.proofs.difference.kept_difference.Given as goal
+
+abbrev pub invariant-loop-place : goal.invariant-loop-place
+invariant-loop-place l = l.kept ≡ kept (front l.place l.digits) (fronts l.place (spans_of l.spans))
+
+abbrev pub decreases-loop-place : goal.decreases-loop-place
+decreases-loop-place l = l.place
