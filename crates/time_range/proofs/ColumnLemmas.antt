@@ -1,5 +1,5 @@
 -- Numbers of any length, digit by digit.
-use Rattle.std.proofs.Common.{cond, ◌≡◌, ℕ, zero, suc, ◌+◌, ◌-◌, ◌*◌, ◌^◌, ◌<◌, ◌≤◌, min, nat_lt, Bool, true, false, ◌⊎◌, inl, inr, List, [], ◌∷◌, length, take, drop, get_or, slice_index, length-take, Option, Some, None, option_map, option_and_then, refl, sym, ap, subst, ◌∙◌, arith, rules, ◌==◌}
+use Rattle.std.proofs.Common.{cond, ◌≡◌, ℕ, zero, suc, ◌+◌, ◌-◌, ◌*◌, ◌^◌, ◌<◌, ◌≤◌, min, nat_lt, Bool, true, false, ◌⊎◌, inl, inr, List, [], ◌∷◌, length, take, drop, get_or, slice_index, length-take, replicate, Option, Some, None, option_map, option_and_then, refl, sym, ap, subst, ◌∙◌, arith, rules, ◌==◌}
 use Rattle.std.specs.Char.{is_ascii_digit}
 use Rattle.std.specs.List.{list_all}
 use Rattle.std.specs.Option.{unwrap_or}
@@ -8,7 +8,8 @@ use Rattle.std.proofs.lemmas.Bool.{cases_lt, lt-ltb}
 use Rattle.std.proofs.lemmas.Bool.Decides.{nat_tests}
 use Rattle.std.proofs.lemmas.List.{take_all}
 use Rattle.std.specs.List.{position_or_len}
-use Rattle.fixed_num.proofs.DigitLemmas.{number_more}
+use Rattle.std.proofs.lemmas.Nat.{mul-le}
+use Rattle.fixed_num.proofs.DigitLemmas.{digit_byte_at, number_more}
 use Rattle.time_range.specs.Columns.{column, digit_at, front, fronts, kept, span_column, unit_in}
 use Rattle.time_range.specs.Spans.{digits_of, ends_span, first_length, in_front, is_no_digit, seconds_of, span_seconds, spans_of, total_of, unit_of}
 use Rattle.time_range.specs.TimeUnits.{unit_seconds}
@@ -122,6 +123,79 @@ pub column_none : (place : ℕ) (text : List ℕ) → length text ≡ 0 → colu
 unfolding column spans_of
 column_none place [] e = refl
 column_none place (b ∷ bs) e = absurd (omega arith)
+
+digit_none : (digits : List ℕ) (place : ℕ) → length digits ≤ place → digit_at place digits ≡ 0
+unfolding digit_at
+digit_none ds place h =
+    let over : nat_lt place (length ds) ≡ false = grind (arith, nat_tests) in
+    rw over refl
+
+-- sums to which the digits of a span that has any there were put
+pub all_added : (old now digits : List ℕ) (unit from end : ℕ) → min (length digits - from) (length old) ≤ end
+    → ((j : ℕ) → j < end → get_or now j 0 ≡ get_or old j 0 + unit * digit_at (from + j) digits)
+    → ((j : ℕ) → end ≤ j → get_or now j 0 ≡ get_or old j 0)
+    → (k : ℕ) → k < length old → get_or now k 0 ≡ get_or old k 0 + unit * digit_at (from + k) digits
+all_added old now digits unit from end far done left k within =
+    elim (cases_lt k end) [
+      | inl lt ↦ done k lt
+      | inr le ↦
+          let none : digit_at (from + k) digits ≡ 0 = digit_none digits (from + k) (omega arith) in
+          left k le ∙ rw none (omega arith)
+    ]
+
+-- ---- how much a column has at most
+
+digit_within : (digits : List ℕ) (place : ℕ) → list_all is_ascii_digit digits ≡ true → (place < length digits) ⊎ (length digits ≤ place) → digit_at place digits ≤ 9
+unfolding digit_at
+digit_within ds place digits (inl h) =
+    let range = digit_byte_at ds (length ds - (place + 1)) digits (omega arith) in
+    rw (lt-ltb place (length ds) h) (omega (arith, range.1))
+digit_within ds place digits (inr h) = omega (arith, digit_none ds place h)
+
+unit_by : (s m h d w n y : Bool) → unwrap_or (cond s (Some 1) (cond m (Some 60) (cond h (Some 3600) (cond d (Some 86400) (cond w (Some 604800) (cond n (Some 2592000) (cond y (Some 31536000) None))))))) 0 ≤ 31536000
+unit_by true m h d w n y = omega arith
+unit_by false true h d w n y = omega arith
+unit_by false false true d w n y = omega arith
+unit_by false false false true w n y = omega arith
+unit_by false false false false true n y = omega arith
+unit_by false false false false false true y = omega arith
+unit_by false false false false false false true = omega arith
+unit_by false false false false false false false = omega arith
+
+unit_most : (span : List ℕ) → unit_in span ≤ 31536000
+unfolding unit_seconds
+unit_most span = unit_by _ _ _ _ _ _ _
+
+span_column_most : (place : ℕ) (span : List ℕ) → span_column place span ≤ 283824000
+unfolding span_column
+span_column_most place span =
+    omega (arith, mul-le (unit_in span) (digit_at place (digits_of span)) 31536000 9 (unit_most span) (digit_within (digits_of span) place (digits_are_digits span) (cases_lt place (length (digits_of span)))))
+
+columns_most : (place : ℕ) (spans : List (List ℕ)) → column place spans ≤ 283824000 * length spans
+unfolding column
+columns_most place [] = omega arith
+columns_most place (span ∷ spans) = omega (arith, span_column_most place span, columns_most place spans)
+
+front_count : (b : ℕ) (spans : List (List ℕ)) → length (in_front b spans) ≤ length spans + 1
+front_count b [] = omega arith
+front_count b (span ∷ spans) = omega arith
+
+span_count : (text : List ℕ) → length (spans_of text) ≤ length text
+unfolding spans_of
+span_count [] = omega arith
+span_count (b ∷ bs) = by (ends_span b bs) (span_count bs)
+  where
+    by : (t : Bool) → length (spans_of bs) ≤ length bs → length (cond t ((b ∷ []) ∷ spans_of bs) (in_front b (spans_of bs))) ≤ length (b ∷ bs)
+    by true few = omega (arith, few)
+    by false few = omega (arith, few, front_count b (spans_of bs))
+
+pub column_most : (place : ℕ) (text : List ℕ) → column place (spans_of text) ≤ 283824000 * length text
+column_most place text = omega (arith, columns_most place (spans_of text), span_count text)
+
+pub none_at : (n k : ℕ) → get_or (replicate {A = ℕ} n 0) k 0 ≡ 0
+none_at zero k = refl
+none_at (suc n) zero = refl
+none_at (suc n) (suc k) = none_at n k
 
 -- ---- the seconds of spans, from all their digits
 

@@ -2,6 +2,7 @@
 //! seconds since the Unix epoch, and spans such as `-1d`. Nothing here takes memory.
 #![tactic(auto)]
 
+mod columns;
 mod date;
 mod difference;
 mod fault;
