@@ -4,3 +4,5 @@ pub mod SpanOf
 pub mod Dates
 pub mod TimeOf
 pub mod Columns
+pub mod SpanLaws
+pub mod CalendarLaws

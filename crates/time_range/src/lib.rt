@@ -6,12 +6,14 @@ mod columns;
 mod date;
 mod difference;
 mod fault;
+mod laws;
 mod span;
 mod spans;
 mod time;
 mod unit;
 
 pub use fault::TimeFault;
+pub use laws::{dates_are_a_day_apart, spans_add_up};
 pub use span::{Span, read_span};
 pub use time::read_time;
 

@@ -1,4 +1,5 @@
 use super::*;
+use std::alloc::AllocError;
 
 const NOW: u64 = 1_700_000_030;
 
@@ -175,4 +176,21 @@ fn a_late_now_may_be_taken_back(rt: HostRuntime) {
     for (text, moment) in table {
         assert_eq!(rt; read_time(text, u64::MAX), moment);
     }
+}
+
+#[test]
+fn long_numbers_are_read_at_once(rt: HostRuntime) -> Result<(), AllocError> {
+    let alloc = rt.alloc();
+    let nines = "9".repeat(alloc, 100_000)?;
+    let table: [(&str, Result<u64, TimeFault>); 4] = [
+        ("s", Ok(0)),
+        ("s1s", Err(TimeFault::BeforeEpoch)),
+        ("min", Err(TimeFault::BeforeEpoch)),
+        ("sec-", Err(TimeFault::NotTime)),
+    ];
+    for (unit, moment) in table {
+        let text = format!(in alloc; "{nines}-{nines}{unit}")?;
+        assert_eq!(rt; read_time(&text, NOW), moment);
+    }
+    Ok(())
 }
