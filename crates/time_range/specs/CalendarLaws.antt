@@ -1,8 +1,7 @@
 -- Dates follow each other as in the civil calendar, each 86,400 seconds behind the one before.
-use Rattle.std.specs.Prelude.{◌≡◌, ℕ, ◌+◌, ◌*◌, ◌<◌, ◌⊎◌, true, ℤ, pos, ◌+ℤ◌, List, ◌∷◌, ◌++◌, length, Some, codes}
+use Rattle.std.specs.Prelude.{◌≡◌, ℕ, ◌+◌, ◌*◌, ◌<◌, ◌⊎◌, true, ℤ, pos, ◌+ℤ◌, List, ◌∷◌, ◌++◌, length, Some, option_map, codes}
 use Rattle.std.specs.List.{list_all}
 use Rattle.std.specs.Char.{is_ascii_digit}
-use Rattle.std.specs.Option.{IsSome}
 use Rattle.std.specs.Str.Parse.{digits_value}
 use Rattle.jiff_core.specs.Calendar.{days_in_month}
 use Rattle.time_range.specs.Dates.{day_in, is_date, month_in, year_in}
@@ -47,3 +46,21 @@ BeginsWithTheEpoch = (now : ℕ) → moment_of (codes "19700101") now ≡ Some (
 abbrev pub DaysFollow : Type 0
 DaysFollow = (date next : List ℕ) (now : ℕ) → IsDay date → IsDay next → IsDayBehind date next
     → (second : ℤ) × (moment_of date now ≡ Some second) × (moment_of next now ≡ Some (second +ℤ pos 86400))
+
+-- two digits of an hour, and two of a minute
+pub record IsTimeOfDay (hour minute : List ℕ) : Type 0 where
+  pub hour_length : length hour ≡ 2
+  pub hour_digits : list_all is_ascii_digit hour ≡ true
+  pub hour_below : digits_value 10 hour < 24
+  pub minute_length : length minute ≡ 2
+  pub minute_digits : list_all is_ascii_digit minute ≡ true
+  pub minute_below : digits_value 10 minute < 60
+
+-- `HH:MM_YYYYMMDD`
+abbrev pub clock_text : List ℕ → List ℕ → List ℕ → List ℕ
+clock_text hour minute date = hour ++ (58 ∷ (minute ++ (95 ∷ date)))
+
+-- a time of day is so many seconds behind its date
+abbrev pub HoursFollow : Type 0
+HoursFollow = (hour minute date : List ℕ) (now : ℕ) → IsTimeOfDay hour minute → IsDay date
+    → moment_of (clock_text hour minute date) now ≡ option_map (λ second. second +ℤ pos (digits_value 10 hour * 3600 + digits_value 10 minute * 60)) (moment_of date now)
