@@ -1,10 +1,10 @@
 -- Numbers of any length, digit by digit.
-use Rattle.std.proofs.Common.{cond, ◌≡◌, ℕ, zero, suc, ◌+◌, ◌-◌, ◌*◌, ◌^◌, ◌<◌, ◌≤◌, min, nat_lt, Bool, true, false, ◌⊎◌, inl, inr, List, [], ◌∷◌, length, take, drop, get_or, slice_index, length-take, replicate, Option, Some, None, option_map, option_and_then, refl, sym, ap, subst, ◌∙◌, arith, rules, ◌==◌}
+use Rattle.std.proofs.Common.{cond, ◌≡◌, ℕ, zero, suc, ◌+◌, ◌-◌, ◌*◌, ◌^◌, ◌<◌, ◌≤◌, min, nat_lt, Bool, true, false, ◌⊎◌, inl, inr, List, [], ◌∷◌, length, take, drop, get_or, slice_index, length-take, replicate, Option, Some, None, option_map, option_and_then, refl, sym, ap, subst, ◌∙◌, arith, rules, ◌==◌, ◌||◌}
 use Rattle.std.specs.Char.{is_ascii_digit}
 use Rattle.std.specs.List.{list_all}
 use Rattle.std.specs.Option.{unwrap_or}
 use Rattle.std.specs.Str.Parse.{digits_value}
-use Rattle.std.proofs.lemmas.Bool.{cases_lt, lt-ltb}
+use Rattle.std.proofs.lemmas.Bool.{cases_lt, eqb-true, lt-ltb}
 use Rattle.std.proofs.lemmas.Bool.Decides.{nat_tests}
 use Rattle.std.proofs.lemmas.List.{take_all}
 use Rattle.std.specs.List.{position_or_len}
@@ -109,9 +109,6 @@ pub kept_next : (digits : List ℕ) (spans : List (List ℕ)) (place k d c : ℕ
 kept_next ds spans place k d c some digits ke de few ce small =
     rw (ke, de, ce) (kept_step ds spans place some digits (omega (arith, de, few)) (omega (arith, ce, small)))
 
-pub kept_end : (digits : List ℕ) (spans : List (List ℕ)) (place : ℕ) → place ≡ 0 → kept (front place digits) (fronts place spans) ≡ kept (digits_value 10 digits) (fronts 0 spans)
-kept_end ds spans place none = rw (none, front_all ds) refl
-
 -- ---- a column of spans
 
 pub column_more : (place : ℕ) (text : List ℕ) → 0 < length text
@@ -129,6 +126,11 @@ unfolding digit_at
 digit_none ds place h =
     let over : nat_lt place (length ds) ≡ false = grind (arith, nat_tests) in
     rw over refl
+
+-- a span whose digits are all behind a place
+pub none_there : (place : ℕ) (span : List ℕ) → length (digits_of span) ≤ place → span_column place span ≡ 0
+unfolding span_column
+none_there place span h = rw (digit_none (digits_of span) place h) (omega arith)
 
 -- sums to which the digits of a span that has any there were put
 pub all_added : (old now digits : List ℕ) (unit from end : ℕ) → min (length digits - from) (length old) ≤ end
@@ -196,6 +198,44 @@ pub none_at : (n k : ℕ) → get_or (replicate {A = ℕ} n 0) k 0 ≡ 0
 none_at zero k = refl
 none_at (suc n) zero = refl
 none_at (suc n) (suc k) = none_at n k
+
+-- ---- a difference that is out of reach stays there
+
+is_small : (place : ℕ) (text : List ℕ) → length text ≤ 2 ^ 64 → column place (spans_of text) ≤ 2 ^ 95
+is_small place text long = omega (arith, column_most place text, long)
+
+next_kept_is : (digits text : List ℕ) (place k : ℕ) → list_all is_ascii_digit digits ≡ true → length text ≤ 2 ^ 64 → kept (front (suc place) digits) (fronts (suc place) (spans_of text)) ≡ k
+    → kept (front place digits) (fronts place (spans_of text)) ≡ min (k * 10 + digit_at place digits - (column place (spans_of text) + 9 * 2 ^ 100)) (2 ^ 101)
+next_kept_is ds text place k digits long e =
+    let few = digit_within ds place digits (cases_lt place (length ds)) in
+    let next : kept (front (place + 1) ds) (fronts (place + 1) (spans_of text)) ≡ k = rw (after place) e in
+    sym (kept_more ds (spans_of text) place digits few (is_small place text long)) ∙ rw next refl
+
+stays_below : (digits text : List ℕ) (place : ℕ) → list_all is_ascii_digit digits ≡ true → length text ≤ 2 ^ 64 → kept (front place digits) (fronts place (spans_of text)) ≡ 0
+    → kept (front 0 digits) (fronts 0 (spans_of text)) ≡ 0
+stays_below ds text zero digits long e = e
+stays_below ds text (suc place) digits long e =
+    let few = digit_within ds place digits (cases_lt place (length ds)) in
+    stays_below ds text place digits long (next_kept_is ds text place 0 digits long e ∙ omega (arith, few))
+
+stays_above : (digits text : List ℕ) (place : ℕ) → list_all is_ascii_digit digits ≡ true → length text ≤ 2 ^ 64 → kept (front place digits) (fronts place (spans_of text)) ≡ 2 ^ 101
+    → kept (front 0 digits) (fronts 0 (spans_of text)) ≡ 2 ^ 101
+stays_above ds text zero digits long e = e
+stays_above ds text (suc place) digits long e =
+    stays_above ds text place digits long (next_kept_is ds text place (2 ^ 101) digits long e ∙ omega (arith, is_small place text long))
+
+pub kept_settled : (digits text : List ℕ) (place k : ℕ) → list_all is_ascii_digit digits ≡ true → length text ≤ 2 ^ 64 → (k == 0 || k == 2 ^ 101) ≡ true
+    → k ≡ kept (front place digits) (fronts place (spans_of text)) → k ≡ kept (digits_value 10 digits) (fronts 0 (spans_of text))
+kept_settled ds text place k digits long out is = rw (front_all ds) at (by (k == 0) (k == 2 ^ 101) out refl refl)
+  where
+    by : (low high : Bool) → (low || high) ≡ true → (k == 0) ≡ low → (k == 2 ^ 101) ≡ high → k ≡ kept (front 0 ds) (fronts 0 (spans_of text))
+    by true high e below above =
+        let none : k ≡ 0 = eqb-true k 0 below in
+        none ∙ sym (stays_below ds text place digits long (sym is ∙ none))
+    by false true e below above =
+        let most : k ≡ 2 ^ 101 = eqb-true k (2 ^ 101) above in
+        most ∙ sym (stays_above ds text place digits long (sym is ∙ most))
+    by false false e below above = absurd cc
 
 -- ---- the seconds of spans, from all their digits
 

@@ -35,18 +35,21 @@ fn add_span(sums: &mut [u128], span: &[u8], from: usize)
         → slice_index sums.new k ≡ slice_index sums.old k + span_column (from + k) span.now }
 {
     let (digits, unit) = span.split_at(digit_count(span));
-    add_digits(sums, unit_or_none(unit), digits, from);
+    if digits.len() > from {
+        add_digits(sums, unit_or_none(unit), digits, from);
+    }
 }
 
 fn add_digits(sums: &mut [u128], unit: u64, digits: &[u8], from: usize)
     requires sums { (k : ℕ) → k < length sums.old → slice_index sums.old k ≤ 2 ^ 95 }
     requires unit { unit ≤ 31536000 }
     requires digits { list_all is_ascii_digit digits.now ≡ true }
+    requires some { from ≤ length digits.now }
     ensures length { length sums.new ≡ length sums.old }
     ensures each { (k : ℕ) → k < length sums.old
         → slice_index sums.new k ≡ slice_index sums.old k + unit * digit_at (from + k) digits.now }
 {
-    let count = digits.len().saturating_sub(from).min(sums.len());
+    let count = (digits.len() - from).min(sums.len());
     for k in 0..count {
         sums[k] += product(unit, digit_at(digits, from + k));
     }

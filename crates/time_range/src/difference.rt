@@ -1,6 +1,6 @@
 //! Differences of numbers that are longer than the machine's.
 
-ghost use Rattle.std.specs.Prelude.{◌≡◌, ◌≤◌, ◌<◌, ◌+◌, ◌-◌, ◌*◌, ◌^◌, ◌-ℤ◌, ℕ, List, pos, min, true, length, slice_index};
+ghost use Rattle.std.specs.Prelude.{◌≡◌, ◌≤◌, ◌<◌, ◌+◌, ◌-◌, ◌*◌, ◌^◌, ◌-ℤ◌, ◌==◌, ◌||◌, ℕ, List, pos, min, true, length, slice_index};
 ghost use Rattle.std.specs.List.{list_all};
 ghost use Rattle.std.specs.Char.{is_ascii_digit};
 ghost use Rattle.std.specs.Str.Parse.{digits_value};
@@ -13,8 +13,9 @@ use crate::spans::CUT;
 // How many places are summed up in one pass over the spans: so many passes less are made.
 const PLACES: usize = 4_096;
 
-/// A number less the seconds of spans: exactly, or above or below all times where it is. The work
-/// grows with the length of both, and once more so for each 4,096 digits of the longer one.
+/// A number less the seconds of spans: exactly, or above or below all times where it is. It takes
+/// one pass over both where their first digits tell that it is out of reach, and at most one for
+/// each 4,096 places of the longer text.
 pub(crate) fn difference(digits: &[u8], spans: &[u8]) -> i128
     requires { list_all is_ascii_digit digits.now ≡ true }
     ensures { result
@@ -41,12 +42,22 @@ fn kept_difference(digits: &[u8], spans: &[u8], sums: &mut [u128]) -> u128
     let mut place = digits.len().max(spans.len());
     let mut kept = CUT;
     while place > 0 {
+        if is_out_of_reach(kept) {
+            return kept;
+        }
         let from = place.saturating_sub(sums.len());
         sum_columns(sums, spans, from);
         kept = kept_down(kept, digits, sums, from, place);
         place = from;
     }
     kept
+}
+
+// Whether no further digit makes a difference.
+fn is_out_of_reach(kept: u128) -> bool
+    ensures { result ≡ (kept == 0 || kept == 2 ^ 101) }
+{
+    kept == 0 || kept == 2 * CUT
 }
 
 // One further digit of each number at a time, from the place `to` down to `from`.
