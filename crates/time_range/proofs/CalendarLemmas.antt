@@ -1,20 +1,19 @@
 -- The moments of dates.
-use Rattle.std.proofs.Common.{cond, ◌≡◌, ℕ, zero, suc, ◌+◌, ◌-◌, ◌*◌, ◌<◌, ◌≤◌, Bool, true, false, not, ◌&&◌, ◌||◌, ◌==◌, nat_lt, nat_le, ◌⊎◌, inl, inr, ℤ, pos, ◌+ℤ◌, ◌-ℤ◌, ◌*ℤ◌, List, [], ◌∷◌, ◌++◌, length, take, drop, codes, Option, Some, None, option_map, option_and_then, refl, sym, ap, ◌∙◌, arith, rules}
+use Rattle.std.proofs.Common.{◌≡◌, ℕ, ◌+◌, ◌*◌, ◌<◌, ◌≤◌, Bool, true, false, ◌==◌, nat_lt, inl, inr, ℤ, pos, ◌+ℤ◌, ◌*ℤ◌, List, [], ◌∷◌, length, codes, Option, Some, None, option_map, option_and_then, refl, ap, ◌∙◌, arith}
 use Rattle.std.proofs.lemmas.Int.{ints}
 use Rattle.std.specs.Char.{is_ascii_digit}
 use Rattle.std.specs.List.{list_all, position_or_len}
-use Rattle.std.specs.Str.{bytes_eq}
 use Rattle.std.specs.Str.Parse.{digits_value}
 use Rattle.std.proofs.lemmas.Bool.{and_parts, lt-ltb}
 use Rattle.std.proofs.lemmas.Bool.Decides.{nat_tests}
 use Rattle.std.proofs.lemmas.List.{drop_all, take_all}
 use Rattle.std.proofs.lemmas.Slice.Eq.{bytes_eq-Decides}
-use Rattle.jiff_core.specs.Calendar.{days_from_civil, days_in_month}
+use Rattle.jiff_core.specs.Calendar.{days_from_civil}
 use Rattle.jiff_core.proofs.DateLemmas.{days_from_civil-day, days_from_civil-next_month, days_from_civil-next_year}
 use Rattle.jiff_core.proofs.StandardFacts.{known_days}
-use Rattle.time_range.specs.CalendarLaws.{BeginsMonth, BeginsWithTheEpoch, BeginsYear, DaysFollow, HoursFollow, IsDay, IsDayBehind, IsNextInMonth, IsTimeOfDay, clock_text}
-use Rattle.time_range.specs.Dates.{clock_second, date_in, date_second, day_in, day_second, is_date, is_meant_as_date, month_in, number_below, time_of_day, year_in}
-use Rattle.time_range.specs.TimeOf.{is_count, is_digits, is_now, is_sign, moment_of, moment_of_parts, moved, named_second, offset_of, reference_second}
+use Rattle.time_range.specs.CalendarLaws.{BeginsWithTheEpoch, DaysFollow, HoursFollow, IsDay, IsDayBehind, IsTimeOfDay, clock_text}
+use Rattle.time_range.specs.Dates.{clock_second, date_in, date_second, day_in, is_date, is_meant_as_date, month_in, number_below, time_of_day, year_in}
+use Rattle.time_range.specs.TimeOf.{is_count, is_now, is_sign, moment_of, moment_of_parts, moved, named_second, offset_of, reference_second}
 
 -- ---- a text of digits is a reference with no offset
 
@@ -86,10 +85,11 @@ next_day date next is (inr (inr year)) =
     rw (year.year, year.january, year.day, year.december, year.last) (days_from_civil-next_year (pos (year_in date)) (pos (year_in date + 1)) (omega (arith, ints)) (omega (arith, ints)))
 
 pub days_follow : DaysFollow
-days_follow date next now is is_next behind =
-    (number_of_day date *ℤ pos 86400 +ℤ pos 0,
-    day_moment date now is,
-    day_moment next now is_next ∙ ap (λ (z : ℤ). Some z) (later (number_of_day date) (number_of_day next) (next_day date next is behind)))
+days_follow date next now is is_next behind = (
+  number_of_day date *ℤ pos 86400 +ℤ pos 0,
+  day_moment date now is,
+  day_moment next now is_next ∙ ap (λ (z : ℤ). Some z) (later (number_of_day date) (number_of_day next) (next_day date next is behind)),
+)
 
 pub begins_with_the_epoch : BeginsWithTheEpoch
 begins_with_the_epoch now =

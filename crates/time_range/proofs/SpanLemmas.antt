@@ -1,13 +1,13 @@
 -- How a text is cut into its spans, and what their seconds are where numbers are cut at a bound.
-use Rattle.std.proofs.Common.{cond, ◌≡◌, ℕ, zero, suc, ◌+◌, ◌*◌, ◌^◌, ◌<◌, ◌≤◌, min, Bool, true, false, not, ◌&&◌, ◌==◌, ◌⊎◌, inl, inr, List, [], ◌∷◌, length, take, drop, get_or, Option, Some, None, option_map, option_and_then, refl, sym, ap, ◌∙◌, mul-suc, arith, rules}
+use Rattle.std.proofs.Common.{◌≡◌, ℕ, zero, suc, ◌+◌, ◌*◌, ◌^◌, ◌<◌, ◌≤◌, min, Bool, true, false, ◌&&◌, ◌==◌, ◌⊎◌, inl, inr, List, [], ◌∷◌, length, take, drop, get_or, Option, Some, None, option_map, option_and_then, refl, sym, ap, ◌∙◌, mul-suc, arith}
 use Rattle.std.specs.Char.{is_ascii_digit}
-use Rattle.std.specs.List.{list_all, position_or_len}
+use Rattle.std.specs.List.{list_all}
 use Rattle.std.specs.Str.Parse.{digits_value}
 use Rattle.std.proofs.lemmas.List.{drop_more, drop_all}
 use Rattle.std.proofs.lemmas.Bool.{cases_lt}
 use Rattle.std.proofs.lemmas.Bool.Decides.{nat_tests}
 use Rattle.time_range.specs.TimeUnits.{unit_seconds}
-use Rattle.time_range.specs.Spans.{digits_of, ends_span, first_length, in_front, is_no_digit, span_seconds, spans_of, total_of, unit_of}
+use Rattle.time_range.specs.Spans.{digits_of, ends_span, first_length, is_no_digit, span_seconds, spans_of, total_of, unit_of}
 
 plus_one : (n : ℕ) → n + 1 ≡ suc n
 plus_one n = omega arith

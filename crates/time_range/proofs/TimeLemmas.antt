@@ -1,8 +1,7 @@
 -- What times are read of moments.
-use Rattle.std.proofs.Common.{◌≡◌, ℕ, zero, suc, ◌+◌, ◌-◌, ◌^◌, ◌<◌, ◌≤◌, min, nat_le, nat_lt, Bool, true, false, ◌⊎◌, inl, inr, ℤ, pos, negsuc, neg_ℤ, ◌+ℤ◌, ◌-ℤ◌, ◌≤ℤ◌, ◌<ℤ◌, ◌==◌, ◌&&◌, not, List, [], ◌∷◌, length, option_map, cond, Option, Some, None, Result, Ok, Err, refl, sym, ap, ◌∙◌, arith, rules}
+use Rattle.std.proofs.Common.{◌≡◌, ℕ, ◌+◌, ◌^◌, ◌<◌, ◌≤◌, min, nat_lt, Bool, true, false, ◌⊎◌, inl, inr, ℤ, pos, negsuc, neg_ℤ, ◌+ℤ◌, ◌-ℤ◌, ◌<ℤ◌, ◌==◌, ◌&&◌, not, List, [], ◌∷◌, length, option_map, cond, Option, Some, None, Err, refl, sym, ap, ◌∙◌, arith}
 use Rattle.std.proofs.lemmas.Int.{ints}
 use Rattle.std.proofs.lemmas.Bool.{cases_lt, lt-leb, and_parts, eqb-true}
-use Rattle.time_range.specs.declared.fault.TimeFault.{TimeFault}
 use Rattle.time_range.specs.declared.fault.TimeFault.TheVariants.{BeforeEpoch, NotTime, TooLate}
 use Rattle.time_range.specs.SpanOf.{latest}
 use Rattle.time_range.specs.TimeOf.{is_count, is_digits, moved, offset_of, time_result}

@@ -1,6 +1,5 @@
-use Rattle.std.proofs.Common.{◌≡◌, ◌+◌, ◌<◌, length, take, drop, get_or, ◌∙◌, arith, rules}
-use Rattle.time_range.specs.Columns.{column, span_column}
-use Rattle.time_range.specs.Spans.{first_length, spans_of}
+use Rattle.std.proofs.Common.{◌≡◌, ◌+◌, ◌<◌, length, take, drop, ◌∙◌, arith, rules}
+use Rattle.time_range.specs.Spans.{first_length}
 use Rattle.time_range.proofs.ColumnLemmas.{column_more, column_most, column_none, none_at}
 use Rattle.time_range.proofs.columns.sum_columns.Goals as goal
 

@@ -1,5 +1,4 @@
 use Rattle.std.proofs.Common.{◌+◌, sym, ◌∙◌, arith}
-use Rattle.time_range.specs.Spans.{spans_of}
 use Rattle.time_range.proofs.ColumnLemmas.{column_most, kept_settled, kept_start}
 use Rattle.time_range.proofs.difference.kept_difference.Goals as goal
 

@@ -1,4 +1,4 @@
-use Rattle.std.proofs.Common.{◌≡◌, ◌≤◌, ◌<◌, ◌^◌, length}
+use Rattle.std.proofs.Common.{◌≡◌, ◌<◌, length}
 use Rattle.time_range.specs.Columns.{front, fronts, kept}
 use Rattle.time_range.specs.Spans.{spans_of}
 use Rattle.time_range.proofs.difference.kept_difference.Given as goal

@@ -8,8 +8,8 @@ invariant-loop-place l = record {
   below : l.place ≤ l.to;
   most : l.kept ≤ 2 ^ 101;
   value : (spans : List (List ℕ)) → l.start ≡ kept (front l.to l.digits) (fronts l.to spans)
-    → ((k : ℕ) → k < length l.sums → get_or l.sums k 0 ≡ column (l.from + k) spans)
-    → l.kept ≡ kept (front l.place l.digits) (fronts l.place spans);
+      → ((k : ℕ) → k < length l.sums → get_or l.sums k 0 ≡ column (l.from + k) spans)
+      → l.kept ≡ kept (front l.place l.digits) (fronts l.place spans);
 }
 
 abbrev pub decreases-loop-place : goal.decreases-loop-place

@@ -1,4 +1,4 @@
-use Rattle.std.proofs.Common.{◌≡◌, ◌<◌, Some, length, ◌∙◌, ap, sym, arith, rules, ◌*◌, ◌^◌, min}
+use Rattle.std.proofs.Common.{◌≡◌, ◌<◌, Some, length, ◌∙◌, ap, arith, rules, ◌*◌, ◌^◌, min}
 use Rattle.std.specs.Str.Parse.{digits_value}
 use Rattle.time_range.specs.Spans.{digits_of, unit_of}
 use Rattle.time_range.specs.TimeUnits.{unit_seconds}

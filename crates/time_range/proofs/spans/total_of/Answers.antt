@@ -1,6 +1,6 @@
-use Rattle.std.proofs.Common.{◌≡◌, ◌+◌, refl, ◌<◌, ◌≤◌, ◌^◌, min, Some, None, length, take, drop, option_map, ◌∙◌, ap, sym, arith, rules}
+use Rattle.std.proofs.Common.{◌≡◌, ◌+◌, refl, ◌<◌, ◌^◌, min, Some, None, length, take, drop, option_map, ◌∙◌, sym, arith, rules}
 use Rattle.time_range.specs.Spans.{first_length, span_seconds, spans_of}
-use Rattle.time_range.proofs.SpanLemmas.{total_end, total_fails, total_from_none, total_more, total_with}
+use Rattle.time_range.proofs.SpanLemmas.{total_end, total_fails, total_from_none, total_more}
 use Rattle.time_range.proofs.spans.total_of.Goals as goal
 
 pub returns-in_err-seconds : goal.returns-in_err-seconds
