@@ -1,0 +1,6 @@
+pub mod CalendarLemmas
+pub mod ColumnLemmas
+pub mod DateLemmas
+pub mod SpanLawLemmas
+pub mod SpanLemmas
+pub mod TimeLemmas
