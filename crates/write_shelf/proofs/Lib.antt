@@ -1,0 +1,4 @@
+pub mod OrderLemmas
+pub mod RunLemmas
+pub mod LawLemmas
+pub mod BytesLemmas
