@@ -1,11 +1,19 @@
 -- The bytes of neighbouring cells.
-use Rattle.std.proofs.Common.{◌≡◌, ◌∙◌, ℕ, zero, suc, ℤ, ◌+◌, ◌*◌, ◌<◌, ◌≤◌, List, [], ◌∷◌, ◌++◌, length, flat_map, Option, Some, None, IsSome, refl, sym, ap, subst, arith, append-nil, length-append}
+use Rattle.std.proofs.Common.{◌≡◌, ◌∙◌, ℕ, zero, suc, ℤ, ◌+◌, ◌*◌, ◌<◌, ◌≤◌, List, [], ◌∷◌, ◌++◌, length, take, flat_map, slice_get, get_or, Option, Some, None, IsSome, IfSome, refl, sym, ap, subst, arith, append-nil, length-append}
 use Rattle.std.specs.List.{range_with_len}
 use Rattle.std.specs.Option.{option_map_or}
 use Rattle.std.proofs.lemmas.Grind.{flat_map-append}
+use Rattle.std.proofs.lemmas.Option.{slice_get-get_or}
+use Rattle.ring_format.specs.declared.archive.Archive.{Archive}
 use Rattle.ring_format.specs.Cell.{cell_bytes}
-use Rattle.ring_format.specs.Patch.{Cells as Laid, cell_at}
-use Rattle.write_shelf.specs.Shelf.{bytes_at, cells_bytes}
+use Rattle.ring_format.specs.Head.{front_bytes, head_bytes, rows_bytes, rows_of}
+use Rattle.ring_format.specs.Layout.{LayoutValue}
+use Rattle.ring_format.specs.LayoutFile.{file_size_of, head_size, offset_of}
+use Rattle.ring_format.specs.Patch.{Cells as Laid, PatchValue, cell_at}
+use Rattle.ring_format.proofs.RowLemmas.{length-rows_of}
+use Rattle.ring_format.proofs.WrittenHeads.{length-front_bytes, length-rows_bytes}
+use Rattle.write_shelf.specs.Shelf.{AreLaid, StandsAt, bytes_at, cells_bytes}
+use Rattle.write_shelf.specs.declared.run.Run.TheVariants.{Create, Cells, Head}
 
 range_more : (a n : ℕ) → range_with_len a (n + 1) ≡ range_with_len a n ++ (a + n) ∷ []
 range_more a zero =
@@ -37,3 +45,41 @@ length-cells_bytes cells archive slot (suc count) laid =
     let all : length (cells_bytes cells archive slot (count + 1)) ≡ length (cells_bytes cells archive slot count) + length (bytes_at cells (archive, slot + count))
         = ap length (bytes_more cells archive slot count) ∙ length-append (cells_bytes cells archive slot count) (bytes_at cells (archive, slot + count)) in
     ap (λ (n : ℕ). length (cells_bytes cells archive slot n)) more ∙ all ∙ (omega arith)
+
+-- one more cell is written
+pub written_more : (cells : Laid) (archive slot k : ℕ) (old new cell : List ℕ) (bucket : ℕ) (value : ℤ) → take (12 * k) old ≡ cells_bytes cells archive slot k
+    → take (12 * k + 12) new ≡ take (12 * k) old ++ cell → cell ≡ cell_bytes bucket value → cell_at cells (archive, slot + k) ≡ Some (bucket, value)
+    → take (12 * (k + 1)) new ≡ cells_bytes cells archive slot (k + 1)
+written_more cells archive slot k old new cell bucket value before more is laid =
+    let counted : 12 * (k + 1) ≡ 12 * k + 12 = omega arith in
+    let here : bytes_at cells (archive, slot + k) ≡ cell_bytes bucket value = ap (λ (o : Option (ℕ × ℤ)). option_map_or (λ c. cell_bytes c.0 c.1) o []) laid in
+    ap (λ (n : ℕ). take n new) counted ∙ more ∙ ap (λ (xs : List ℕ). xs ++ cell) before
+    ∙ ap (λ (xs : List ℕ). cells_bytes cells archive slot k ++ xs) (is ∙ sym here)
+    ∙ sym (bytes_more cells archive slot k)
+
+-- ---- inside the file
+
+blank : Archive
+blank = record { step = 0; points = 0 }
+
+pub cells_stand : (patch : PatchValue) (archive slot count offset : ℕ) → AreLaid patch archive slot count → offset ≡ offset_of patch.layout.archives archive
+    → IfSome (slice_get patch.layout.archives archive) (λ ring. offset + 12 * ring.points ≤ file_size_of patch.layout.archives)
+    → StandsAt (offset + 12 * slot) patch (Cells archive slot count)
+cells_stand patch archive slot count offset laid is behind =
+    let ring : slice_get patch.layout.archives archive ≡ Some (get_or patch.layout.archives archive blank) = slice_get-get_or patch.layout.archives archive blank laid.archived in
+    let within : slot + count ≤ (get_or patch.layout.archives archive blank).points = rw ring at laid.within in
+    let end : offset + 12 * (get_or patch.layout.archives archive blank).points ≤ file_size_of patch.layout.archives = rw ring at behind in
+    record {
+      place = ap (λ (n : ℕ). n + 12 * slot) is;
+      within = omega (arith, length-cells_bytes patch.cells archive slot count laid.laid);
+    }
+
+length-head : (layout : LayoutValue) → length (head_bytes layout) ≡ head_size (length layout.archives)
+length-head layout =
+    omega (arith, length-append (front_bytes layout) (rows_bytes (rows_of layout.archives)), length-front_bytes layout, length-rows_bytes (rows_of layout.archives), length-rows_of layout.archives)
+
+pub head_stands : (patch : PatchValue) → StandsAt 0 patch Head
+head_stands patch = record { place = refl; within = omega (arith, length-head patch.layout) }
+
+pub nothing_stands : (patch : PatchValue) (size : ℕ) → StandsAt 0 patch (Create size)
+nothing_stands patch size = record { place = refl; within = omega arith }

@@ -174,3 +174,13 @@ pub unlaid_none : (cells : Laid) (place : ℕ × ℕ) → cell_at cells place �
 unlaid_none cells place none =
     none_from (λ (other : ℕ × ℕ). (place.0 == other.0 && place.1 == other.1) ≡ false) (keys_of cells) place
     (by_parts place (keys_of cells) (none_keys (is_at (place_cmp place)) cells (none_passes_from_lookup (is_at (place_cmp place)) cells none)))
+
+-- where no cell is found from a place on, there are no places from it on
+pub none_found : (cells : Laid) (from : ℕ × ℕ) → first_cell_from cells from ≡ None → places_from (keys_of cells) from ≡ []
+none_found [] from e = refl
+none_found (x ∷ cells) from e = elim (cases_Bool (is_le (place_cmp from x.0))) [
+  | inl hit ↦
+      let some : Some x ≡ None = sym (cond-true _ _ _ hit) ∙ e in
+      absurd cc
+  | inr past ↦ skipped x.0 from (keys_of cells) past ∙ none_found cells from (sym (cond-false _ _ _ past) ∙ e)
+]

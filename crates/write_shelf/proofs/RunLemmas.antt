@@ -1,18 +1,21 @@
 -- The runs from a place on.
-use Rattle.std.proofs.Common.{◌≡◌, ◌∙◌, ◌⊎◌, ℕ, zero, suc, ℤ, ◌+◌, ◌-◌, ◌<◌, ◌≤◌, Bool, true, false, cond, ◌&&◌, ◌==◌, nat_lt, List, [], ◌∷◌, ◌++◌, length, Option, Some, None, IsSome, IfSome, slice_get, inl, inr, refl, sym, ap, subst, arith, All}
+use Rattle.std.proofs.Common.{◌≡◌, ◌∙◌, ◌⊎◌, ℕ, zero, suc, ℤ, ◌+◌, ◌-◌, ◌<◌, ◌≤◌, Bool, true, false, cond, ◌&&◌, ◌==◌, nat_lt, List, [], ◌∷◌, ◌++◌, length, Option, Some, None, IsSome, IfSome, slice_get, get_or, inl, inr, refl, sym, ap, subst, arith, All, append_assoc}
 use Rattle.std.specs.List.{AllByRecursion}
 use Rattle.std.specs.List.Sorted.{IsStrictlySortedBy}
 use Rattle.std.specs.Map.{keys_of}
 use Rattle.std.proofs.lemmas.Bool.{cond-true, cond-false, and_from, and_left, and_right, eq-eqb, lt-ltb}
 use Rattle.std.proofs.lemmas.Option.{IfSome_then}
-use Rattle.ring_format.specs.Layout.{LayoutValue}
+use Rattle.std.proofs.lemmas.Option.{slice_get-get_or}
+use Rattle.ring_format.specs.declared.archive.Archive.{Archive}
+use Rattle.ring_format.specs.Layout.{LayoutValue, point_count}
 use Rattle.ring_format.specs.Patch.{Cells as Laid, IsPlace, PatchValue, cell_at, first_cell_from, place_cmp}
-use Rattle.write_shelf.specs.Behind.{IsFirstOf, IsRunLength, places_from, runs_from, runs_with}
-use Rattle.write_shelf.specs.Runs.{last_runs, runs_in, runs_on}
-use Rattle.write_shelf.specs.Shelf.{AreLaid}
+use Rattle.ring_format.proofs.LawfulLayouts.{points_within}
+use Rattle.write_shelf.specs.Behind.{IsFirstOf, IsRunLength, places_from, runs_behind, runs_from, runs_with}
+use Rattle.write_shelf.specs.Runs.{last_runs, runs_in, runs_of, runs_on}
+use Rattle.write_shelf.specs.Shelf.{AreLaid, IsBegun}
 use Rattle.write_shelf.specs.declared.run.Run.{Run}
 use Rattle.write_shelf.specs.declared.run.Run.TheVariants.{Create, Cells, Head}
-use Rattle.write_shelf.proofs.OrderLemmas.{found_first, found_laid, laid_first, laid_holds, unlaid_none}
+use Rattle.write_shelf.proofs.OrderLemmas.{found_first, found_laid, laid_first, laid_holds, none_found, unlaid_none}
 
 -- a run goes on with the next slot
 pub goes_on : (archive slot count : ℕ) (places : List (ℕ × ℕ)) → count < 341 → runs_on archive slot count ((archive, slot + count) ∷ places) ≡ runs_on archive slot (count + 1) places
@@ -88,3 +91,41 @@ run_found patch from archive slot count cell rise placed low found run =
       first = ap (λ (runs : List Run). runs ++ last_runs patch) (ap runs_in same ∙ run_first cells archive slot count rise run);
       sound = run_laid patch archive slot count placed low run;
     }
+
+-- no run of cells is left where none is found
+pub none_left : (patch : PatchValue) (from : ℕ × ℕ) (found : Option Run) → first_cell_from patch.cells from ≡ None → IsFirstOf (last_runs patch) patch found → IsFirstOf (runs_from patch from) patch found
+none_left patch from found none first = record {
+  first = ap (λ (places : List (ℕ × ℕ)). runs_in places ++ last_runs patch) (none_found patch.cells from none) ∙ first.first;
+  sound = first.sound;
+}
+
+-- ---- slots are low
+
+blank : Archive
+blank = record { step = 0; points = 0 }
+
+place_low : (layout : LayoutValue) (place : ℕ × ℕ) → point_count layout.archives ≤ 4000000 → IsPlace layout place → place.1 < 4000000
+place_low layout place few is =
+    let ring : slice_get layout.archives place.0 ≡ Some (get_or layout.archives place.0 blank) = slice_get-get_or layout.archives place.0 blank is.0 in
+    let below : place.1 < (get_or layout.archives place.0 blank).points = rw ring at is.1 in
+    omega (arith, points_within layout.archives place.0 blank is.0)
+
+pub places_low : (layout : LayoutValue) (places : List (ℕ × ℕ)) → point_count layout.archives ≤ 4000000 → All (IsPlace layout) places → All (λ place. place.1 < 4000000) places
+places_low layout places few placed = λ k d below. place_low layout (get_or places k d) few (placed k d below)
+
+-- the slot behind laid ones
+pub behind_low : (cells : Laid) (archive slot count : ℕ) → All (λ place. place.1 < 4000000) (keys_of cells) → 1 ≤ count → ((k : ℕ) → k < count → IsSome (cell_at cells (archive, slot + k))) → slot + count ≤ 4000000
+behind_low cells archive slot count low some laid =
+    let last : slot + (count - 1) < 4000000 = laid_holds (λ (place : ℕ × ℕ). place.1 < 4000000) cells (archive, slot + (count - 1)) low (laid (count - 1) (omega (arith, some))) in
+    omega (arith, some)
+
+-- ---- a run is written
+
+-- the runs that are left are those behind the ones written, also when one more is
+pub begun_more : (patch : PatchValue) (run next : Run) → IsBegun (record { patch = patch; left = run ∷ runs_behind patch run }) → runs_behind patch run ≡ next ∷ runs_behind patch next
+    → IsBegun (record { patch = patch; left = next ∷ runs_behind patch next })
+begun_more patch run next begun first = record {
+  some = omega arith;
+  written = begun.written ++ run ∷ [];
+  runs = begun.runs ∙ ap (λ (runs : List Run). begun.written ++ run ∷ runs) first ∙ sym (append_assoc begun.written (run ∷ []) (next ∷ runs_behind patch next));
+}

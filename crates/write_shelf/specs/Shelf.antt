@@ -20,8 +20,9 @@ abbrev pub drain_with : PatchValue → List Run → Option DrainValue
 drain_with patch [] = None
 drain_with patch (run ∷ left) = Some (record { patch = patch; left = run ∷ left })
 
--- the runs so far are written, and those that are left come behind them
+-- the runs so far are written, and those that are left, at least one, come behind them
 pub record IsBegun (drain : DrainValue) : Type 0 where
+  pub some : 1 ≤ length drain.left
   pub written : List Run
   pub runs : runs_of drain.patch ≡ written ++ drain.left
 
