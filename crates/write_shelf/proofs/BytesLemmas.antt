@@ -43,7 +43,7 @@ length-cells_bytes cells archive slot (suc count) laid =
     let before = length-cells_bytes cells archive slot count (λ k below. laid k (omega arith)) in
     let last = length-cell (cell_at cells (archive, slot + count)) (laid count (omega arith)) in
     let all : length (cells_bytes cells archive slot (count + 1)) ≡ length (cells_bytes cells archive slot count) + length (bytes_at cells (archive, slot + count))
-        = ap length (bytes_more cells archive slot count) ∙ length-append (cells_bytes cells archive slot count) (bytes_at cells (archive, slot + count)) in
+    = ap length (bytes_more cells archive slot count) ∙ length-append (cells_bytes cells archive slot count) (bytes_at cells (archive, slot + count)) in
     ap (λ (n : ℕ). length (cells_bytes cells archive slot n)) more ∙ all ∙ (omega arith)
 
 -- one more cell is written

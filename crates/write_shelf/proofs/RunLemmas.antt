@@ -56,8 +56,8 @@ run_first : (cells : Laid) (archive slot count : ℕ) → IsStrictlySortedBy pla
 run_first cells archive slot count rise run =
     let last : (count - 1) + 1 ≡ count = omega (arith, run.some) in
     let all : runs_in (places_from (keys_of cells) (archive, slot)) ≡ runs_on archive slot count (places_from (keys_of cells) (archive, slot + count))
-        = subst (λ (n : ℕ). runs_in (places_from (keys_of cells) (archive, slot)) ≡ runs_on archive slot n (places_from (keys_of cells) (archive, slot + n))) last
-          (taken cells archive slot count (count - 1) rise run (omega (arith, run.some))) in
+    = subst (λ (n : ℕ). runs_in (places_from (keys_of cells) (archive, slot)) ≡ runs_on archive slot n (places_from (keys_of cells) (archive, slot + n))) last
+    (taken cells archive slot count (count - 1) rise run (omega (arith, run.some))) in
     all ∙ (elim run.longest [
       | inl full ↦ ends_full archive slot count (places_from (keys_of cells) (archive, slot + count)) (ap (λ (n : ℕ). nat_lt n 341) full)
       | inr open_slot ↦ ends_before archive slot count (places_from (keys_of cells) (archive, slot + count)) (unlaid_none cells (archive, slot + count) open_slot)
@@ -86,7 +86,7 @@ pub run_found : (patch : PatchValue) (from : ℕ × ℕ) (archive slot count : �
 run_found patch from archive slot count cell rise placed low found run =
     let cells : Laid = patch.cells in
     let same : places_from (keys_of cells) from ≡ places_from (keys_of cells) (archive, slot)
-        = found_first cells from ((archive, slot), cell) rise found ∙ sym (laid_first cells (archive, slot) rise (found_laid cells from ((archive, slot), cell) found)) in
+    = found_first cells from ((archive, slot), cell) rise found ∙ sym (laid_first cells (archive, slot) rise (found_laid cells from ((archive, slot), cell) found)) in
     record {
       first = ap (λ (runs : List Run). runs ++ last_runs patch) (ap runs_in same ∙ run_first cells archive slot count rise run);
       sound = run_laid patch archive slot count placed low run;

@@ -26,7 +26,7 @@ impl Model for Drain {
     ghost view = { λ a. record { patch = a.patch; left = a.next ∷ runs_behind a.patch a.next } };
 
     ghost invariant = { λ a. IsRunOf a.patch a.next
-      × IsBegun (record { patch = a.patch; left = a.next ∷ runs_behind a.patch a.next }) };
+        × IsBegun (record { patch = a.patch; left = a.next ∷ runs_behind a.patch a.next }) };
 }
 
 impl Drain {

@@ -16,5 +16,5 @@ pub use laws::runs_are_those_of_their_patch;
 pub use run::Run;
 pub use shelf::Shelf;
 
-
-
+#[cfg(test)]
+mod tests;
