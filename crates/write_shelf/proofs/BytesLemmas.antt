@@ -1,7 +1,8 @@
 -- The bytes of neighbouring cells.
-use Rattle.std.proofs.Common.{◌≡◌, ◌∙◌, ℕ, zero, suc, ℤ, ◌+◌, ◌*◌, ◌<◌, ◌≤◌, List, [], ◌∷◌, ◌++◌, length, take, flat_map, slice_get, get_or, Option, Some, None, IsSome, IfSome, refl, sym, ap, subst, arith, append-nil, length-append}
+use Rattle.std.proofs.Common.{◌≡◌, ◌∙◌, ℕ, zero, suc, ℤ, ◌+◌, ◌*◌, ◌<◌, ◌≤◌, List, [], ◌∷◌, ◌++◌, length, take, drop, flat_map, slice_get, get_or, Option, Some, None, IsSome, IfSome, refl, sym, ap, subst, arith, append-nil, length-append}
 use Rattle.std.specs.List.{range_with_len}
 use Rattle.std.specs.Option.{option_map_or}
+use Rattle.std.proofs.Math.Seq.{drop-append-add, take-append_seam}
 use Rattle.std.proofs.lemmas.Grind.{flat_map-append}
 use Rattle.std.proofs.lemmas.Option.{slice_get-get_or}
 use Rattle.ring_format.specs.declared.archive.Archive.{Archive}
@@ -45,6 +46,31 @@ length-cells_bytes cells archive slot (suc count) laid =
     let all : length (cells_bytes cells archive slot (count + 1)) ≡ length (cells_bytes cells archive slot count) + length (bytes_at cells (archive, slot + count))
     = ap length (bytes_more cells archive slot count) ∙ length-append (cells_bytes cells archive slot count) (bytes_at cells (archive, slot + count)) in
     ap (λ (n : ℕ). length (cells_bytes cells archive slot n)) more ∙ all ∙ (omega arith)
+
+-- each cell stands in 12 bytes of its own
+pub cell_stands : (cells : Laid) (archive slot count k : ℕ) → ((j : ℕ) → j < count → IsSome (cell_at cells (archive, slot + j))) → k < count
+    → take 12 (drop (12 * k) (cells_bytes cells archive slot count)) ≡ bytes_at cells (archive, slot + k)
+cell_stands cells archive slot zero k laid below = absurd (omega arith)
+cell_stands cells archive slot (suc count) zero laid below =
+    let here : slot + 0 ≡ slot = omega arith in
+    let first : List ℕ = bytes_at cells (archive, slot) in
+    let some : IsSome (cell_at cells (archive, slot)) = subst (λ (s : ℕ). IsSome (cell_at cells (archive, s))) here (laid 0 (omega arith)) in
+    let long : length first ≡ 12 = length-cell (cell_at cells (archive, slot)) some in
+    let rest : List ℕ = cells_bytes cells archive (slot + 1) count in
+    ap (λ (n : ℕ). take n (first ++ rest)) (sym long) ∙ take-append_seam first rest ∙ ap (λ (s : ℕ). bytes_at cells (archive, s)) (sym here)
+cell_stands cells archive slot (suc count) (suc k) laid below =
+    let here : slot + 0 ≡ slot = omega arith in
+    let first : List ℕ = bytes_at cells (archive, slot) in
+    let some : IsSome (cell_at cells (archive, slot)) = subst (λ (s : ℕ). IsSome (cell_at cells (archive, s))) here (laid 0 (omega arith)) in
+    let long : length first ≡ 12 = length-cell (cell_at cells (archive, slot)) some in
+    let rest : List ℕ = cells_bytes cells archive (slot + 1) count in
+    let past : 12 * suc k ≡ length first + 12 * k = omega (arith, long) in
+    let behind : (slot + 1) + k ≡ slot + suc k = omega arith in
+    let others : (j : ℕ) → j < count → IsSome (cell_at cells (archive, (slot + 1) + j)) = λ j under.
+    let moved : slot + suc j ≡ (slot + 1) + j = omega arith in
+    subst (λ (s : ℕ). IsSome (cell_at cells (archive, s))) moved (laid (suc j) (omega arith)) in
+    ap (λ (n : ℕ). take 12 (drop n (first ++ rest))) past ∙ ap (take 12) (drop-append-add first rest (12 * k)) ∙ cell_stands cells archive (slot + 1) count k others (omega arith)
+    ∙ ap (λ (s : ℕ). bytes_at cells (archive, s)) behind
 
 -- one more cell is written
 pub written_more : (cells : Laid) (archive slot k : ℕ) (old new cell : List ℕ) (bucket : ℕ) (value : ℤ) → take (12 * k) old ≡ cells_bytes cells archive slot k

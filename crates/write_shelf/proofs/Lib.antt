@@ -2,3 +2,4 @@ pub mod OrderLemmas
 pub mod RunLemmas
 pub mod LawLemmas
 pub mod BytesLemmas
+pub mod CountLemmas

@@ -1,11 +1,11 @@
 //! The drain that was begun.
-ghost use Rattle.std.specs.Prelude.{◌≡◌, Some, drop, slice_get};
+ghost use Rattle.std.specs.Prelude.{◌≡◌, ◌<◌, Some, drop, length, slice_get};
 ghost use Rattle.write_shelf.specs.Runs.{runs_of};
 ghost use Rattle.write_shelf.specs.Shelf.{ComesInTurn, IsBegun, IsFilled, IsRunOf, OfNext, StandsAt, drain_with};
 
 use crate::run::Run;
 use crate::run_bytes::{place_of, put_run};
-use crate::run_search::{first_run, run_behind};
+use crate::run_search::{first_run, run_behind, runs_are_few};
 use ring_format::{Patch, RUN_BYTES};
 use std::marker::Model;
 
@@ -32,8 +32,10 @@ impl Model for Drain {
 impl Drain {
     // The drain of a patch, or none where the patch has no runs.
     pub(crate) fn of(patch: Patch) -> Option<Drain>
-        ensures { result ≡ drain_with patch (runs_of patch) }
+        ensures value { result ≡ drain_with patch (runs_of patch) }
+        ensures few { length (runs_of patch) < 5000000 }
     {
+        runs_are_few(&patch);
         let next = first_run(&patch)?;
         Some(Drain { patch, next })
     }

@@ -1,5 +1,5 @@
 //! The search for the next run of a patch.
-ghost use Rattle.std.specs.Prelude.{◌≡◌, ◌<◌, All, IsSome};
+ghost use Rattle.std.specs.Prelude.{◌≡◌, ◌<◌, All, IsSome, length};
 ghost use Rattle.std.specs.List.Sorted.{IsStrictlySortedBy};
 ghost use Rattle.std.specs.Map.{keys_of};
 ghost use Rattle.ring_format.specs.Patch.{IsPlace, cell_at, place_cmp};
@@ -77,12 +77,20 @@ fn run_length(patch: &Patch, archive: u32, slot: u32) -> u32
     RUN_CELLS as u32
 }
 
-// The cells of a patch rise in archive and slot, and stand in its archives, which have at most 4,000,000 points. The
-// function does nothing: what it ensures is the law.
+// The cells of a patch rise in archive and slot, and stand in its archives, which have at most 4,000,000
+// points. The function does nothing: what it ensures is the law.
 fn cells_in_order(patch: &Patch)
     ensures rise { IsStrictlySortedBy place_cmp (keys_of patch.now.cells) }
     ensures placed { All (IsPlace patch.now.layout) (keys_of patch.now.cells) }
     ensures low { All (λ place. place.1 < 4000000) (keys_of patch.now.cells) }
+{
+    let _ = patch.cells();
+    let _ = patch.layout().archives();
+}
+
+// A patch has fewer than 5,000,000 runs. The function does nothing: what it ensures is the law.
+pub(crate) fn runs_are_few(patch: &Patch)
+    ensures { length (runs_of patch.now) < 5000000 }
 {
     let _ = patch.cells();
     let _ = patch.layout().archives();

@@ -1,5 +1,5 @@
 //! The shelf.
-ghost use Rattle.std.specs.Prelude.{◌≡◌, ◌≢◌, ◌↔◌, None, IfSome, IsSome, option_map};
+ghost use Rattle.std.specs.Prelude.{◌≡◌, ◌≢◌, ◌↔◌, ◌<◌, None, IfSome, IsSome, length, option_map};
 ghost use Rattle.write_shelf.specs.Runs.{runs_of};
 ghost use Rattle.write_shelf.specs.Shelf.{ComesInTurn, IsBegun, IsFilled, IsRunOf, OfNext, StandsAt, drain_with, marked, next_run};
 
@@ -31,10 +31,12 @@ impl Shelf {
         Shelf { drain: None }
     }
 
-    /// Puts a patch on the empty shelf, with all its runs to be written. A patch without runs leaves the shelf empty.
+    /// Puts a patch on the empty shelf, with all its runs to be written, fewer than 5,000,000. A patch
+    /// without runs leaves the shelf empty.
     pub fn put(&mut self, patch: Patch)
         requires { self.old ≡ None }
-        ensures { self.new ≡ drain_with patch (runs_of patch) }
+        ensures value { self.new ≡ drain_with patch (runs_of patch) }
+        ensures few { length (runs_of patch) < 5000000 }
     {
         self.drain = Drain::of(patch);
     }
@@ -53,8 +55,8 @@ impl Shelf {
         }
     }
 
-    /// Writes the bytes of the next run to the front of `out`, and answers their number: the cells or the head, and 0
-    /// where the file is to be created. What stands behind them in `out` is open.
+    /// Writes the bytes of the next run to the front of `out`, and answers their number: the cells or the
+    /// head, and 0 where the file is to be created. What stands behind them in `out` is open.
     pub fn run_bytes(&self, out: &mut [u8; RUN_BYTES]) -> usize
         requires { self.now ≢ None }
         ensures { OfNext self.now (IsFilled result out.new) }
@@ -88,7 +90,8 @@ impl Shelf {
 
     /// The whole patch, also the runs that are already marked, or `None` where the shelf is empty.
     pub fn patch(&self) -> Option<&Patch>
-        ensures { option_map (λ patch. patch.now) result ≡ option_map (λ drain. drain.patch) self.now }
+        ensures { option_map (λ patch. patch.now) result
+            ≡ option_map (λ drain. drain.patch) self.now }
     {
         match &self.drain {
             Some(drain) => Some(drain.patch()),

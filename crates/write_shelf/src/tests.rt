@@ -198,7 +198,8 @@ fn neighbouring_cells_are_one_run(rt: HostRuntime) -> Result<(), Fail> {
     Ok(())
 }
 
-// The next run of a shelf is this one, with these bytes at this place, and the patch is whole; then it is marked.
+// The next run of a shelf is this one, with these bytes at this place, and the patch is whole; then it is
+// marked.
 fn assert_next(rt: &impl Abort, shelf: &mut Shelf, wanted: Placed, bytes: &[u8]) {
     let Some(run) = shelf.next_run() else {
         panic!(rt; "a run is left")
