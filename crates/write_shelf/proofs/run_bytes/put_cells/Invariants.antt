@@ -1,0 +1,7 @@
+-- The cells so far are written.
+use Rattle.std.proofs.Common.{◌≡◌, ◌*◌, take}
+use Rattle.write_shelf.specs.Shelf.{cells_bytes}
+use Rattle.write_shelf.proofs.run_bytes.put_cells.Given as goal
+
+abbrev pub invariant-loop-k : goal.invariant-loop-k
+invariant-loop-k l = take (12 * l.k) l.out ≡ cells_bytes l.patch.cells l.archive l.slot l.k

@@ -1,0 +1,4 @@
+pub mod Runs
+pub mod AreRuns
+pub mod Shelf
+pub mod Behind

@@ -1,0 +1,72 @@
+//! The bytes of runs.
+ghost use Rattle.std.specs.Prelude.{◌≡◌, ◌+◌, ◌*◌, ◌++◌, ◌<◌, ◌≤◌, ℕ, IsSome, length, take};
+ghost use Rattle.ring_format.specs.Head.{head_bytes};
+ghost use Rattle.write_shelf.specs.Shelf.{AreLaid, IsFilled, IsRunOf, StandsAt, cells_bytes};
+
+use crate::run::Run;
+use ring_format::{CELL_BYTES, HEAD_BYTES, Layout, Patch, RUN_BYTES, write_cell, write_head};
+
+// Writes the bytes of a run to the front of `out`, and answers their number.
+pub(crate) fn put_run(patch: &Patch, run: Run, out: &mut [u8; RUN_BYTES]) -> usize
+    requires { IsRunOf patch.now run }
+    ensures { IsFilled result out.new patch.now run }
+{
+    match run {
+        Run::Create { .. } => 0,
+        Run::Cells {
+            archive,
+            slot,
+            count,
+        } => put_cells(patch, archive, slot, count, out),
+        Run::Head => put_head(&patch.layout(), out),
+    }
+}
+
+// Where in the file the bytes of a run stand.
+pub(crate) fn place_of(patch: &Patch, run: Run) -> u64
+    requires { IsRunOf patch.now run }
+    ensures { StandsAt result patch.now run }
+{
+    match run {
+        Run::Cells { archive, slot, .. } => {
+            u64::from(patch.layout().offset(archive)) + CELL_BYTES as u64 * u64::from(slot)
+        }
+        Run::Create { .. } | Run::Head => 0,
+    }
+}
+
+// Writes the cells in neighbouring slots, and answers how many bytes they take.
+fn put_cells(patch: &Patch, archive: u32, slot: u32, count: u32, out: &mut [u8; RUN_BYTES]) -> usize
+    requires { AreLaid patch.now archive slot count }
+    ensures end { result ≡ 12 * count }
+    ensures written { take result out.new ≡ cells_bytes patch.now.cells archive slot count }
+{
+    for k in 0..count {
+        let Some((bucket, value)) = patch.cell(archive, slot + k) else {
+            unreachable!()
+        };
+        let mut cell = [0; CELL_BYTES];
+        write_cell(bucket, value, &mut cell);
+        put_cell(&cell, CELL_BYTES * k as usize, out);
+    }
+    CELL_BYTES * count as usize
+}
+
+// Writes the bytes of a cell to a place.
+fn put_cell(cell: &[u8; CELL_BYTES], at: usize, out: &mut [u8; RUN_BYTES])
+    requires { at + 12 ≤ RUN_BYTES }
+    ensures { take (at + 12) out.new ≡ take at out.old ++ cell.now }
+{
+    out[at..at + CELL_BYTES].copy_from_slice(cell);
+}
+
+// Writes a head, and answers how many bytes it takes.
+fn put_head(layout: &Layout, out: &mut [u8; RUN_BYTES]) -> usize
+    ensures end { result ≡ length (head_bytes layout.now) }
+    ensures written { take result out.new ≡ head_bytes layout.now }
+{
+    let mut head = [0; HEAD_BYTES];
+    let end = write_head(layout, &mut head);
+    out[..end].copy_from_slice(&head[..end]);
+    end
+}
