@@ -57,8 +57,8 @@ impl Glob {
     }
 
     /// Whether the glob fits a path: both have the same number of nodes, and the pieces of each node of the
-    /// glob cover the path's node. Each byte of the glob is one step for each place in the path's node, of
-    /// which there are at most 241, whatever the glob. No memory is taken.
+    /// glob cover the path's node. The work is at most the bytes of the glob times the places in a node of a
+    /// path, of which there are 241, whatever the glob. No memory is taken.
     pub fn matches(&self, path: &MetricPath) -> bool
         ensures { IsTrue result ↔ Fits self.now.nodes (nodes_of path.now) }
     {

@@ -19,8 +19,10 @@ pub fn bytes_stand_for_themselves()
 
 /// `?` stands for one byte and `*` for any number of them, none included. Neither stands for a dot.
 pub fn wildcards_stay_within_a_node()
-    ensures any_byte { (glob path : List ℕ) → FitsPath (63 ∷ glob) path ↔ FirstThen IsOneByte glob path }
-    ensures any_row { (glob path : List ℕ) → FitsPath (42 ∷ glob) path ↔ FirstThen AreBytes glob path }
+    ensures any_byte { (glob path : List ℕ)
+        → FitsPath (63 ∷ glob) path ↔ FirstThen IsOneByte glob path }
+    ensures any_row { (glob path : List ℕ)
+        → FitsPath (42 ∷ glob) path ↔ FirstThen AreBytes glob path }
 {}
 
 /// A list in brackets stands for one byte of its members, and its ranges hold both their ends.
@@ -55,7 +57,8 @@ pub fn values_are_closed()
     ensures list { (members : List ℕ)
         → HasNone 46 members → HasNone 93 members → HasNone 123 members
         → IsClosed (91 ∷ (members ++ 93 ∷ [])) }
-    ensures both { (first value : List ℕ) → IsClosed first → IsClosed value → IsClosed (first ++ value) }
+    ensures both { (first value : List ℕ) → IsClosed first → IsClosed value
+        → IsClosed (first ++ value) }
 {}
 
 /// In byte order the texts that begin with a front stand together, from the front on: none is below it, and
