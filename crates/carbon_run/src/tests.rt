@@ -90,43 +90,38 @@ fn folders(rt: &HostRuntime) -> Result<Vec<FolderDisk<HostRuntime>>, AllocError>
     Ok(disks)
 }
 
-// A run of a script over the folders, which writes this.
-fn run_folders(
-    rt: &HostRuntime,
-    script: &[u8],
-    out: &mut MemSink,
-) -> Result<Report<FolderDisk<HostRuntime>>, AllocError> {
+// What a run over the folders came to.
+#[derive(Drop)]
+struct Ended {
+    report: Report<FolderDisk<HostRuntime>>,
+    out: MemSink,
+}
+
+// A run of a script over the folders.
+fn run_folders(rt: &HostRuntime, script: &[u8]) -> Result<Ended, AllocError> {
     let alloc = rt.alloc();
     let mut words = Vec::new(alloc);
     words.push(String::from_str(alloc, "script")?)?;
     let mut input = MemSource::new(alloc, Vec::from_slice(alloc, script)?);
+    let mut out = MemSink::new(alloc);
     let mut conf = FolderDisk::new(rt.clone()?, String::from_str(alloc, "conf")?);
     let disks = folders(rt)?;
     let clock = FixedClock::new(1_700_000_000);
-    Ok(run(
+    let report = run(
         alloc,
         &words,
         &mut input,
-        out,
+        &mut out,
         &mut conf,
         disks,
         &clock,
         &mut ClosedNet,
-    ))
-}
-
-fn assert_run(rt: &HostRuntime, script: &[u8], text: &[u8]) -> Result<(), AllocError> {
-    let mut out = MemSink::new(rt.alloc());
-    let report = run_folders(rt, script, &mut out)?;
-    assert_eq!(rt; report.status, 0);
-    assert!(rt; out.bytes() == text);
-    Ok(())
+    );
+    Ok(Ended { report, out })
 }
 
 #[test]
-fn a_second_run_over_real_folders_shows_what_the_first_drained(
-    rt: HostRuntime,
-) -> Result<(), Fail> {
+fn a_second_run_over_real_folders_shows_what_the_first_drained(rt: HostRuntime) -> Result<(), Fail> {
     let table: [(&[u8], &[u8]); 2] = [
         (
             b"a.b 1.5 1700000000\nservers.web01.load 2 1700000100\n",
@@ -141,7 +136,9 @@ fn a_second_run_over_real_folders_shows_what_the_first_drained(
         ),
     ];
     for (script, text) in table {
-        assert_run(&rt, script, text)?;
+        let ended = run_folders(&rt, script)?;
+        assert_eq!(rt; ended.report.status, 0);
+        assert!(rt; ended.out.bytes() == text);
     }
     Ok(())
 }
