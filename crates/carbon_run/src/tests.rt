@@ -121,7 +121,9 @@ fn run_folders(rt: &HostRuntime, script: &[u8]) -> Result<Ended, AllocError> {
 }
 
 #[test]
-fn a_second_run_over_real_folders_shows_what_the_first_drained(rt: HostRuntime) -> Result<(), Fail> {
+fn a_second_run_over_real_folders_shows_what_the_first_drained(
+    rt: HostRuntime,
+) -> Result<(), Fail> {
     let table: [(&[u8], &[u8]); 2] = [
         (
             b"a.b 1.5 1700000000\nservers.web01.load 2 1700000100\n",
