@@ -1,0 +1,5 @@
+pub mod Series
+pub mod Average
+pub mod CommonGrid
+pub mod OnGrid
+pub mod Thinned

@@ -1,0 +1,120 @@
+//! The common grid of series.
+ghost use Rattle.std.specs.Prelude.{◌≡◌, ◌+◌, ◌<◌, ◌≤◌, ℕ, All, IfOk, Ok, Err, length, map};
+ghost use Rattle.std.specs.List.{list_all};
+ghost use Rattle.std.specs.Option.{option_map_or};
+ghost use Rattle.series_set.specs.declared.grid.EvalFault.TheVariants.{StepTooWide};
+ghost use Rattle.series_set.specs.Series.{end_of, latest_end, widest_step};
+ghost use Rattle.series_set.specs.CommonGrid.{IsGrid, common_grid, greatest_end, has_grid, lcm_of, least_start, short_grid, steps_of, value_count, wide_multiple, widened};
+
+use crate::grid::{EvalFault, Grid};
+use crate::multiple::lcm;
+use crate::series::{MOST_VALUES, Series, WIDEST_STEP};
+use crate::set::SeriesSet;
+
+/// The grid to which series are brought so that they can be compared moment by moment.
+///
+/// Its step is the least common multiple of their steps, its start the least of their starts rounded down to a multiple of the step,
+/// and its end the greatest of their ends rounded up. Where all series agree in start, end and step, that is the grid as it is.
+/// Takes no memory.
+///
+/// Errors: `StepTooWide` exactly where the multiple is above 31,536,000, with the first such on the way from the first series to the last;
+/// else `TooLong` exactly where the grid has more than 4,000,000 values, with their number.
+#[tactic(auto, unfolding(crate::specs::CommonGrid::common_grid, crate::specs::CommonGrid::grid_of))]
+pub fn common_grid(set: &SeriesSet) -> Result<Grid, EvalFault>
+    requires some { 0 < length set.now }
+    requires short { All (λ s. s.step ≤ widest_step) set.now }
+    ensures value { result ≡ common_grid set.now }
+    ensures grid { IfOk result IsGrid }
+    ensures late { IfOk result (λ grid. (end : ℕ) → All (λ s. end_of s ≤ end) set.now → grid.end < end + widest_step) }
+{
+    let series = set.as_slice();
+    let step = common_step(series)?;
+    let hull = Grid {
+        start: least_start(series),
+        end: greatest_end(series),
+        step,
+    };
+    if all_have_grid(series, hull) {
+        return short_grid(hull);
+    }
+    short_grid(widened(hull))
+}
+
+// The least common multiple of the steps, or the first on the way to it that is too wide.
+fn common_step(series: &[Series]) -> Result<u64, EvalFault>
+    requires { All (λ s. s.step ≤ widest_step) series.now }
+    ensures value { result ≡ option_map_or (λ m. Err (StepTooWide m)) (wide_multiple (steps_of series.now)) (Ok (lcm_of (steps_of series.now))) }
+    ensures some { IfOk result (λ step. 1 ≤ step) }
+    ensures short { IfOk result (λ step. step ≤ widest_step) }
+{
+    let mut step = 1;
+    for one in series {
+        step = lcm(step, one.step());
+        if step > WIDEST_STEP {
+            return Err(EvalFault::StepTooWide(step));
+        }
+    }
+    Ok(step)
+}
+
+fn least_start(series: &[Series]) -> u64
+    ensures { result ≡ least_start series.now }
+{
+    series.iter().map(|one| one.start()).min().unwrap_or(0)
+}
+
+fn greatest_end(series: &[Series]) -> u64
+    ensures value { result ≡ greatest_end series.now }
+    ensures early { result ≤ latest_end }
+{
+    series.iter().map(|one| one.end()).max().unwrap_or(0)
+}
+
+// Whether all series have this start, end and step.
+fn all_have_grid(series: &[Series], grid: Grid) -> bool
+    ensures { result ≡ list_all (has_grid grid) series.now }
+{
+    series.iter().all(|one| has_grid(one, grid))
+}
+
+fn has_grid(series: &Series, grid: Grid) -> bool
+    ensures { result ≡ has_grid grid series.now }
+{
+    series.start() == grid.start && series.end() == grid.end && series.step() == grid.step
+}
+
+// The grid with its start rounded down and its end rounded up to a multiple of the step.
+fn widened(grid: Grid) -> Grid
+    requires some { 1 ≤ grid.step }
+    requires short { grid.step ≤ widest_step }
+    requires early { grid.end ≤ latest_end }
+    ensures { result ≡ widened grid }
+{
+    Grid {
+        start: grid.start - grid.start % grid.step,
+        end: grid.end.next_multiple_of(grid.step),
+        step: grid.step,
+    }
+}
+
+// The grid, unless a series on it would have too many values.
+fn short_grid(grid: Grid) -> Result<Grid, EvalFault>
+    requires some { 1 ≤ grid.step }
+    requires order { grid.start ≤ grid.end }
+    ensures { result ≡ short_grid grid }
+{
+    let count = value_count(grid);
+    if count > MOST_VALUES {
+        return Err(EvalFault::TooLong(count));
+    }
+    Ok(grid)
+}
+
+// How many values a series on the grid has.
+pub(crate) fn value_count(grid: Grid) -> u64
+    requires some { 1 ≤ grid.step }
+    requires order { grid.start ≤ grid.end }
+    ensures { result ≡ value_count grid }
+{
+    (grid.end - grid.start) / grid.step
+}
