@@ -1,2 +1,6 @@
 pub mod SumLemmas
 pub mod MultipleLemmas
+pub mod WalkLemmas
+pub mod PlaceLemmas
+pub mod GroupLemmas
+pub mod GridLemmas

@@ -1,15 +1,16 @@
 -- Sums of values of 64 bits, and their averages.
-use Rattle.std.proofs.Common.{◌≡◌, ℕ, zero, suc, ℤ, pos, negsuc, neg_ℤ, to_z, of_z, ◌+◌, ◌-◌, ◌*◌, ◌/◌, ◌^◌, ◌+ℤ◌, ◌≤ℤ◌, ◌<◌, ◌≤◌, List, [], ◌∷◌, ◌++◌, length, take, get_or, fold, Option, Some, None, refl, sym, ap, ◌∙◌, arith}
+use Rattle.std.proofs.Common.{◌≡◌, ℕ, zero, suc, ℤ, pos, negsuc, neg_ℤ, to_z, of_z, ◌+◌, ◌-◌, ◌*◌, ◌/◌, ◌^◌, ◌+ℤ◌, ◌≤ℤ◌, ◌<◌, ◌≤◌, ◌==◌, Bool, true, false, List, [], ◌∷◌, ◌++◌, length, take, get_or, fold, Option, Some, None, refl, sym, ap, subst, ◌∙◌, arith}
 use Rattle.std.specs.List.{cons_option}
 use Rattle.std.proofs.lemmas.List.{append-nil, length_push, take_more}
 use Rattle.std.proofs.lemmas.List.Elements.{filter_map-append}
 use Rattle.std.proofs.lemmas.List.Sums.{fold-append}
-use Rattle.series_set.specs.Series.{most_values}
 use Rattle.std.specs.Int.{int_div_euclid, w64, w128}
 use Rattle.std.specs.Int.RustNames.{FitsSigned}
+use Rattle.std.specs.Option.{SomeIff}
+use Rattle.std.proofs.lemmas.Bool.Decides.{nat_tests}
 use Rattle.std.proofs.lemmas.Int.{ints, to_z-of_z}
 use Rattle.std.proofs.lemmas.Nat.{div_below}
-use Rattle.series_set.specs.Average.{IsWithinSums, known}
+use Rattle.series_set.specs.Average.{IsWithinSums, average, known, sum_of}
 
 pub within_none : IsWithinSums 0 (pos 0)
 within_none = record { least = omega (arith, ints); greatest = omega (arith, ints) }
@@ -57,16 +58,44 @@ totals_known values i count sum v within is fits so_far =
     within_more count sum v so_far.1.1.1 fits)))
 
 -- so many values have a sum that 128 bits hold
-pub sum_fits : (count : ℕ) (sum : ℤ) → count ≤ most_values → IsWithinSums count sum → FitsSigned w128 sum
+pub sum_fits : (count : ℕ) (sum : ℤ) → count < 2 ^ 32 → IsWithinSums count sum → FitsSigned w128 sum
 sum_fits count sum few within =
     let least = within.least in
     let greatest = within.greatest in
     omega (arith, ints)
 
 -- the sum with one more value, as the code adds it
-pub sum_added : (count : ℕ) (sum v r : ℤ) → count ≤ most_values → IsWithinSums count (sum +ℤ v) → FitsSigned w64 v → r ≡ v → to_z w128 (of_z w128 (sum +ℤ to_z w128 (of_z w128 r))) ≡ sum +ℤ v
+pub sum_added : (count : ℕ) (sum v r : ℤ) → count < 2 ^ 32 → IsWithinSums count (sum +ℤ v) → FitsSigned w64 v → r ≡ v → to_z w128 (of_z w128 (sum +ℤ to_z w128 (of_z w128 r))) ≡ sum +ℤ v
 sum_added count sum v r few within fits same =
     let wide : FitsSigned w128 v = omega (arith, ints) in
     ap (λ (z : ℤ). to_z w128 (of_z w128 (sum +ℤ to_z w128 (of_z w128 z)))) same
     ∙ ap (λ (z : ℤ). to_z w128 (of_z w128 (sum +ℤ z))) (to_z-of_z w128 v wide)
     ∙ to_z-of_z w128 (sum +ℤ v) (sum_fits count (sum +ℤ v) few within)
+
+-- ---- the average
+
+pub average_is : (values : List ℤ) (count : ℕ) (sum divisor quotient : ℤ) (result : Option ℤ) → sum ≡ sum_of values → count ≡ length values → IsWithinSums count sum → 0 < count → count < 2 ^ 32
+    → divisor ≡ pos count
+    → quotient ≡ int_div_euclid (to_z w128 (of_z w128 sum)) (to_z w128 (of_z w128 divisor))
+    → SomeIff result (FitsSigned w64 (to_z w128 (of_z w128 quotient))) (to_z w128 (of_z w128 quotient))
+    → result ≡ average values
+unfolding average
+average_is values count sum divisor quotient result sum_is count_is within some few divisor_is quotient_is narrowed =
+    let wide : FitsSigned w128 (pos count) = omega (arith, ints) in
+    let is : quotient ≡ int_div_euclid sum (pos count) =
+    quotient_is
+    ∙ ap (λ (z : ℤ). int_div_euclid z (to_z w128 (of_z w128 divisor))) (to_z-of_z w128 sum (sum_fits count sum few within))
+    ∙ ap (λ (z : ℤ). int_div_euclid sum (to_z w128 (of_z w128 z))) divisor_is
+    ∙ ap (λ (z : ℤ). int_div_euclid sum z) (to_z-of_z w128 (pos count) wide) in
+    let fits : FitsSigned w64 quotient = subst (λ (z : ℤ). FitsSigned w64 z) (sym is) (average_fits count sum some within) in
+    let wide_too : FitsSigned w128 quotient = omega (arith, ints) in
+    let same : to_z w128 (of_z w128 quotient) ≡ quotient = to_z-of_z w128 quotient wide_too in
+    let told : SomeIff result (FitsSigned w64 quotient) quotient = subst (λ (z : ℤ). SomeIff result (FitsSigned w64 z) z) same narrowed in
+    let known_some : (length values == 0) ≡ false = grind (arith, nat_tests) in
+    some_where_fits result quotient fits told
+    ∙ ap (λ (z : ℤ). Some z) (is ∙ ap (λ (z : ℤ). int_div_euclid z (pos count)) sum_is ∙ ap (λ (n : ℕ). int_div_euclid (sum_of values) (pos n)) count_is)
+    ∙ sym (rw known_some refl)
+  where
+    some_where_fits : (result : Option ℤ) (quotient : ℤ) → FitsSigned w64 quotient → SomeIff result (FitsSigned w64 quotient) quotient → result ≡ Some quotient
+    some_where_fits None quotient fits told = absurd (told fits)
+    some_where_fits (Some x) quotient fits told = ap (λ (z : ℤ). Some z) told.1

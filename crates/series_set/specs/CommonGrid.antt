@@ -1,5 +1,5 @@
 -- The common grid of series.
-use Rattle.std.specs.Prelude.{◌≡◌, ℕ, ◌+◌, ◌-◌, ◌*◌, ◌/◌, ◌%◌, ◌==◌, ◌≤◌, min, max, Bool, ◌&&◌, nat_lt, nat_le, List, [], ◌∷◌, map, Option, Result, Ok, Err, if◌then◌else◌}
+use Rattle.std.specs.Prelude.{◌≡◌, ℕ, ◌+◌, ◌-◌, ◌*◌, ◌/◌, ◌%◌, ◌==◌, ◌<◌, ◌≤◌, min, max, Bool, ◌&&◌, nat_lt, nat_le, List, [], ◌∷◌, All, map, Option, None, Result, Ok, Err, if◌then◌else◌}
 use Rattle.std.specs.Int.{next_multiple_of}
 use Rattle.std.specs.List.{find, fold, list_all, range_with_len, reduce}
 use Rattle.std.specs.Option.{option_map_or, unwrap_or}
@@ -30,10 +30,17 @@ is_too_wide step = nat_lt widest_step step
 unfoldable pub wide_multiple : List ℕ → Option ℕ
 wide_multiple steps = find is_too_wide (multiples_from 1 steps)
 
--- ---- the ends
-
 abbrev pub steps_of : List SeriesValue → List ℕ
 steps_of set = map (λ s. s.step) set
+
+-- the step to which series can be brought: no multiple on the way is too wide
+pub record IsCommonStep (set : List SeriesValue) (step : ℕ) : Type 0 where
+  pub fitting : wide_multiple (steps_of set) ≡ None
+  pub multiple : step ≡ lcm_of (steps_of set)
+  pub some : 1 ≤ step
+  pub short : step ≤ widest_step
+
+-- ---- the ends
 
 abbrev pub least_start : List SeriesValue → ℕ
 least_start set = unwrap_or (reduce min (map (λ s. s.start) set)) 0
@@ -69,10 +76,21 @@ short_grid grid = if nat_le (value_count grid) most_values then Ok grid else Err
 unfoldable pub common_grid : List SeriesValue → Result Grid EvalFault
 common_grid set = option_map_or (λ m. Err (StepTooWide m)) (wide_multiple (steps_of set)) (short_grid (grid_of set))
 
--- ---- grids that series can be brought to
+-- ---- grids
 
+-- a step, and ends that are whole steps apart
+pub record IsWhole (grid : Grid) : Type 0 where
+  pub some : 1 ≤ grid.step
+  pub order : grid.start ≤ grid.end
+  pub whole : (grid.end - grid.start) % grid.step ≡ 0
+
+-- a grid to which series can be brought
 pub record IsGrid (grid : Grid) : Type 0 where
   pub some : 1 ≤ grid.step
   pub order : grid.start ≤ grid.end
   pub whole : (grid.end - grid.start) % grid.step ≡ 0
   pub few : value_count grid ≤ most_values
+
+-- a moment by which all series have ended, or less than the widest step after one
+abbrev pub EndsSoonAfter : List SeriesValue → ℕ → Type 0
+EndsSoonAfter set end = (by : ℕ) → All (λ s. end_of s ≤ by) set → end < by + widest_step

@@ -1,10 +1,9 @@
 //! The common grid of series.
-ghost use Rattle.std.specs.Prelude.{◌≡◌, ◌+◌, ◌<◌, ◌≤◌, ℕ, All, IfOk, Ok, Err, length, map};
+ghost use Rattle.std.specs.Prelude.{◌≡◌, ◌<◌, ◌≤◌, All, IfErr, IfOk, Some, length, option_map};
 ghost use Rattle.std.specs.List.{list_all};
-ghost use Rattle.std.specs.Option.{option_map_or};
 ghost use Rattle.series_set.specs.declared.grid.EvalFault.TheVariants.{StepTooWide};
-ghost use Rattle.series_set.specs.Series.{end_of, latest_end, widest_step};
-ghost use Rattle.series_set.specs.CommonGrid.{IsGrid, common_grid, greatest_end, has_grid, lcm_of, least_start, short_grid, steps_of, value_count, wide_multiple, widened};
+ghost use Rattle.series_set.specs.Series.{latest_end, widest_step};
+ghost use Rattle.series_set.specs.CommonGrid.{EndsSoonAfter, IsCommonStep, IsGrid, IsWhole, common_grid, greatest_end, grid_of, has_grid, least_start, short_grid, steps_of, value_count, wide_multiple, widened};
 
 use crate::grid::{EvalFault, Grid};
 use crate::multiple::lcm;
@@ -19,33 +18,25 @@ use crate::set::SeriesSet;
 ///
 /// Errors: `StepTooWide` exactly where the multiple is above 31,536,000, with the first such on the way from the first series to the last;
 /// else `TooLong` exactly where the grid has more than 4,000,000 values, with their number.
-#[tactic(auto, unfolding(crate::specs::CommonGrid::common_grid, crate::specs::CommonGrid::grid_of))]
+#[tactic(auto, unfolding(crate::specs::CommonGrid::common_grid))]
 pub fn common_grid(set: &SeriesSet) -> Result<Grid, EvalFault>
     requires some { 0 < length set.now }
     requires short { All (λ s. s.step ≤ widest_step) set.now }
     ensures value { result ≡ common_grid set.now }
     ensures grid { IfOk result IsGrid }
-    ensures late { IfOk result (λ grid. (end : ℕ) → All (λ s. end_of s ≤ end) set.now → grid.end < end + widest_step) }
+    ensures late { IfOk result (λ grid. EndsSoonAfter set.now grid.end) }
 {
     let series = set.as_slice();
     let step = common_step(series)?;
-    let hull = Grid {
-        start: least_start(series),
-        end: greatest_end(series),
-        step,
-    };
-    if all_have_grid(series, hull) {
-        return short_grid(hull);
-    }
-    short_grid(widened(hull))
+    let grid = grid_of(series, step);
+    short_grid(grid)
 }
 
 // The least common multiple of the steps, or the first on the way to it that is too wide.
 fn common_step(series: &[Series]) -> Result<u64, EvalFault>
     requires { All (λ s. s.step ≤ widest_step) series.now }
-    ensures value { result ≡ option_map_or (λ m. Err (StepTooWide m)) (wide_multiple (steps_of series.now)) (Ok (lcm_of (steps_of series.now))) }
-    ensures some { IfOk result (λ step. 1 ≤ step) }
-    ensures short { IfOk result (λ step. step ≤ widest_step) }
+    ensures ok { IfOk result (IsCommonStep series.now) }
+    ensures err { IfErr result (λ fault. option_map StepTooWide (wide_multiple (steps_of series.now)) ≡ Some fault) }
 {
     let mut step = 1;
     for one in series {
@@ -55,6 +46,26 @@ fn common_step(series: &[Series]) -> Result<u64, EvalFault>
         }
     }
     Ok(step)
+}
+
+// The grid of series in their common step.
+#[tactic(auto, unfolding(crate::specs::CommonGrid::grid_of))]
+fn grid_of(series: &[Series], step: u64) -> Grid
+    requires some { 0 < length series.now }
+    requires step { IsCommonStep series.now step }
+    ensures value { result ≡ grid_of series.now }
+    ensures whole { IsWhole result }
+    ensures late { EndsSoonAfter series.now result.end }
+{
+    let hull = Grid {
+        start: least_start(series),
+        end: greatest_end(series),
+        step,
+    };
+    if all_have_grid(series, hull) {
+        return hull;
+    }
+    widened(hull)
 }
 
 fn least_start(series: &[Series]) -> u64
@@ -99,9 +110,10 @@ fn widened(grid: Grid) -> Grid
 
 // The grid, unless a series on it would have too many values.
 fn short_grid(grid: Grid) -> Result<Grid, EvalFault>
-    requires some { 1 ≤ grid.step }
-    requires order { grid.start ≤ grid.end }
-    ensures { result ≡ short_grid grid }
+    requires { IsWhole grid }
+    ensures value { result ≡ short_grid grid }
+    ensures grid { IfOk result IsGrid }
+    ensures same { IfOk result (λ short. short ≡ grid) }
 {
     let count = value_count(grid);
     if count > MOST_VALUES {

@@ -1,5 +1,5 @@
 //! Common divisors and multiples.
-ghost use Rattle.std.specs.Prelude.{◌≡◌, ◌≤◌, ◌<◌};
+ghost use Rattle.std.specs.Prelude.{◌≡◌, ◌≤◌};
 ghost use Rattle.std.specs.Int.{IsGcd};
 ghost use Rattle.series_set.specs.Series.{widest_step};
 ghost use Rattle.series_set.specs.CommonGrid.{lcm};
@@ -10,7 +10,8 @@ pub(crate) fn lcm(a: u64, b: u64) -> u64
     requires also { 1 ≤ b }
     requires short { a ≤ widest_step }
     requires narrow { b ≤ widest_step }
-    ensures { result ≡ lcm a b }
+    ensures value { result ≡ lcm a b }
+    ensures least { 1 ≤ result }
 {
     a / gcd(a, b) * b
 }

@@ -1,6 +1,6 @@
 //! The type of a series.
-ghost use Rattle.std.specs.Prelude.{◌≡◌, ◌≤◌, [], SomeIff, IfOk, string_bytes};
-ghost use Rattle.series_set.specs.Series.{IsSeries, SeriesValue, end_of, latest_end};
+ghost use Rattle.std.specs.Prelude.{◌≡◌, ◌+◌, ◌*◌, ◌≤◌, ◌↔◌, [], IsTrue, SomeIff, IfOk, string_bytes};
+ghost use Rattle.series_set.specs.Series.{IsSeries, SeriesValue, end_of, latest_end, most_values};
 
 use fixed_num::Milli;
 use std::alloc::AllocError;
@@ -54,7 +54,7 @@ impl Series {
         ensures { let series : SeriesValue = record { name = string_bytes name; path = string_bytes path;
             start = start; step = step; values = values.items } in SomeIff result (IsSeries series) series }
     {
-        if step == 0 || !fits(start, step, values.len() as u64) {
+        if !is_legal(start, step, values.len()) {
             return None;
         }
         Some(Series { name, path, start, step, values })
@@ -164,8 +164,11 @@ impl Series {
     }
 }
 
-/// Whether so many values, a step apart, are few enough and end early enough.
-fn fits(start: u64, step: u64, count: u64) -> bool {
-    count <= MOST_VALUES
-        && u128::from(start) + u128::from(count) * u128::from(step) <= u128::from(LATEST_END)
+// Whether so many values, a step apart, make a series.
+fn is_legal(start: u64, step: u64, count: usize) -> bool
+    ensures { IsTrue result ↔ ((1 ≤ step) × ((count ≤ most_values) × (start + count * step ≤ latest_end))) }
+{
+    let count = count as u64;
+    let end = u128::from(start) + u128::from(count) * u128::from(step);
+    step >= 1 && count <= MOST_VALUES && end <= u128::from(LATEST_END)
 }

@@ -1,4 +1,9 @@
+use Rattle.std.proofs.Common.{◌<◌, ◌^◌, arith, rules}
+use Rattle.series_set.proofs.SumLemmas.{average_is}
 use Rattle.series_set.proofs.averaging.average_known.Goals as goal
 
 pub returns : goal.returns
-returns c = let a = c.narrow.ensures in let b = c.div_euclid.ensures in let d = c.from.ensures in let t = c.total_known-total.ensures in let e = c.if-total-eq0.false in ?
+returns c =
+    let total = c.total_known-total.ensures in
+    let few : c.total_known-total.result.count < 2 ^ 32 = search rules in
+    average_is _ c.total_known-total.result.count c.total_known-total.result.sum c.from.result c.div_euclid.result c.narrow.result total.sum total.count total.within (omega (arith, c.if-total-eq0.false)) few c.from.ensures c.div_euclid.ensures c.narrow.ensures
