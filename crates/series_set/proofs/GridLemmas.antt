@@ -14,11 +14,11 @@ use Rattle.series_set.specs.CommonGrid.{EndsSoonAfter, IsWhole, greatest_end, ha
 
 -- ---- the least start and the greatest end
 
-fold-min_le : (x : ℕ) (xs : List ℕ) → fold min x xs ≤ x
+pub fold-min_le : (x : ℕ) (xs : List ℕ) → fold min x xs ≤ x
 fold-min_le x [] = omega arith
 fold-min_le x (y ∷ ys) = omega (arith, fold-min_le (min x y) ys)
 
-le-fold-max : (x : ℕ) (xs : List ℕ) → x ≤ fold max x xs
+pub le-fold-max : (x : ℕ) (xs : List ℕ) → x ≤ fold max x xs
 le-fold-max x [] = omega arith
 le-fold-max x (y ∷ ys) = omega (arith, le-fold-max (max x y) ys)
 
@@ -55,15 +55,15 @@ start_divides : (n step : ℕ) → step ∣ n - n % step
 start_divides n step = subst (λ (m : ℕ). step ∣ m) (omega (arith, div-add-mod' n step)) (dvd-mul_left step (n / step))
 
 -- the next multiple is less than a step away
-record IsNext (n step m : ℕ) : Type 0 where
-  divides : step ∣ m
-  behind : n ≤ m
-  near : m < n + step
+pub record IsNext (n step m : ℕ) : Type 0 where
+  pub divides : step ∣ m
+  pub behind : n ≤ m
+  pub near : m < n + step
 
 next_of : (n step times : ℕ) → next_multiple_of n step ≡ times * step → n ≤ next_multiple_of n step → next_multiple_of n step < n + step → IsNext n step (next_multiple_of n step)
 next_of n step times is behind near = record { divides = subst (λ (m : ℕ). step ∣ m) (sym is) (dvd-mul_left step times); behind = behind; near = near }
 
-next_is : (n step : ℕ) → 1 ≤ step → IsNext n step (next_multiple_of n step)
+pub next_is : (n step : ℕ) → 1 ≤ step → IsNext n step (next_multiple_of n step)
 next_is n step some =
     let product = div-add-mod' n step in
     elim (cases_lt 0 (n % step)) [

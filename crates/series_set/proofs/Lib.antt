@@ -4,3 +4,4 @@ pub mod WalkLemmas
 pub mod PlaceLemmas
 pub mod GroupLemmas
 pub mod GridLemmas
+pub mod LawLemmas

@@ -91,6 +91,6 @@ pub record IsGrid (grid : Grid) : Type 0 where
   pub whole : (grid.end - grid.start) % grid.step ≡ 0
   pub few : value_count grid ≤ most_values
 
--- a moment by which all series have ended, or less than the widest step after one
+-- less than the widest step after any moment by which all series have ended
 abbrev pub EndsSoonAfter : List SeriesValue → ℕ → Type 0
 EndsSoonAfter set end = (by : ℕ) → All (λ s. end_of s ≤ by) set → end < by + widest_step

@@ -3,3 +3,4 @@ pub mod Average
 pub mod CommonGrid
 pub mod OnGrid
 pub mod Thinned
+pub mod GridLaws

@@ -3,11 +3,11 @@ ghost use Rattle.std.specs.Prelude.{◌≡◌, ◌<◌, ◌≤◌, All, IfErr, I
 ghost use Rattle.std.specs.List.{list_all};
 ghost use Rattle.series_set.specs.declared.grid.EvalFault.TheVariants.{StepTooWide};
 ghost use Rattle.series_set.specs.Series.{latest_end, widest_step};
-ghost use Rattle.series_set.specs.CommonGrid.{EndsSoonAfter, IsCommonStep, IsGrid, IsWhole, common_grid, greatest_end, grid_of, has_grid, least_start, short_grid, steps_of, value_count, wide_multiple, widened};
+ghost use Rattle.series_set.specs.CommonGrid.{EndsSoonAfter, IsCommonStep, IsGrid, IsWhole, common_grid, greatest_end, grid_of, has_grid, least_start, steps_of, wide_multiple};
 
 use crate::grid::{EvalFault, Grid};
 use crate::multiple::lcm;
-use crate::series::{MOST_VALUES, Series, WIDEST_STEP};
+use crate::series::{Series, WIDEST_STEP};
 use crate::set::SeriesSet;
 
 /// The grid to which series are brought so that they can be compared moment by moment.
@@ -28,15 +28,15 @@ pub fn common_grid(set: &SeriesSet) -> Result<Grid, EvalFault>
 {
     let series = set.as_slice();
     let step = common_step(series)?;
-    let grid = grid_of(series, step);
-    short_grid(grid)
+    grid_of(series, step).short()
 }
 
 // The least common multiple of the steps, or the first on the way to it that is too wide.
 fn common_step(series: &[Series]) -> Result<u64, EvalFault>
     requires { All (λ s. s.step ≤ widest_step) series.now }
     ensures ok { IfOk result (IsCommonStep series.now) }
-    ensures err { IfErr result (λ fault. option_map StepTooWide (wide_multiple (steps_of series.now)) ≡ Some fault) }
+    ensures err { IfErr result (λ fault.
+        option_map StepTooWide (wide_multiple (steps_of series.now)) ≡ Some fault) }
 {
     let mut step = 1;
     for one in series {
@@ -65,7 +65,7 @@ fn grid_of(series: &[Series], step: u64) -> Grid
     if all_have_grid(series, hull) {
         return hull;
     }
-    widened(hull)
+    hull.widened()
 }
 
 fn least_start(series: &[Series]) -> u64
@@ -92,41 +92,4 @@ fn has_grid(series: &Series, grid: Grid) -> bool
     ensures { result ≡ has_grid grid series.now }
 {
     series.start() == grid.start && series.end() == grid.end && series.step() == grid.step
-}
-
-// The grid with its start rounded down and its end rounded up to a multiple of the step.
-fn widened(grid: Grid) -> Grid
-    requires some { 1 ≤ grid.step }
-    requires short { grid.step ≤ widest_step }
-    requires early { grid.end ≤ latest_end }
-    ensures { result ≡ widened grid }
-{
-    Grid {
-        start: grid.start - grid.start % grid.step,
-        end: grid.end.next_multiple_of(grid.step),
-        step: grid.step,
-    }
-}
-
-// The grid, unless a series on it would have too many values.
-fn short_grid(grid: Grid) -> Result<Grid, EvalFault>
-    requires { IsWhole grid }
-    ensures value { result ≡ short_grid grid }
-    ensures grid { IfOk result IsGrid }
-    ensures same { IfOk result (λ short. short ≡ grid) }
-{
-    let count = value_count(grid);
-    if count > MOST_VALUES {
-        return Err(EvalFault::TooLong(count));
-    }
-    Ok(grid)
-}
-
-// How many values a series on the grid has.
-pub(crate) fn value_count(grid: Grid) -> u64
-    requires some { 1 ≤ grid.step }
-    requires order { grid.start ≤ grid.end }
-    ensures { result ≡ value_count grid }
-{
-    (grid.end - grid.start) / grid.step
 }

@@ -4,6 +4,7 @@
 mod averaging;
 mod common;
 mod grid;
+mod laws;
 mod multiple;
 mod regrid;
 mod series;
@@ -13,6 +14,10 @@ mod thinning;
 pub use averaging::average_known;
 pub use common::common_grid;
 pub use grid::{EvalFault, Grid};
+pub use laws::{
+    agreeing_series_keep_their_grid, average_is_rounded_down, common_grid_holds_all_moments,
+    common_step_is_the_least_multiple, few_values_stay,
+};
 pub use regrid::on_grid;
 pub use series::{LATEST_END, MOST_VALUES, Series, WIDEST_STEP};
 pub use set::{SeriesRows, SeriesSet};

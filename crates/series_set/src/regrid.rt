@@ -2,12 +2,11 @@
 ghost use Rattle.std.specs.Prelude.{◌≡◌, ◌-◌, ◌≤◌, IfOk, drop, length, map, take};
 ghost use Rattle.std.specs.List.{range_with_len};
 ghost use Rattle.series_set.specs.Average.{average, known};
-ghost use Rattle.series_set.specs.Series.{latest_end, moment_at};
+ghost use Rattle.series_set.specs.Series.{latest_end};
 ghost use Rattle.series_set.specs.CommonGrid.{IsGrid, value_count};
-ghost use Rattle.series_set.specs.OnGrid.{IsPlaceOf, bucket_value, on_grid};
+ghost use Rattle.series_set.specs.OnGrid.{bucket_value, on_grid};
 
 use crate::averaging::average_known;
-use crate::common::value_count;
 use crate::grid::Grid;
 use crate::series::Series;
 use fixed_num::Milli;
@@ -35,15 +34,16 @@ fn bucket_values(
 ) -> Result<Vec<Option<Milli>>, AllocError>
     requires grid { IsGrid grid }
     requires early { grid.end ≤ latest_end }
-    ensures { IfOk result (λ values. values.items ≡ map (bucket_value series.now grid) (range_with_len 0 (value_count grid))) }
+    ensures { IfOk result (λ values. values.items ≡
+        map (bucket_value series.now grid) (range_with_len 0 (value_count grid))) }
 {
-    let count = value_count(grid);
+    let count = grid.value_count();
     let mut values = Vec::with_capacity(alloc, count as usize)?;
     let mut limit = grid.start;
-    let mut from = place_of(series, limit);
+    let mut from = series.place_of(limit);
     for _bucket in 0..count {
         limit += grid.step;
-        let until = place_of(series, limit);
+        let until = series.place_of(limit);
         values.push(average_of_run(series, from, until))?;
         from = until;
     }
@@ -57,13 +57,4 @@ fn average_of_run(series: &Series, from: usize, until: usize) -> Option<Milli>
     ensures { result ≡ average (known (take (until - from) (drop from series.now.values))) }
 {
     average_known(&series.values()[from..until])
-}
-
-// How many values come before a moment.
-fn place_of(series: &Series, moment: u64) -> usize
-    requires { moment ≤ latest_end }
-    ensures { IsPlaceOf series.now moment result }
-{
-    let passed = moment.saturating_sub(series.start()).div_ceil(series.step());
-    series.values().len().min(passed as usize)
 }

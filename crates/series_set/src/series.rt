@@ -1,5 +1,6 @@
 //! The type of a series.
 ghost use Rattle.std.specs.Prelude.{◌≡◌, ◌+◌, ◌*◌, ◌≤◌, ◌↔◌, [], IsTrue, SomeIff, IfOk, string_bytes};
+ghost use Rattle.series_set.specs.OnGrid.{IsPlaceOf};
 ghost use Rattle.series_set.specs.Series.{IsSeries, SeriesValue, end_of, latest_end, most_values};
 
 use fixed_num::Milli;
@@ -119,6 +120,14 @@ impl Series {
         ensures legal { IsSeries self.now }
     {
         self.values.as_slice()
+    }
+
+    /// How many values come before a moment.
+    pub fn place_of(&self, moment: u64) -> usize
+        ensures { IsPlaceOf self.now moment result }
+    {
+        let passed = moment.saturating_sub(self.start()).div_ceil(self.step());
+        self.values().len().min(passed as usize)
     }
 
     /// The series under another name.
