@@ -7,10 +7,10 @@ use Rattle.std.specs.List.{list_all}
 use Rattle.std.proofs.lemmas.Bool.{cases_lt}
 use Rattle.std.proofs.lemmas.Bool.Decides.{nat_tests}
 use Rattle.std.proofs.lemmas.List.Elements.{All-head, All-tail}
-use Rattle.std.proofs.lemmas.Nat.{div-add-mod', mod_below, mod-mul-add}
+use Rattle.std.proofs.lemmas.Nat.{div-add-mod', div-mul-add, mod_below, mod-mul-add}
 use Rattle.series_set.specs.declared.grid.Grid.{Grid}
 use Rattle.series_set.specs.Series.{SeriesValue, end_of, widest_step}
-use Rattle.series_set.specs.CommonGrid.{EndsSoonAfter, IsWhole, greatest_end, has_grid, least_start, widened}
+use Rattle.series_set.specs.CommonGrid.{EndsSoonAfter, IsWhole, greatest_end, has_grid, least_start, value_count, widened}
 
 -- ---- the least start and the greatest end
 
@@ -38,15 +38,32 @@ greatest_end_le by (s ∷ set) some all = fold-max_le by (end_of s) set (All-hea
 
 -- ---- a grid that a series has
 
+-- what series have that have a grid
+pub record Agrees (grid : Grid) (s : SeriesValue) : Type 0 where
+  pub start : s.start ≡ grid.start
+  pub end : end_of s ≡ grid.end
+  pub step : s.step ≡ grid.step
+
+pub agrees : (grid : Grid) (s : SeriesValue) → has_grid grid s ≡ true → Agrees grid s
+agrees grid s is =
+    let same : (s.start ≡ grid.start) × ((end_of s ≡ grid.end) × (s.step ≡ grid.step)) = grind (arith, nat_tests) in
+    record { start = same.0; end = same.1.0; step = same.1.1 }
+
+apart_agreed : (grid : Grid) (s : SeriesValue) → Agrees grid s → grid.end - grid.start ≡ length s.values * grid.step + 0
+apart_agreed grid s same = omega (arith, same.start, same.end, ap (λ (n : ℕ). length s.values * n) same.step)
+
+pub count_agreed : (grid : Grid) (s : SeriesValue) → 1 ≤ s.step → Agrees grid s → value_count grid ≡ length s.values
+count_agreed grid s some same = ap (λ (n : ℕ). n / grid.step) (apart_agreed grid s same) ∙ div-mul-add (length s.values) grid.step 0 (omega (arith, same.step))
+
 pub own_grid_is : (grid : Grid) (set : List SeriesValue) → 0 < length set → 1 ≤ grid.step → list_all (has_grid grid) set ≡ true → IsWhole grid
 own_grid_is grid [] some least all = absurd (omega arith)
 own_grid_is grid (s ∷ set) some least all =
-    let same : (s.start ≡ grid.start) × ((end_of s ≡ grid.end) × (s.step ≡ grid.step)) = grind (arith, nat_tests) in
-    let apart : grid.end - grid.start ≡ length s.values * grid.step + 0 = omega (arith, same.0, same.1.0, ap (λ (n : ℕ). length s.values * n) same.1.1) in
+    let first : has_grid grid s ≡ true = grind (arith, nat_tests) in
+    let same = agrees grid s first in
     record {
       some = least;
-      order = omega (arith, same.0, same.1.0);
-      whole = ap (λ (n : ℕ). n % grid.step) apart ∙ mod-mul-add (length s.values) grid.step 0 least;
+      order = omega (arith, same.start, same.end);
+      whole = ap (λ (n : ℕ). n % grid.step) (apart_agreed grid s same) ∙ mod-mul-add (length s.values) grid.step 0 least;
     }
 
 -- ---- ends that are rounded outwards

@@ -10,17 +10,18 @@ use Rattle.std.proofs.lemmas.Bool.{cases_lt, false≢true}
 use Rattle.std.proofs.lemmas.Bool.Decides.{nat_tests}
 use Rattle.std.proofs.lemmas.Int.{ints}
 use Rattle.std.proofs.lemmas.List.Elements.{All-cons, All-head, All-tail}
-use Rattle.std.proofs.lemmas.Nat.{div-add-mod', div-mul-add, mod_below, mul-le}
+use Rattle.std.proofs.lemmas.Nat.{div-add-mod', mod_below, mul-le}
 use Rattle.series_set.specs.declared.grid.Grid.{Grid}
 use Rattle.series_set.specs.declared.grid.EvalFault.{EvalFault}
 use Rattle.series_set.specs.declared.grid.EvalFault.TheVariants.{StepTooWide, TooLong}
 use Rattle.series_set.specs.Series.{IsSeries, SeriesValue, end_of, moment_at, most_values, widest_step}
 use Rattle.series_set.specs.Average.{average, sum_of}
 use Rattle.series_set.specs.CommonGrid.{common_grid, grid_of, greatest_end, has_grid, hull, is_too_wide, lcm, lcm_of, least_start, multiples_from, short_grid, steps_of, value_count, wide_multiple, widened}
-use Rattle.series_set.specs.GridLaws.{AgreeingSeriesKeepTheirGrid, AverageIsRoundedDown, CommonStepIsLeast, FewValuesStay, GridHoldsAllMoments, HoldsMoments, IsLeastMultiple}
+use Rattle.series_set.specs.GridLaws.{AgreeingSeriesKeepTheirGrid, AverageIsRoundedDown, CommonStepIsLeast, FewValuesStay, GridHoldsAllMoments, HoldsMoments, IsLeastMultiple, OwnGridStays}
 use Rattle.series_set.specs.Thinned.{thinned}
-use Rattle.series_set.proofs.GridLemmas.{fold-min_le, le-fold-max, next_is}
+use Rattle.series_set.proofs.GridLemmas.{Agrees, agrees, count_agreed, fold-min_le, le-fold-max, next_is}
 use Rattle.series_set.proofs.MultipleLemmas.{lcm_is}
+use Rattle.series_set.proofs.OwnGridLemmas.{own_grid_stays}
 
 -- ---- the step
 
@@ -136,17 +137,6 @@ grid_holds_all_moments set grid legal is k d within =
 
 -- ---- series that agree
 
--- what series have that have a grid
-record Agrees (grid : Grid) (s : SeriesValue) : Type 0 where
-  start : s.start ≡ grid.start
-  end : end_of s ≡ grid.end
-  step : s.step ≡ grid.step
-
-agrees : (grid : Grid) (s : SeriesValue) → has_grid grid s ≡ true → Agrees grid s
-agrees grid s is =
-    let same : (s.start ≡ grid.start) × ((end_of s ≡ grid.end) × (s.step ≡ grid.step)) = grind (arith, nat_tests) in
-    record { start = same.0; end = same.1.0; step = same.1.1 }
-
 all_agree : (grid : Grid) (set : List SeriesValue) → All (λ s. has_grid grid s ≡ true) set → All (Agrees grid) set
 all_agree grid set agree k d within = agrees grid (get_or set k d) (agree k d within)
 
@@ -217,9 +207,7 @@ wide_agreed grid s set some short agree =
 
 short_agreed : (grid : Grid) (s : SeriesValue) → IsSeries s → Agrees grid s → short_grid grid ≡ Ok grid
 short_agreed grid s legal same =
-    let apart : grid.end - grid.start ≡ length s.values * grid.step + 0 = omega (arith, same.start, same.end, ap (λ (n : ℕ). length s.values * n) same.step) in
-    let some : 1 ≤ grid.step = omega (arith, same.step, legal.some) in
-    let count : value_count grid ≡ length s.values = ap (λ (n : ℕ). n / grid.step) apart ∙ div-mul-add (length s.values) grid.step 0 some in
+    let count = count_agreed grid s legal.some same in
     let few : nat_le (value_count grid) most_values ≡ true = let most = legal.few in grind (arith, nat_tests) in
     rw few refl
 
@@ -268,6 +256,9 @@ pub average_is_rounded_down : AverageIsRoundedDown
 unfolding average
 average_is_rounded_down [] a is = absurd (false≢true (ap is_there is))
 average_is_rounded_down (v ∷ values) a is = floor_of_average (v ∷ values) a (omega arith) is
+
+pub own_grid_is_kept : OwnGridStays
+own_grid_is_kept s grid legal is = own_grid_stays s grid legal.some is
 
 pub few_values_stay : FewValuesStay
 unfolding thinned

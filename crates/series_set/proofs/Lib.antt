@@ -5,3 +5,4 @@ pub mod PlaceLemmas
 pub mod GroupLemmas
 pub mod GridLemmas
 pub mod LawLemmas
+pub mod OwnGridLemmas

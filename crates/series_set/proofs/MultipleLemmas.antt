@@ -123,3 +123,6 @@ lcm_by_gcd a b g some also is =
 
 pub gcd_some : (a b g : ℕ) → 1 ≤ a → IsGcd a b g → 0 < g
 gcd_some a b g some is = pos_of_dvd_of_pos is.0 some
+
+pub quotient_some : (a b g : ℕ) → 1 ≤ a → 1 ≤ b → IsGcd a b g → 1 ≤ a / g * b
+quotient_some a b g some also is = subst (λ (n : ℕ). 1 ≤ n) (sym (lcm_by_gcd a b g some also is)) (lcm_is a b some also).some

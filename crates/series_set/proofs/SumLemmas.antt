@@ -74,19 +74,13 @@ sum_added count sum v r few within fits same =
 
 -- ---- the average
 
-pub average_is : (values : List ℤ) (count : ℕ) (sum divisor quotient : ℤ) (result : Option ℤ) → sum ≡ sum_of values → count ≡ length values → IsWithinSums count sum → 0 < count → count < 2 ^ 32
-    → divisor ≡ pos count
-    → quotient ≡ int_div_euclid (to_z w128 (of_z w128 sum)) (to_z w128 (of_z w128 divisor))
+pub average_is : (values : List ℤ) (count : ℕ) (sum quotient : ℤ) (result : Option ℤ) → sum ≡ sum_of values → count ≡ length values → IsWithinSums count sum → 0 < count → count < 2 ^ 32
+    → quotient ≡ int_div_euclid (to_z w128 (of_z w128 sum)) (pos count)
     → SomeIff result (FitsSigned w64 (to_z w128 (of_z w128 quotient))) (to_z w128 (of_z w128 quotient))
     → result ≡ average values
 unfolding average
-average_is values count sum divisor quotient result sum_is count_is within some few divisor_is quotient_is narrowed =
-    let wide : FitsSigned w128 (pos count) = omega (arith, ints) in
-    let is : quotient ≡ int_div_euclid sum (pos count) =
-    quotient_is
-    ∙ ap (λ (z : ℤ). int_div_euclid z (to_z w128 (of_z w128 divisor))) (to_z-of_z w128 sum (sum_fits count sum few within))
-    ∙ ap (λ (z : ℤ). int_div_euclid sum (to_z w128 (of_z w128 z))) divisor_is
-    ∙ ap (λ (z : ℤ). int_div_euclid sum z) (to_z-of_z w128 (pos count) wide) in
+average_is values count sum quotient result sum_is count_is within some few quotient_is narrowed =
+    let is : quotient ≡ int_div_euclid sum (pos count) = quotient_is ∙ ap (λ (z : ℤ). int_div_euclid z (pos count)) (to_z-of_z w128 sum (sum_fits count sum few within)) in
     let fits : FitsSigned w64 quotient = subst (λ (z : ℤ). FitsSigned w64 z) (sym is) (average_fits count sum some within) in
     let wide_too : FitsSigned w128 quotient = omega (arith, ints) in
     let same : to_z w128 (of_z w128 quotient) ≡ quotient = to_z-of_z w128 quotient wide_too in

@@ -4,6 +4,7 @@ use Rattle.series_set.specs.declared.grid.Grid.{Grid}
 use Rattle.series_set.specs.Series.{IsSeries, SeriesValue, moment_at, widest_step}
 use Rattle.series_set.specs.Average.{average, sum_of}
 use Rattle.series_set.specs.CommonGrid.{common_grid, has_grid, steps_of}
+use Rattle.series_set.specs.OnGrid.{on_grid}
 use Rattle.series_set.specs.Thinned.{thinned}
 
 -- a number above 0 that is a multiple of each step, and none that is less is one
@@ -27,6 +28,9 @@ AgreeingSeriesKeepTheirGrid = (set : List SeriesValue) (grid : Grid) → 0 < len
 
 abbrev pub AverageIsRoundedDown : Type 0
 AverageIsRoundedDown = (values : List ℤ) (a : ℤ) → average values ≡ Some a → ((a *ℤ pos (length values)) ≤ℤ sum_of values) × (sum_of values <ℤ ((a +ℤ pos 1) *ℤ pos (length values)))
+
+abbrev pub OwnGridStays : Type 0
+OwnGridStays = (s : SeriesValue) (grid : Grid) → IsSeries s → has_grid grid s ≡ true → on_grid s grid ≡ s
 
 abbrev pub FewValuesStay : Type 0
 FewValuesStay = (most : ℕ) (s : SeriesValue) → length s.values ≤ most → thinned most s ≡ s

@@ -1,5 +1,6 @@
 //! The average of known values.
-ghost use Rattle.std.specs.Prelude.{◌≡◌, ◌≤◌, length};
+ghost use Rattle.std.specs.Prelude.{◌≡◌, ◌<◌, ◌≤◌, length, pos};
+ghost use Rattle.std.specs.Int.{int_div_euclid};
 ghost use Rattle.series_set.specs.Series.{most_values};
 ghost use Rattle.series_set.specs.Average.{IsWithinSums, average, known, sum_of};
 
@@ -16,7 +17,15 @@ pub fn average_known(values: &[Option<Milli>]) -> Option<Milli>
     if total.count == 0 {
         return None;
     }
-    narrow(total.sum.div_euclid(i128::from(total.count)))
+    narrow(quotient(total.sum, total.count))
+}
+
+// The quotient, rounded down.
+fn quotient(sum: i128, count: u32) -> i128
+    requires { 0 < count }
+    ensures { result ≡ int_div_euclid sum (pos count) }
+{
+    sum.div_euclid(i128::from(count))
 }
 
 #[derive(Clone, Copy)]

@@ -85,11 +85,5 @@ fn greatest_end(series: &[Series]) -> u64
 fn all_have_grid(series: &[Series], grid: Grid) -> bool
     ensures { result ≡ list_all (has_grid grid) series.now }
 {
-    series.iter().all(|one| has_grid(one, grid))
-}
-
-fn has_grid(series: &Series, grid: Grid) -> bool
-    ensures { result ≡ has_grid grid series.now }
-{
-    series.start() == grid.start && series.end() == grid.end && series.step() == grid.step
+    series.iter().all(|one| one.has_grid(grid))
 }

@@ -1,5 +1,5 @@
 //! What holds of common grids, averages and thinned series. The functions do nothing: what they ensure is the law.
-ghost use Rattle.series_set.specs.GridLaws.{AgreeingSeriesKeepTheirGrid, AverageIsRoundedDown, CommonStepIsLeast, FewValuesStay, GridHoldsAllMoments};
+ghost use Rattle.series_set.specs.GridLaws.{AgreeingSeriesKeepTheirGrid, AverageIsRoundedDown, CommonStepIsLeast, FewValuesStay, GridHoldsAllMoments, OwnGridStays};
 
 /// The step of a common grid is a multiple of each series' step, and no lesser number above 0 is.
 #[tactic(auto, using(crate::proofs::LawLemmas::common_step_is_least))]
@@ -23,6 +23,12 @@ pub fn agreeing_series_keep_their_grid()
 #[tactic(auto, using(crate::proofs::LawLemmas::average_is_rounded_down))]
 pub fn average_is_rounded_down()
     ensures { AverageIsRoundedDown }
+{}
+
+/// A series on its own grid is as it was.
+#[tactic(auto, using(crate::proofs::LawLemmas::own_grid_is_kept))]
+pub fn own_grid_changes_nothing()
+    ensures { OwnGridStays }
 {}
 
 /// Thinning leaves a series as it is that has no more values than wanted.

@@ -16,7 +16,7 @@ pub use common::common_grid;
 pub use grid::{EvalFault, Grid};
 pub use laws::{
     agreeing_series_keep_their_grid, average_is_rounded_down, common_grid_holds_all_moments,
-    common_step_is_the_least_multiple, few_values_stay,
+    common_step_is_the_least_multiple, few_values_stay, own_grid_changes_nothing,
 };
 pub use regrid::on_grid;
 pub use series::{LATEST_END, MOST_VALUES, Series, WIDEST_STEP};

@@ -5,6 +5,7 @@ ghost use Rattle.series_set.specs.Series.{widest_step};
 ghost use Rattle.series_set.specs.CommonGrid.{lcm};
 
 /// The least common multiple of two steps.
+#[tactic(auto, using(crate::proofs::MultipleLemmas::gcd_some, crate::proofs::MultipleLemmas::lcm_by_gcd, crate::proofs::MultipleLemmas::quotient_some))]
 pub(crate) fn lcm(a: u64, b: u64) -> u64
     requires some { 1 ≤ a }
     requires also { 1 ≤ b }

@@ -13,13 +13,17 @@ use fixed_num::Milli;
 use std::alloc::{AllocError, Global};
 
 /// The series on a grid, under its name and path: each bucket of the grid has the average, rounded down, of the known values whose
-/// moments lie in it, and misses a value where there is none. The work grows with the values and the buckets, one after the other.
+/// moments lie in it, and misses a value where there is none. A series on its own grid is as it was. The work grows with the values and the buckets, one after the other.
 #[tactic(auto, unfolding(crate::specs::OnGrid::on_grid))]
 pub fn on_grid(alloc: Global, series: &Series, grid: &Grid) -> Result<Series, AllocError>
     requires grid { IsGrid grid.now }
     requires early { grid.now.end ≤ latest_end }
     ensures { IfOk result (λ moved. moved ≡ on_grid series.now grid.now) }
 {
+    // What most series are on: their own grid, where nothing is to be computed.
+    if series.has_grid(*grid) {
+        return series.copy();
+    }
     let name = String::from_str(alloc, series.name())?;
     let path = String::from_str(alloc, series.path())?;
     let values = bucket_values(alloc, series, *grid)?;

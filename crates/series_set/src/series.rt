@@ -1,8 +1,10 @@
 //! The type of a series.
 ghost use Rattle.std.specs.Prelude.{◌≡◌, ◌+◌, ◌*◌, ◌≤◌, ◌↔◌, [], IsTrue, SomeIff, IfOk, string_bytes};
+ghost use Rattle.series_set.specs.CommonGrid.{has_grid};
 ghost use Rattle.series_set.specs.OnGrid.{IsPlaceOf};
 ghost use Rattle.series_set.specs.Series.{IsSeries, SeriesValue, end_of, latest_end, most_values};
 
+use crate::grid::Grid;
 use fixed_num::Milli;
 use std::alloc::AllocError;
 use std::marker::Model;
@@ -120,6 +122,13 @@ impl Series {
         ensures legal { IsSeries self.now }
     {
         self.values.as_slice()
+    }
+
+    /// Whether the series has the start, the end and the step of a grid.
+    pub fn has_grid(&self, grid: Grid) -> bool
+        ensures { result ≡ has_grid grid self.now }
+    {
+        self.start() == grid.start && self.end() == grid.end && self.step() == grid.step
     }
 
     /// How many values come before a moment.

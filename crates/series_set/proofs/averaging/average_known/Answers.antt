@@ -6,4 +6,4 @@ pub returns : goal.returns
 returns c =
     let total = c.total_known-total.ensures in
     let few : c.total_known-total.result.count < 2 ^ 32 = search rules in
-    average_is _ c.total_known-total.result.count c.total_known-total.result.sum c.from.result c.div_euclid.result c.narrow.result total.sum total.count total.within (omega (arith, c.if-total-eq0.false)) few c.from.ensures c.div_euclid.ensures c.narrow.ensures
+    average_is _ c.total_known-total.result.count c.total_known-total.result.sum c.quotient.result c.narrow.result total.sum total.count total.within (omega (arith, c.if-total-eq0.false)) few c.quotient.ensures c.narrow.ensures
