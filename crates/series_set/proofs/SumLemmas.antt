@@ -51,11 +51,16 @@ totals_missing values i count sum within is so_far =
 
 pub totals_known : (values : List (Option ℤ)) (i count : ℕ) (sum v : ℤ) → i < length values → get_or values i None ≡ Some v → FitsSigned w64 v → Totals values i sum count → Totals values (i + 1) (sum +ℤ v) (count + 1)
 totals_known values i count sum v within is fits so_far =
-    let more : known (take (i + 1) values) ≡ known (take i values) ++ v ∷ [] = next_known values i within ∙ rw is refl in
-    (ap (λ (z : ℤ). z +ℤ v) so_far.0 ∙ sym (fold-append ◌+ℤ◌ (pos 0) (known (take i values)) (v ∷ [])) ∙ ap (fold ◌+ℤ◌ (pos 0)) (sym more),
-    (ap (λ (n : ℕ). n + 1) so_far.1.0 ∙ sym (length_push (known (take i values)) v) ∙ ap length (sym more),
-    (omega (arith, so_far.1.1.0),
-    within_more count sum v so_far.1.1.1 fits)))
+    let more : known (take (i + 1) values) ≡ known (take i values) ++ v ∷ [] = next_known values i within ∙ rw is refl in (
+      ap (λ (z : ℤ). z +ℤ v) so_far.0 ∙ sym (fold-append ◌+ℤ◌ (pos 0) (known (take i values)) (v ∷ [])) ∙ ap (fold ◌+ℤ◌ (pos 0)) (sym more),
+      (
+        ap (λ (n : ℕ). n + 1) so_far.1.0 ∙ sym (length_push (known (take i values)) v) ∙ ap length (sym more),
+        (
+          omega (arith, so_far.1.1.0),
+          within_more count sum v so_far.1.1.1 fits,
+        ),
+      ),
+    )
 
 -- so many values have a sum that 128 bits hold
 pub sum_fits : (count : ℕ) (sum : ℤ) → count < 2 ^ 32 → IsWithinSums count sum → FitsSigned w128 sum

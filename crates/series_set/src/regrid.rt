@@ -13,7 +13,10 @@ use fixed_num::Milli;
 use std::alloc::{AllocError, Global};
 
 /// The series on a grid, under its name and path: each bucket of the grid has the average, rounded down, of the known values whose
-/// moments lie in it, and misses a value where there is none. A series on its own grid is as it was. The work grows with the values and the buckets, one after the other.
+/// moments lie in it, and misses a value where there is none. A series on its own grid is as it was. The work grows with the values and
+/// the buckets, one after the other.
+///
+/// The end may not be later than [`crate::LATEST_END`]: the end of a common grid is less than 31,536,000 seconds after that of its series.
 #[tactic(auto, unfolding(crate::specs::OnGrid::on_grid))]
 pub fn on_grid(alloc: Global, series: &Series, grid: &Grid) -> Result<Series, AllocError>
     requires grid { IsGrid grid.now }

@@ -37,11 +37,21 @@ impl Model for Series {
 
     ghost Value = { SeriesValue };
 
-    ghost view = { λ s. record { name = string_bytes s.name; path = string_bytes s.path;
-        start = s.start; step = s.step; values = s.values.items } };
+    ghost view = { λ s. record {
+      name = string_bytes s.name;
+      path = string_bytes s.path;
+      start = s.start;
+      step = s.step;
+      values = s.values.items;
+    } };
 
-    ghost invariant = { λ s. IsSeries (record { name = string_bytes s.name; path = string_bytes s.path;
-        start = s.start; step = s.step; values = s.values.items }) };
+    ghost invariant = { λ s. IsSeries (record {
+      name = string_bytes s.name;
+      path = string_bytes s.path;
+      start = s.start;
+      step = s.step;
+      values = s.values.items;
+    }) };
 }
 
 impl Series {
@@ -54,13 +64,24 @@ impl Series {
         step: u64,
         values: Vec<Option<Milli>>,
     ) -> Option<Series>
-        ensures { let series : SeriesValue = record { name = string_bytes name; path = string_bytes path;
-            start = start; step = step; values = values.items } in SomeIff result (IsSeries series) series }
+        ensures { let series : SeriesValue = record {
+          name = string_bytes name;
+          path = string_bytes path;
+          start = start;
+          step = step;
+          values = values.items;
+        } in SomeIff result (IsSeries series) series }
     {
         if !is_legal(start, step, values.len()) {
             return None;
         }
-        Some(Series { name, path, start, step, values })
+        Some(Series {
+            name,
+            path,
+            start,
+            step,
+            values,
+        })
     }
 
     /// The series of these values, where they are known to make one.
@@ -71,12 +92,28 @@ impl Series {
         step: u64,
         values: Vec<Option<Milli>>,
     ) -> Series
-        requires { IsSeries (record { name = string_bytes name; path = string_bytes path;
-            start = start; step = step; values = values.items }) }
-        ensures { result ≡ record { name = string_bytes name; path = string_bytes path;
-            start = start; step = step; values = values.items } }
+        requires { IsSeries (record {
+          name = string_bytes name;
+          path = string_bytes path;
+          start = start;
+          step = step;
+          values = values.items;
+        }) }
+        ensures { result ≡ record {
+          name = string_bytes name;
+          path = string_bytes path;
+          start = start;
+          step = step;
+          values = values.items;
+        } }
     {
-        Series { name, path, start, step, values }
+        Series {
+            name,
+            path,
+            start,
+            step,
+            values,
+        }
     }
 
     /// What stands for the series in a reply.
@@ -178,13 +215,20 @@ impl Series {
         let name = self.name.clone()?;
         let path = self.path.clone()?;
         let values = self.values.clone()?;
-        Ok(Series { name, path, start: self.start, step: self.step, values })
+        Ok(Series {
+            name,
+            path,
+            start: self.start,
+            step: self.step,
+            values,
+        })
     }
 }
 
 // Whether so many values, a step apart, make a series.
 fn is_legal(start: u64, step: u64, count: usize) -> bool
-    ensures { IsTrue result ↔ ((1 ≤ step) × ((count ≤ most_values) × (start + count * step ≤ latest_end))) }
+    ensures { IsTrue result
+        ↔ ((1 ≤ step) × ((count ≤ most_values) × (start + count * step ≤ latest_end))) }
 {
     let count = count as u64;
     let end = u128::from(start) + u128::from(count) * u128::from(step);

@@ -71,20 +71,81 @@ fn a_series_has_a_step_and_few_values_and_ends_early(rt: HostRuntime) -> Result<
 #[test]
 fn series_have_a_common_grid(rt: HostRuntime) -> Result<(), Fail> {
     let table: [(&[Part], Result<Grid, EvalFault>); 11] = [
-        (&[(120, 60, 2), (180, 90, 1)], Ok(Grid { start: 0, end: 360, step: 180 })),
-        (&[(10, 7, 3), (20, 11, 2)], Ok(Grid { start: 0, end: 77, step: 77 })),
+        (
+            &[(120, 60, 2), (180, 90, 1)],
+            Ok(Grid {
+                start: 0,
+                end: 360,
+                step: 180,
+            }),
+        ),
+        (
+            &[(10, 7, 3), (20, 11, 2)],
+            Ok(Grid {
+                start: 0,
+                end: 77,
+                step: 77,
+            }),
+        ),
         // alone, and where all agree, a start that is no multiple stays
-        (&[(61, 60, 2)], Ok(Grid { start: 61, end: 181, step: 60 })),
-        (&[(61, 60, 2), (61, 60, 2)], Ok(Grid { start: 61, end: 181, step: 60 })),
-        (&[(61, 60, 2), (61, 60, 1)], Ok(Grid { start: 60, end: 240, step: 60 })),
-        (&[(0, 31_536_000, 1), (0, 60, 1)], Ok(Grid { start: 0, end: 31_536_000, step: 31_536_000 })),
+        (
+            &[(61, 60, 2)],
+            Ok(Grid {
+                start: 61,
+                end: 181,
+                step: 60,
+            }),
+        ),
+        (
+            &[(61, 60, 2), (61, 60, 2)],
+            Ok(Grid {
+                start: 61,
+                end: 181,
+                step: 60,
+            }),
+        ),
+        (
+            &[(61, 60, 2), (61, 60, 1)],
+            Ok(Grid {
+                start: 60,
+                end: 240,
+                step: 60,
+            }),
+        ),
+        (
+            &[(0, 31_536_000, 1), (0, 60, 1)],
+            Ok(Grid {
+                start: 0,
+                end: 31_536_000,
+                step: 31_536_000,
+            }),
+        ),
         // the first multiple on the way
-        (&[(0, 7, 1), (0, 31_536_000, 1), (0, 11, 1)], Err(EvalFault::StepTooWide(220_752_000))),
-        (&[(0, 7, 1), (0, 11, 1), (0, 31_536_000, 1)], Err(EvalFault::StepTooWide(2_428_272_000))),
-        (&[(0, 1, 1), (3_999_999, 1, 1)], Ok(Grid { start: 0, end: 4_000_000, step: 1 })),
-        (&[(0, 1, 1), (4_000_000, 1, 1)], Err(EvalFault::TooLong(4_000_001))),
+        (
+            &[(0, 7, 1), (0, 31_536_000, 1), (0, 11, 1)],
+            Err(EvalFault::StepTooWide(220_752_000)),
+        ),
+        (
+            &[(0, 7, 1), (0, 11, 1), (0, 31_536_000, 1)],
+            Err(EvalFault::StepTooWide(2_428_272_000)),
+        ),
+        (
+            &[(0, 1, 1), (3_999_999, 1, 1)],
+            Ok(Grid {
+                start: 0,
+                end: 4_000_000,
+                step: 1,
+            }),
+        ),
+        (
+            &[(0, 1, 1), (4_000_000, 1, 1)],
+            Err(EvalFault::TooLong(4_000_001)),
+        ),
         // both would hold
-        (&[(0, 7, 1), (1 << 60, 31_536_000, 1)], Err(EvalFault::StepTooWide(220_752_000))),
+        (
+            &[(0, 7, 1), (1 << 60, 31_536_000, 1)],
+            Err(EvalFault::StepTooWide(220_752_000)),
+        ),
     ];
     for (parts, want) in table {
         let set = set_of(rt.alloc(), parts)?;
@@ -149,7 +210,15 @@ fn buckets_have_the_average_of_their_known_values(rt: HostRuntime) -> Result<(),
             120,
             &[Some(-1), None, Some(2)],
         ),
-        (90, 60, &[Some(10), Some(20)], (0, 100, 2), 0, 300, &[Some(15)]),
+        (
+            90,
+            60,
+            &[Some(10), Some(20)],
+            (0, 100, 2),
+            0,
+            300,
+            &[Some(15)],
+        ),
         // the moments 130 and 190 among buckets of a minute
         (
             130,
@@ -160,8 +229,24 @@ fn buckets_have_the_average_of_their_known_values(rt: HostRuntime) -> Result<(),
             60,
             &[None, Some(7), Some(8), None],
         ),
-        (61, 60, &[Some(7), None], (61, 60, 2), 61, 60, &[Some(7), None]),
-        (0, 60, &[None, Some(i64::MIN)], (0, 120, 1), 0, 120, &[Some(i64::MIN)]),
+        (
+            61,
+            60,
+            &[Some(7), None],
+            (61, 60, 2),
+            61,
+            60,
+            &[Some(7), None],
+        ),
+        (
+            0,
+            60,
+            &[None, Some(i64::MIN)],
+            (0, 120, 1),
+            0,
+            120,
+            &[Some(i64::MIN)],
+        ),
     ];
     for (start, step, values, other, on_start, on_step, want) in table {
         let one = known(&rt, alloc, start, step, values)?;
@@ -184,8 +269,18 @@ fn groups_of_values_are_averaged(rt: HostRuntime) -> Result<(), Fail> {
     let alloc = rt.alloc();
     // the values, a minute apart; the most of them; the step and the values that are left
     let table: [(&[Option<Milli>], u64, u64, &[Option<Milli>]); 6] = [
-        (&[Some(1000), Some(2000), Some(4000)], 2, 120, &[Some(1500), Some(4000)]),
-        (&[Some(1000), Some(2000), Some(4000)], 3, 60, &[Some(1000), Some(2000), Some(4000)]),
+        (
+            &[Some(1000), Some(2000), Some(4000)],
+            2,
+            120,
+            &[Some(1500), Some(4000)],
+        ),
+        (
+            &[Some(1000), Some(2000), Some(4000)],
+            3,
+            60,
+            &[Some(1000), Some(2000), Some(4000)],
+        ),
         (&[Some(1000), Some(2000), Some(4000)], 1, 180, &[Some(2333)]),
         (&[None, Some(5), None], 2, 120, &[Some(5), None]),
         (&[Some(-1), Some(0)], 1, 120, &[Some(-1)]),
@@ -203,7 +298,10 @@ fn groups_of_values_are_averaged(rt: HostRuntime) -> Result<(), Fail> {
 fn parts_of_a_series_are_exchanged(rt: HostRuntime) -> Result<(), Fail> {
     let alloc = rt.alloc();
     let one = known(&rt, alloc, 60, 60, &[Some(1), None])?;
-    assert_eq!(rt; (one.place_of(60), one.place_of(61), one.place_of(1000)), (0, 1, 2));
+    assert_eq!(rt;
+        (one.place_of(60), one.place_of(61), one.place_of(1000)),
+        (0, 1, 2)
+    );
     let mut one = one.renamed(String::from_str(alloc, "b")?);
     let values = one.take_values();
     assert_eq!(rt; values.as_slice(), &[Some(1), None][..]);

@@ -14,7 +14,8 @@ use std::alloc::{AllocError, Global};
 /// average, rounded down, of their known ones. The step is as many times as long; the name, the path and the start stay. A series that
 /// has no more values is as it was.
 ///
-/// The last group may be short of values, so that the series ends later than before, but by less than its whole length.
+/// The last group may be short of values, so that the series ends later than before, but by less than its whole length: where the series
+/// ends at half of [`crate::LATEST_END`] or before, the thinned one ends at that moment or before.
 #[tactic(auto, unfolding(crate::specs::Thinned::thinned))]
 pub fn thin(alloc: Global, series: &Series, most: u64) -> Result<Series, AllocError>
     requires some { 1 ≤ most }
