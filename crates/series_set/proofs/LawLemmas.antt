@@ -1,12 +1,12 @@
 -- Proofs of the laws.
-use Rattle.std.proofs.Common.{◌≡◌, ℕ, zero, suc, ℤ, pos, negsuc, ◌+◌, ◌-◌, ◌*◌, ◌/◌, ◌%◌, ◌+ℤ◌, ◌*ℤ◌, ◌≤ℤ◌, ◌<ℤ◌, ◌<◌, ◌≤◌, ◌==◌, min, max, nat_le, Bool, true, false, List, [], ◌∷◌, length, get_or, map, fold, find, All, cond, Option, Some, None, Result, Ok, Err, inl, inr, refl, sym, ap, subst, ◌∙◌, arith}
+use Rattle.std.proofs.Common.{◌≡◌, ℕ, zero, suc, ℤ, pos, negsuc, ◌+◌, ◌*◌, ◌/◌, ◌%◌, ◌+ℤ◌, ◌*ℤ◌, ◌≤ℤ◌, ◌<ℤ◌, ◌<◌, ◌≤◌, ◌==◌, min, max, nat_le, Bool, true, false, List, [], ◌∷◌, length, get_or, map, fold, find, All, cond, Option, Some, None, Result, Ok, Err, refl, sym, ap, subst, ◌∙◌, arith}
 use Prim.Native.Nat.{◌∣◌}
 use Rattle.std.proofs.Math.Nat.{dvd_of_mod-eq-zero, le_of_dvd, mod-eq-zero_of_dvd, one-dvd}
 use Rattle.std.proofs.lemmas.Nat.Gcd.{dvd_antisymm, dvd_refl, dvd_trans}
 use Rattle.std.specs.Int.{int_div_euclid}
 use Rattle.std.specs.List.{list_all}
 use Rattle.std.specs.Option.{option_map_or}
-use Rattle.std.proofs.lemmas.Bool.{cases_lt, false≢true}
+use Rattle.std.proofs.lemmas.Bool.{false≢true}
 use Rattle.std.proofs.lemmas.Bool.Decides.{nat_tests}
 use Rattle.std.proofs.lemmas.Int.{ints}
 use Rattle.std.proofs.lemmas.List.Elements.{All-cons, All-head, All-tail}
@@ -14,7 +14,7 @@ use Rattle.std.proofs.lemmas.Nat.{div-add-mod', mod_below, mul-le}
 use Rattle.series_set.specs.declared.grid.Grid.{Grid}
 use Rattle.series_set.specs.declared.grid.EvalFault.{EvalFault}
 use Rattle.series_set.specs.declared.grid.EvalFault.TheVariants.{StepTooWide, TooLong}
-use Rattle.series_set.specs.Series.{IsSeries, SeriesValue, end_of, moment_at, most_values, widest_step}
+use Rattle.series_set.specs.Series.{IsSeries, SeriesValue, end_of, most_values, widest_step}
 use Rattle.series_set.specs.Average.{average, sum_of}
 use Rattle.series_set.specs.CommonGrid.{common_grid, grid_of, greatest_end, has_grid, hull, is_too_wide, lcm, lcm_of, least_start, multiples_from, short_grid, steps_of, value_count, wide_multiple, widened}
 use Rattle.series_set.specs.GridLaws.{AgreeingSeriesKeepTheirGrid, AverageIsRoundedDown, CommonStepIsLeast, FewValuesStay, GridHoldsAllMoments, HoldsMoments, IsLeastMultiple, OwnGridStays}

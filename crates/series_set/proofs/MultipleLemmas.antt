@@ -1,7 +1,7 @@
 -- The least common multiple: the first number that both divide, and what the greatest common divisor makes of it.
-use Rattle.std.proofs.Common.{◌≡◌, ℕ, zero, suc, ◌+◌, ◌*◌, ◌/◌, ◌%◌, ◌<◌, ◌≤◌, ◌==◌, Bool, true, false, ◌&&◌, List, [], ◌∷◌, find, Option, Some, None, inl, inr, refl, sym, ap, subst, ◌∙◌, cond, arith}
+use Rattle.std.proofs.Common.{◌≡◌, ℕ, zero, suc, ◌+◌, ◌*◌, ◌/◌, ◌%◌, ◌<◌, ◌≤◌, ◌==◌, Bool, true, false, ◌&&◌, find, Some, inl, inr, refl, sym, ap, subst, ◌∙◌, arith}
 use Prim.Native.Nat.{◌∣◌}
-use Rattle.std.proofs.Math.Nat.{dvd-mod_iff, dvd_of_mod-eq-zero, mod-eq-zero_of_dvd, dvd_antisymm, dvd-mul_left, dvd-mul_right, le_of_dvd, pos_of_dvd_of_pos, div-mul_cancel, dvd_of_mul-dvd-mul_right, mul-dvd-mul_left, mul-dvd-mul_right, mul_assoc, mul_comm, mul-div_assoc}
+use Rattle.std.proofs.Math.Nat.{dvd-mod_iff, dvd_of_mod-eq-zero, mod-eq-zero_of_dvd, dvd_antisymm, dvd-mul_left, dvd-mul_right, pos_of_dvd_of_pos, div-mul_cancel, dvd_of_mul-dvd-mul_right, mul-dvd-mul_left, mul_assoc, mul_comm, mul-div_assoc}
 use Rattle.std.proofs.lemmas.Bool.{cases_lt, false≢true}
 use Rattle.std.proofs.lemmas.Bool.Decides.{nat_tests}
 use Rattle.std.proofs.lemmas.Nat.{mod_below, mul-le}

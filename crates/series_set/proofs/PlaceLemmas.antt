@@ -1,12 +1,12 @@
 -- The places of a series' values and the buckets that their moments lie in.
-use Rattle.std.proofs.Common.{◌≡◌, ℕ, zero, suc, ℤ, ◌+◌, ◌-◌, ◌*◌, ◌/◌, ◌%◌, ◌<◌, ◌≤◌, min, Bool, true, false, cond, List, [], ◌∷◌, length, get_or, take, drop, map, filter, Option, None, inl, inr, refl, sym, ap, ◌∙◌, arith, length-take, length-drop}
+use Rattle.std.proofs.Common.{◌≡◌, ℕ, zero, suc, ℤ, ◌+◌, ◌-◌, ◌*◌, ◌/◌, ◌%◌, ◌<◌, ◌≤◌, min, Bool, true, false, cond, List, [], ◌∷◌, length, get_or, take, drop, map, filter, Option, inl, inr, refl, sym, ap, ◌∙◌, arith, length-take, length-drop}
 use Rattle.std.specs.Int.{div_ceil}
 use Rattle.std.proofs.lemmas.Bool.{cases_lt}
 use Rattle.std.proofs.lemmas.Bool.Decides.{nat_tests}
 use Rattle.std.proofs.lemmas.List.{get_or-drop, get_or-take, take-map, drop-map}
 use Rattle.std.proofs.lemmas.Nat.{div-add-mod', mod_below, mul-le}
 use Rattle.series_set.specs.declared.grid.Grid.{Grid}
-use Rattle.series_set.specs.Series.{IsSeries, SeriesValue, latest_end, moment_at}
+use Rattle.series_set.specs.Series.{IsSeries, SeriesValue, latest_end}
 use Rattle.series_set.specs.Average.{average, known}
 use Rattle.series_set.specs.CommonGrid.{IsGrid, value_count}
 use Rattle.series_set.specs.OnGrid.{IsPlaceOf, bucket_value, is_between, points_from, values_between}

@@ -1,5 +1,5 @@
 -- Series one after the other, and the least common multiples of their steps on the way.
-use Rattle.std.proofs.Common.{◌≡◌, ℕ, Bool, true, false, List, [], ◌∷◌, fold, find, Option, Some, None, refl, sym, ap, ◌∙◌}
+use Rattle.std.proofs.Common.{◌≡◌, ℕ, true, false, List, [], ◌∷◌, fold, find, Some, None, refl, ◌∙◌}
 use Rattle.series_set.specs.Series.{SeriesValue}
 use Rattle.series_set.specs.CommonGrid.{is_too_wide, lcm, lcm_of, multiples_from, steps_of, wide_multiple}
 

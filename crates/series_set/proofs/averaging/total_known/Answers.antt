@@ -1,4 +1,4 @@
-use Rattle.std.proofs.Common.{◌≡◌, ℤ, ◌+◌, ◌<◌, ◌^◌, FitsSigned, w64, to_z, ◌∙◌, sym, subst, arith, rules}
+use Rattle.std.proofs.Common.{ℤ, ◌+◌, ◌<◌, ◌^◌, FitsSigned, w64, to_z, ◌∙◌, sym, subst, arith, rules}
 use Rattle.std.specs.Int.{w128}
 use Rattle.std.proofs.lemmas.Int.{to_z-of_z}
 use Rattle.series_set.proofs.SumLemmas.{Totals, sum_added, totals_missing, totals_known}

@@ -1,6 +1,6 @@
-use Rattle.std.proofs.Common.{◌≤◌, sym, ap, subst, ◌∙◌}
+use Rattle.std.proofs.Common.{◌≤◌, sym, subst, ◌∙◌}
 use Rattle.series_set.specs.declared.grid.Grid.{Grid}
-use Rattle.series_set.specs.CommonGrid.{EndsSoonAfter, IsWhole, widened}
+use Rattle.series_set.specs.CommonGrid.{EndsSoonAfter, IsWhole}
 use Rattle.series_set.proofs.GridLemmas.{ends_in_order, hull_soon, own_grid_is, widened_is, widened_soon}
 use Rattle.series_set.proofs.common.grid_of.Goals as goal
 

@@ -3,7 +3,6 @@ use Rattle.std.specs.Option.{unwrap_or}
 use Rattle.std.proofs.lemmas.Iterator.{YieldsList-from_map, YieldsList-from_slice}
 use Rattle.std.proofs.lemmas.Iterator.Adapters.{option_map_id}
 use Rattle.std.proofs.lemmas.Iterator.Consumers.{min_from_yields_List}
-use Rattle.series_set.specs.Series.{end_of}
 use Rattle.series_set.proofs.common.least_start.Goals as goal
 
 pub returns : goal.returns
