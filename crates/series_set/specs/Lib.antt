@@ -1,0 +1,6 @@
+pub mod Series
+pub mod Average
+pub mod CommonGrid
+pub mod OnGrid
+pub mod Thinned
+pub mod GridLaws

@@ -1,0 +1,67 @@
+//! A series on a grid.
+ghost use Rattle.std.specs.Prelude.{◌≡◌, ◌-◌, ◌≤◌, IfOk, drop, length, map, take};
+ghost use Rattle.std.specs.List.{range_with_len};
+ghost use Rattle.series_set.specs.Average.{average, known};
+ghost use Rattle.series_set.specs.Series.{latest_end};
+ghost use Rattle.series_set.specs.CommonGrid.{IsGrid, value_count};
+ghost use Rattle.series_set.specs.OnGrid.{bucket_value, on_grid};
+
+use crate::averaging::average_known;
+use crate::grid::Grid;
+use crate::series::Series;
+use fixed_num::Milli;
+use std::alloc::{AllocError, Global};
+
+/// The series on a grid, under its name and path: each bucket of the grid has the average, rounded down, of the known values whose
+/// moments lie in it, and misses a value where there is none. A series on its own grid is as it was. The work grows with the values and
+/// the buckets, one after the other.
+///
+/// The end may not be later than [`crate::LATEST_END`]: the end of a common grid is less than 31,536,000 seconds after that of its series.
+#[tactic(auto, unfolding(crate::specs::OnGrid::on_grid))]
+pub fn on_grid(alloc: Global, series: &Series, grid: &Grid) -> Result<Series, AllocError>
+    requires grid { IsGrid grid.now }
+    requires early { grid.now.end ≤ latest_end }
+    ensures { IfOk result (λ moved. moved ≡ on_grid series.now grid.now) }
+{
+    // What most series are on: their own grid, where nothing is to be computed.
+    if series.has_grid(*grid) {
+        return series.copy();
+    }
+    let name = String::from_str(alloc, series.name())?;
+    let path = String::from_str(alloc, series.path())?;
+    let values = bucket_values(alloc, series, *grid)?;
+    Ok(Series::from_legal(name, path, grid.start, grid.step, values))
+}
+
+// The averages of a grid's buckets.
+fn bucket_values(
+    alloc: Global,
+    series: &Series,
+    grid: Grid,
+) -> Result<Vec<Option<Milli>>, AllocError>
+    requires grid { IsGrid grid }
+    requires early { grid.end ≤ latest_end }
+    ensures { IfOk result (λ values. values.items ≡
+        map (bucket_value series.now grid) (range_with_len 0 (value_count grid))) }
+{
+    let count = grid.value_count();
+    let mut values = Vec::with_capacity(alloc, count as usize)?;
+    let mut limit = grid.start;
+    let mut from = series.place_of(limit);
+    for _bucket in 0..count {
+        limit += grid.step;
+        let until = series.place_of(limit);
+        values.push(average_of_run(series, from, until))?;
+        from = until;
+    }
+    Ok(values)
+}
+
+// The average of the known values from a place on and before another.
+fn average_of_run(series: &Series, from: usize, until: usize) -> Option<Milli>
+    requires order { from ≤ until }
+    requires within { until ≤ length series.now.values }
+    ensures { result ≡ average (known (take (until - from) (drop from series.now.values))) }
+{
+    average_known(&series.values()[from..until])
+}
