@@ -1,11 +1,16 @@
 -- Buckets of archives, and of points one after another the latest in each.
-use Rattle.std.specs.Prelude.{◌≡◌, ℕ, ℤ, ◌%◌, ◌==◌, ◌≤◌, List, [], ◌∷◌, if◌then◌else◌}
+use Rattle.std.specs.Prelude.{◌≡◌, ℕ, ℤ, ◌%◌, ◌==◌, ◌<◌, ◌≤◌, All, List, [], ◌∷◌, length, if◌then◌else◌}
 use Rattle.archive_update.specs.Laid.{IsBucketOf}
 
 -- a bucket of an archive with this step, up to the last legal moment
 pub record IsShown (step bucket : ℕ) : Type 0 where
   pub multiple : IsBucketOf step bucket
   pub most : bucket ≤ 4000000000
+
+-- some such buckets, at least one
+pub record AreShown (step : ℕ) (buckets : List ℕ) : Type 0 where
+  pub some : 0 < length buckets
+  pub each : All (IsShown step) buckets
 
 -- the bucket of a legal moment: no multiple of the step up to 365 days is above it
 pub record IsOwn (step bucket : ℕ) : Type 0 where

@@ -1,9 +1,12 @@
 -- Values rolled up into coarser archives.
-use Rattle.std.specs.Prelude.{◌≡◌, ℕ, ℤ, ◌+◌, ◌-◌, ◌*◌, ◌/◌, ◌==◌, ◌<◌, ◌≤◌, Bool, true, false, List, [], ◌∷◌, length, max, Option, Some, None, drop, take}
+use Rattle.std.specs.Prelude.{◌≡◌, ℕ, ℤ, ◌+◌, ◌-◌, ◌*◌, ◌/◌, ◌%◌, ◌==◌, ◌<◌, ◌≤◌, Bool, true, false, List, [], ◌∷◌, length, max, Option, Some, None, drop, take}
 use Rattle.std.specs.List.{filter_map}
 use Rattle.ring_format.specs.Layout.{LayoutValue}
 use Rattle.ring_format.specs.Patch.{PatchValue}
+use Rattle.outside_io.specs.Image.{Image}
 use Rattle.ring_archive.specs.Ring.{ReadsAs, Rings, values_from}
+use Rattle.ring_archive.specs.View.{OnRing}
+use Rattle.ring_archive.specs.declared.view.RingView.{RingView}
 use Rattle.archive_update.specs.Batch.{batch_of_first, buckets_of_writes, itself, level_writes, own_writes, rolled_up, step_of, with_own, with_writes}
 
 -- the known of so many values from a place on
@@ -17,6 +20,16 @@ places_in layout i = step_of layout.archives (i + 1) / step_of layout.archives i
 -- these are the values of archive `i` in so many buckets of archive `i + 1`, from a first one on
 abbrev pub HoldsStretch : LayoutValue → PatchValue → ℕ → ℕ → ℕ → List (Option ℤ) → List ℕ → Type 0
 HoldsStretch layout patch i first count values file = values ≡ values_from patch file i first (count * places_in layout i)
+
+-- a stretch of buckets that begins with one of archive `i + 1`, with their values of archive `i` in the file under the patch
+pub record IsRead (view : RingView) (patch : PatchValue) (known : Option Image) (i first count : ℕ) (values : List (Option ℤ)) : Type 0 where
+  pub exact : first % step_of view.layout.archives (i + 1) ≡ 0
+  pub held : OnRing view patch.fresh known (HoldsStretch view.layout patch i first count values)
+
+-- archive `i` is not the coarsest of the layout
+pub record HasCoarser (layout : LayoutValue) (i : ℕ) : Type 0 where
+  pub archive : i + 1 < length layout.archives
+  pub few : i ≤ 24
 
 -- a bucket is one of so many, a step apart
 abbrev pub IsInStretch : ℕ → ℕ → ℕ → ℕ → Type 0
@@ -73,6 +86,16 @@ Plans layout now points old new i file = (rings : Rings) → ReadsAs old file ri
 -- the points of the first `n` archives are
 abbrev pub PlansFirst : LayoutValue → ℕ → List (ℕ × ℤ) → PatchValue → PatchValue → ℕ → List ℕ → Type 0
 PlansFirst layout now points old new n file = (rings : Rings) → ReadsAs old file rings → ReadsAs new file (batch_of_first layout now points rings n)
+
+-- a patch of a layout that lays nothing yet
+pub record IsUnlaid (given : LayoutValue) (patch : PatchValue) : Type 0 where
+  pub layout : patch.layout ≡ given
+  pub empty : patch.cells ≡ []
+
+-- cells are laid exactly where there are writes
+pub record LaysIf (old new : PatchValue) (writes : List (ℕ × ℤ)) : Type 0 where
+  pub filled : new.cells ≡ [] → writes ≡ []
+  pub untouched : writes ≡ [] → new ≡ old
 
 -- the first `n` archives are the home of no point
 abbrev pub HasNoOwn : LayoutValue → ℕ → List (ℕ × ℤ) → ℕ → Type 0

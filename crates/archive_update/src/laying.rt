@@ -1,9 +1,10 @@
 //! Values laid by a patch into one archive.
 ghost use Rattle.std.specs.Prelude.{◌≡◌, ◌≢◌, ◌≤◌, ◌<◌, ◌==◌, ◌&&◌, not, [], ◌∷◌, All, IfOk, IsErrOf, OnOk, length};
 ghost use Rattle.std.specs.List.{list_any};
-ghost use Rattle.outside_io.specs.Faults.{Rose};
+ghost use Rattle.outside_io.specs.Frames.{ReadsOnly};
 ghost use Rattle.ring_format.specs.Patch.{IsPlace};
-ghost use Rattle.ring_archive.specs.Ring.{HoldsRing, UnderPatch, base_of};
+ghost use Rattle.ring_archive.specs.Ring.{base_of};
+ghost use Rattle.ring_archive.specs.View.{IsThere, OnRing};
 ghost use Rattle.archive_update.specs.Batch.{step_of};
 ghost use Rattle.archive_update.specs.Laid.{IsAlike, IsBucketOf, IsCleared, IsLaid, IsZeroed, Lays, Prepares, Writes};
 
@@ -25,13 +26,11 @@ pub(crate) fn write_values<D: Disk>(
     requires layout { patch.old.layout ≡ view.now.layout }
     requires archive { archive < length view.now.layout.archives }
     requires buckets { All (λ write. IsBucketOf (step_of view.now.layout.archives archive) write.0) writes.now }
-    requires file { HoldsRing patch.old.fresh (D.image disk.old) view.now.name.now view.now.layout.archives }
-    ensures writes { OnOk result (UnderPatch patch.old.fresh (D.image disk.old) view.now.name.now (Writes view.now.layout.archives patch.old patch.new archive writes.now)) }
+    requires file { IsThere view.now patch.old.fresh (D.image disk.old) }
+    ensures writes { OnOk result (OnRing view.now patch.old.fresh (D.image disk.old) (Writes view.now.layout.archives patch.old patch.new archive writes.now)) }
     ensures alike { IsAlike patch.old patch.new }
     ensures filled { OnOk result (patch.new.cells ≡ [] → writes.now ≡ []) }
-    ensures kept { D.image disk.new ≡ D.image disk.old }
-    ensures later { D.faults disk.old ≤ D.faults disk.new }
-    ensures cause { IsErrOf result RingFault.DiskFault → Rose (D.faults disk.old) (D.faults disk.new) }
+    ensures frame { ReadsOnly D.Disk disk.old disk.new (IsErrOf result RingFault.DiskFault) }
 {
     let base = prepared(alloc, view, disk, patch, archive)?;
     lay_all(patch, archive, base, writes)?;
@@ -48,12 +47,10 @@ fn prepared<D: Disk>(
 ) -> Result<u32, RingFault>
     requires layout { patch.old.layout ≡ view.now.layout }
     requires archive { archive < length view.now.layout.archives }
-    requires file { HoldsRing patch.old.fresh (D.image disk.old) view.now.name.now view.now.layout.archives }
-    ensures prepares { IfOk result (λ base. UnderPatch patch.old.fresh (D.image disk.old) view.now.name.now (Prepares patch.old patch.new archive base)) }
+    requires file { IsThere view.now patch.old.fresh (D.image disk.old) }
+    ensures prepares { IfOk result (λ base. OnRing view.now patch.old.fresh (D.image disk.old) (Prepares patch.old patch.new archive base)) }
     ensures alike { IsAlike patch.old patch.new }
-    ensures kept { D.image disk.new ≡ D.image disk.old }
-    ensures later { D.faults disk.old ≤ D.faults disk.new }
-    ensures cause { IsErrOf result RingFault.DiskFault → Rose (D.faults disk.old) (D.faults disk.new) }
+    ensures frame { ReadsOnly D.Disk disk.old disk.new (IsErrOf result RingFault.DiskFault) }
 {
     let base = view.base(disk, patch, archive)?;
     if base > 0 {
@@ -89,12 +86,10 @@ fn clear_stale<D: Disk>(
 ) -> Result<(), RingFault>
     requires layout { patch.old.layout ≡ view.now.layout }
     requires archive { archive < length view.now.layout.archives }
-    requires file { HoldsRing patch.old.fresh (D.image disk.old) view.now.name.now view.now.layout.archives }
-    ensures prepares { OnOk result (UnderPatch patch.old.fresh (D.image disk.old) view.now.name.now (λ file. base_of patch.old file archive ≡ 0 → Prepares patch.old patch.new archive 0 file)) }
+    requires file { IsThere view.now patch.old.fresh (D.image disk.old) }
+    ensures prepares { OnOk result (OnRing view.now patch.old.fresh (D.image disk.old) (λ file. base_of patch.old file archive ≡ 0 → Prepares patch.old patch.new archive 0 file)) }
     ensures alike { IsAlike patch.old patch.new }
-    ensures kept { D.image disk.new ≡ D.image disk.old }
-    ensures later { D.faults disk.old ≤ D.faults disk.new }
-    ensures cause { IsErrOf result RingFault.DiskFault → Rose (D.faults disk.old) (D.faults disk.new) }
+    ensures frame { ReadsOnly D.Disk disk.old disk.new (IsErrOf result RingFault.DiskFault) }
 {
     let slots = view.stale(alloc, disk, patch, archive)?;
     clear_slots(patch, archive, &slots)?;

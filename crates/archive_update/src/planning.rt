@@ -1,12 +1,13 @@
 //! The plan of a drain.
-ghost use Rattle.std.specs.Prelude.{◌≡◌, ◌↔◌, ◌<◌, ◌≤◌, [], None, true, All, IfOk, IfErr, IsErrOf, OnOk, length};
-ghost use Rattle.outside_io.specs.Faults.{Rose};
+ghost use Rattle.std.specs.Prelude.{◌≡◌, ◌↔◌, ◌<◌, ◌≤◌, [], None, true, All, IfOk, IsErrOf, MatchResult, OnOk, length, IsErrAnd};
+ghost use Rattle.outside_io.specs.Frames.{ReadsOnly};
 ghost use Rattle.metric_line.specs.Moment.{is_moment};
 ghost use Rattle.point_cache.specs.Points.{IsRising};
-ghost use Rattle.ring_archive.specs.Ring.{HoldsRing, ReadsAs, Rings, UnderPatch};
+ghost use Rattle.ring_archive.specs.Ring.{ReadsAs, Rings};
+ghost use Rattle.ring_archive.specs.View.{IsThere, OnRing};
 ghost use Rattle.archive_update.specs.Batch.{batch, home_of, own_writes};
 ghost use Rattle.archive_update.specs.Laid.{IsAlike};
-ghost use Rattle.archive_update.specs.Rolled.{HasNoOwn, Plans, PlansFirst};
+ghost use Rattle.archive_update.specs.Rolled.{HasNoOwn, IsUnlaid, LaysIf, Plans, PlansFirst};
 
 use crate::laying::write_values;
 use crate::own::own_writes;
@@ -36,18 +37,14 @@ pub fn plan<D: Disk>(
     points: &[(u32, Milli)],
     now: u32,
 ) -> Result<Patch, (Patch, RingFault)>
-    requires layout { patch.layout ≡ view.now.layout }
-    requires empty { patch.cells ≡ [] }
+    requires patch { IsUnlaid view.now.layout patch }
     requires rising { IsRising points.now }
     requires moments { All (λ p. is_moment p.0 ≡ true) points.now }
-    requires file { HoldsRing patch.fresh (D.image disk.old) view.now.name.now view.now.layout.archives }
-    ensures batch { IfOk result (λ new. UnderPatch patch.fresh (D.image disk.old) view.now.name.now (λ file. (rings : Rings) → ReadsAs patch file rings → ReadsAs new file (batch view.now.layout now points.now rings))) }
-    ensures same { IfOk result (λ new. (new.path ≡ patch.path) × (new.layout ≡ patch.layout) × (new.fresh ≡ patch.fresh)) }
+    requires file { IsThere view.now patch.fresh (D.image disk.old) }
+    ensures batch { IfOk result (λ new. OnRing view.now patch.fresh (D.image disk.old) (λ file. (rings : Rings) → ReadsAs patch file rings → ReadsAs new file (batch view.now.layout now points.now rings))) }
+    ensures alike { MatchResult result (IsAlike patch) (λ refusal. IsAlike patch refusal.0) }
     ensures cells { IfOk result (λ new. new.cells ≡ [] ↔ All (λ p. home_of view.now.layout.archives now p.0 ≡ None) points.now) }
-    ensures kept { D.image disk.new ≡ D.image disk.old }
-    ensures later { D.faults disk.old ≤ D.faults disk.new }
-    ensures cause { IfErr result (λ refusal. refusal.1 ≡ RingFault.DiskFault → Rose (D.faults disk.old) (D.faults disk.new)) }
-    ensures back { IfErr result (λ refusal. (refusal.0.path ≡ patch.path) × (refusal.0.layout ≡ patch.layout) × (refusal.0.fresh ≡ patch.fresh)) }
+    ensures frame { ReadsOnly D.Disk disk.old disk.new (IsErrAnd result (λ refusal. refusal.1 ≡ RingFault.DiskFault)) }
 {
     let mut patch = patch;
     match plan_all(alloc, view, disk, &mut patch, points, now) {
@@ -67,14 +64,12 @@ fn plan_all<D: Disk>(
 ) -> Result<(), RingFault>
     requires layout { patch.old.layout ≡ view.now.layout }
     requires moments { All (λ p. is_moment p.0 ≡ true) points.now }
-    requires file { HoldsRing patch.old.fresh (D.image disk.old) view.now.name.now view.now.layout.archives }
-    ensures plans { OnOk result (UnderPatch patch.old.fresh (D.image disk.old) view.now.name.now (PlansFirst view.now.layout now points.now patch.old patch.new (length view.now.layout.archives))) }
+    requires file { IsThere view.now patch.old.fresh (D.image disk.old) }
+    ensures plans { OnOk result (OnRing view.now patch.old.fresh (D.image disk.old) (PlansFirst view.now.layout now points.now patch.old patch.new (length view.now.layout.archives))) }
     ensures alike { IsAlike patch.old patch.new }
     ensures filled { OnOk result (patch.new.cells ≡ [] → HasNoOwn view.now.layout now points.now (length view.now.layout.archives)) }
     ensures untouched { OnOk result (HasNoOwn view.now.layout now points.now (length view.now.layout.archives) → patch.new ≡ patch.old) }
-    ensures kept { D.image disk.new ≡ D.image disk.old }
-    ensures later { D.faults disk.old ≤ D.faults disk.new }
-    ensures cause { IsErrOf result RingFault.DiskFault → Rose (D.faults disk.old) (D.faults disk.new) }
+    ensures frame { ReadsOnly D.Disk disk.old disk.new (IsErrOf result RingFault.DiskFault) }
 {
     for archive in 0..view.layout.archive_count() {
         plan_archive(alloc, view, disk, patch, archive, points, now)?;
@@ -95,14 +90,11 @@ fn plan_archive<D: Disk>(
     requires layout { patch.old.layout ≡ view.now.layout }
     requires archive { archive < length view.now.layout.archives }
     requires moments { All (λ p. is_moment p.0 ≡ true) points.now }
-    requires file { HoldsRing patch.old.fresh (D.image disk.old) view.now.name.now view.now.layout.archives }
-    ensures plans { OnOk result (UnderPatch patch.old.fresh (D.image disk.old) view.now.name.now (Plans view.now.layout now points.now patch.old patch.new archive)) }
+    requires file { IsThere view.now patch.old.fresh (D.image disk.old) }
+    ensures plans { OnOk result (OnRing view.now patch.old.fresh (D.image disk.old) (Plans view.now.layout now points.now patch.old patch.new archive)) }
     ensures alike { IsAlike patch.old patch.new }
-    ensures filled { OnOk result (patch.new.cells ≡ [] → own_writes view.now.layout.archives now archive points.now ≡ []) }
-    ensures untouched { OnOk result (own_writes view.now.layout.archives now archive points.now ≡ [] → patch.new ≡ patch.old) }
-    ensures kept { D.image disk.new ≡ D.image disk.old }
-    ensures later { D.faults disk.old ≤ D.faults disk.new }
-    ensures cause { IsErrOf result RingFault.DiskFault → Rose (D.faults disk.old) (D.faults disk.new) }
+    ensures cells { OnOk result (LaysIf patch.old patch.new (own_writes view.now.layout.archives now archive points.now)) }
+    ensures frame { ReadsOnly D.Disk disk.old disk.new (IsErrOf result RingFault.DiskFault) }
 {
     let own = own_writes(alloc, &view.layout, archive, now, points)?;
     if own.is_empty() {

@@ -1,11 +1,12 @@
 //! Values of an archive rolled up into the coarser ones.
 ghost use Rattle.std.specs.Prelude.{◌≡◌, ◌<◌, ◌≤◌, ◌↔◌, ◌+◌, ◌-◌, ◌*◌, ◌/◌, ◌%◌, ◌++◌, All, IfOk, IsErrOf, IsTrue, OnOk, length, map, max, slice_index};
-ghost use Rattle.outside_io.specs.Faults.{Rose};
-ghost use Rattle.ring_archive.specs.Ring.{HoldsRing, ReadsAs, Rings, UnderPatch};
+ghost use Rattle.outside_io.specs.Frames.{ReadsOnly};
+ghost use Rattle.ring_archive.specs.Ring.{ReadsAs, Rings};
+ghost use Rattle.ring_archive.specs.View.{IsThere, OnRing};
 ghost use Rattle.archive_update.specs.Batch.{bucket_of, buckets_of_writes, level_writes, rolled_from, step_of, value_from_finer};
-ghost use Rattle.archive_update.specs.Buckets.{IsOwn, IsShown};
+ghost use Rattle.archive_update.specs.Buckets.{AreShown, IsOwn, IsShown};
 ghost use Rattle.archive_update.specs.Laid.{IsAlike};
-ghost use Rattle.archive_update.specs.Rolled.{AreNear, HoldsStretch, IsInStretch, IsReached, Level, RollsUp, given, known_from, most_values, places_in};
+ghost use Rattle.archive_update.specs.Rolled.{AreNear, HasCoarser, HoldsStretch, IsInStretch, IsRead, IsReached, Level, RollsUp, given, known_from, most_values, places_in};
 
 use crate::laying::write_values;
 use fixed_num::Milli;
@@ -49,12 +50,10 @@ pub(crate) fn roll_up<D: Disk>(
     requires layout { patch.old.layout ≡ view.now.layout }
     requires archive { archive < length view.now.layout.archives }
     requires own { All (λ write. IsOwn (step_of view.now.layout.archives archive) write.0) own.now }
-    requires file { HoldsRing patch.old.fresh (D.image disk.old) view.now.name.now view.now.layout.archives }
-    ensures rolls { OnOk result (UnderPatch patch.old.fresh (D.image disk.old) view.now.name.now (RollsUp view.now.layout own.now patch.old patch.new archive)) }
+    requires file { IsThere view.now patch.old.fresh (D.image disk.old) }
+    ensures rolls { OnOk result (OnRing view.now patch.old.fresh (D.image disk.old) (RollsUp view.now.layout own.now patch.old patch.new archive)) }
     ensures alike { IsAlike patch.old patch.new }
-    ensures kept { D.image disk.new ≡ D.image disk.old }
-    ensures later { D.faults disk.old ≤ D.faults disk.new }
-    ensures cause { IsErrOf result RingFault.DiskFault → Rose (D.faults disk.old) (D.faults disk.new) }
+    ensures frame { ReadsOnly D.Disk disk.old disk.new (IsErrOf result RingFault.DiskFault) }
 {
     for finer in archive..view.layout.archive_count() - 1 {
         let more = roll_level(alloc, view, disk, patch, finer, own)?;
@@ -76,15 +75,12 @@ fn roll_level<D: Disk>(
     own: &[(u32, Milli)],
 ) -> Result<bool, RingFault>
     requires layout { patch.old.layout ≡ view.now.layout }
-    requires archive { finer + 1 < length view.now.layout.archives }
-    requires few { finer ≤ 24 }
+    requires finer { HasCoarser view.now.layout finer }
     requires own { All (λ write. IsReached (step_of view.now.layout.archives (finer + 1)) write.0) own.now }
-    requires file { HoldsRing patch.old.fresh (D.image disk.old) view.now.name.now view.now.layout.archives }
-    ensures level { IfOk result (λ more. UnderPatch patch.old.fresh (D.image disk.old) view.now.name.now (Level view.now.layout own.now patch.old patch.new finer more)) }
+    requires file { IsThere view.now patch.old.fresh (D.image disk.old) }
+    ensures level { IfOk result (λ more. OnRing view.now patch.old.fresh (D.image disk.old) (Level view.now.layout own.now patch.old patch.new finer more)) }
     ensures alike { IsAlike patch.old patch.new }
-    ensures kept { D.image disk.new ≡ D.image disk.old }
-    ensures later { D.faults disk.old ≤ D.faults disk.new }
-    ensures cause { IsErrOf result RingFault.DiskFault → Rose (D.faults disk.old) (D.faults disk.new) }
+    ensures frame { ReadsOnly D.Disk disk.old disk.new (IsErrOf result RingFault.DiskFault) }
 {
     let buckets = coarse_buckets(alloc, &view.layout, finer + 1, own)?;
     let writes = level_writes(alloc, view, disk, patch, finer, &buckets)?;
@@ -133,15 +129,12 @@ fn level_writes<D: Disk>(
     buckets: &[u32],
 ) -> Result<Vec<(u32, Milli)>, RingFault>
     requires layout { patch.now.layout ≡ view.now.layout }
-    requires archive { finer + 1 < length view.now.layout.archives }
-    requires few { finer ≤ 24 }
+    requires finer { HasCoarser view.now.layout finer }
     requires shown { All (IsShown (step_of view.now.layout.archives (finer + 1))) buckets.now }
-    requires file { HoldsRing patch.now.fresh (D.image disk.old) view.now.name.now view.now.layout.archives }
-    ensures writes { IfOk result (λ writes. UnderPatch patch.now.fresh (D.image disk.old) view.now.name.now (λ file. (rings : Rings) → ReadsAs patch.now file rings → writes.items ≡ level_writes view.now.layout rings finer buckets.now)) }
+    requires file { IsThere view.now patch.now.fresh (D.image disk.old) }
+    ensures writes { IfOk result (λ writes. OnRing view.now patch.now.fresh (D.image disk.old) (λ file. (rings : Rings) → ReadsAs patch.now file rings → writes.items ≡ level_writes view.now.layout rings finer buckets.now)) }
     ensures shown { IfOk result (λ writes. All (λ write. IsShown (step_of view.now.layout.archives (finer + 1)) write.0) writes.items) }
-    ensures kept { D.image disk.new ≡ D.image disk.old }
-    ensures later { D.faults disk.old ≤ D.faults disk.new }
-    ensures cause { IsErrOf result RingFault.DiskFault → Rose (D.faults disk.old) (D.faults disk.new) }
+    ensures frame { ReadsOnly D.Disk disk.old disk.new (IsErrOf result RingFault.DiskFault) }
 {
     let places = places_of(&view.layout, finer);
     let step = view.layout.archive(finer + 1).step;
@@ -184,19 +177,14 @@ fn stretch_at<D: Disk>(
     stretch: Stretch,
 ) -> Result<Stretch, RingFault>
     requires layout { patch.now.layout ≡ view.now.layout }
-    requires archive { finer + 1 < length view.now.layout.archives }
-    requires few { finer ≤ 24 }
-    requires some { 0 < length buckets.now }
-    requires shown { All (IsShown (step_of view.now.layout.archives (finer + 1))) buckets.now }
-    requires file { HoldsRing patch.now.fresh (D.image disk.old) view.now.name.now view.now.layout.archives }
-    requires exact { stretch.first % step_of view.now.layout.archives (finer + 1) ≡ 0 }
-    requires held { UnderPatch patch.now.fresh (D.image disk.old) view.now.name.now (HoldsStretch view.now.layout patch.now finer stretch.first stretch.count stretch.values.items) }
-    ensures exact { IfOk result (λ stretch. stretch.first % step_of view.now.layout.archives (finer + 1) ≡ 0) }
-    ensures held { IfOk result (λ stretch. UnderPatch patch.now.fresh (D.image disk.old) view.now.name.now (HoldsStretch view.now.layout patch.now finer stretch.first stretch.count stretch.values.items)) }
+    requires finer { HasCoarser view.now.layout finer }
+    requires shown { AreShown (step_of view.now.layout.archives (finer + 1)) buckets.now }
+    requires file { IsThere view.now patch.now.fresh (D.image disk.old) }
+    requires held { IsRead view.now patch.now (D.image disk.old) finer stretch.first stretch.count stretch.values.items }
+    ensures held { IfOk result (λ stretch.
+        IsRead view.now patch.now (D.image disk.old) finer stretch.first stretch.count stretch.values.items) }
     ensures has { IfOk result (λ stretch. IsInStretch (step_of view.now.layout.archives (finer + 1)) stretch.first stretch.count (slice_index buckets.now 0)) }
-    ensures kept { D.image disk.new ≡ D.image disk.old }
-    ensures later { D.faults disk.old ≤ D.faults disk.new }
-    ensures cause { IsErrOf result RingFault.DiskFault → Rose (D.faults disk.old) (D.faults disk.new) }
+    ensures frame { ReadsOnly D.Disk disk.old disk.new (IsErrOf result RingFault.DiskFault) }
 {
     let step = view.layout.archive(finer + 1).step;
     if stretch.has(step, buckets[0]) {
@@ -215,18 +203,14 @@ fn read_stretch<D: Disk>(
     buckets: &[u32],
 ) -> Result<Stretch, RingFault>
     requires layout { patch.now.layout ≡ view.now.layout }
-    requires archive { finer + 1 < length view.now.layout.archives }
-    requires few { finer ≤ 24 }
-    requires some { 0 < length buckets.now }
-    requires shown { All (IsShown (step_of view.now.layout.archives (finer + 1))) buckets.now }
-    requires file { HoldsRing patch.now.fresh (D.image disk.old) view.now.name.now view.now.layout.archives }
-    ensures exact { IfOk result (λ stretch. stretch.first % step_of view.now.layout.archives (finer + 1) ≡ 0) }
-    ensures held { IfOk result (λ stretch. UnderPatch patch.now.fresh (D.image disk.old) view.now.name.now (HoldsStretch view.now.layout patch.now finer stretch.first stretch.count stretch.values.items)) }
+    requires finer { HasCoarser view.now.layout finer }
+    requires shown { AreShown (step_of view.now.layout.archives (finer + 1)) buckets.now }
+    requires file { IsThere view.now patch.now.fresh (D.image disk.old) }
+    ensures held { IfOk result (λ stretch.
+        IsRead view.now patch.now (D.image disk.old) finer stretch.first stretch.count stretch.values.items) }
     ensures has { IfOk result (λ stretch. IsInStretch (step_of view.now.layout.archives (finer + 1)) stretch.first stretch.count (slice_index buckets.now 0)) }
     ensures near { IfOk result (λ stretch. AreNear view.now.layout finer stretch.count) }
-    ensures kept { D.image disk.new ≡ D.image disk.old }
-    ensures later { D.faults disk.old ≤ D.faults disk.new }
-    ensures cause { IsErrOf result RingFault.DiskFault → Rose (D.faults disk.old) (D.faults disk.new) }
+    ensures frame { ReadsOnly D.Disk disk.old disk.new (IsErrOf result RingFault.DiskFault) }
 {
     let places = places_of(&view.layout, finer);
     let step = view.layout.archive(finer + 1).step;
@@ -292,8 +276,7 @@ fn value_in(
 
 // How many places of an archive one of the archive behind it covers.
 fn places_of(layout: &Layout, finer: u32) -> u32
-    requires archive { finer + 1 < length layout.now.archives }
-    requires few { finer ≤ 24 }
+    requires finer { HasCoarser layout.now finer }
     ensures value { result ≡ places_in layout.now finer }
     ensures exact { result * step_of layout.now.archives finer ≡ step_of layout.now.archives (finer + 1) }
     ensures some { 1 ≤ result }

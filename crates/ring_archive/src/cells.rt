@@ -1,8 +1,9 @@
 //! The values of many buckets.
 ghost use Rattle.std.specs.Prelude.{◌≡◌, ◌+◌, ◌*◌, ◌==◌, ◌^◌, ◌<◌, ◌≤◌, None, if◌then◌else◌, IfOk, IsErrOf, length, map, min, replicate};
 ghost use Rattle.std.specs.List.{range_with_len};
-ghost use Rattle.outside_io.specs.Faults.{Rose};
-ghost use Rattle.ring_archive.specs.Ring.{FitsFrom, HoldsRing, UnderPatch, value_for, values_from};
+ghost use Rattle.outside_io.specs.Frames.{ReadsOnly};
+ghost use Rattle.ring_archive.specs.Ring.{FitsFrom, value_for, values_from};
+ghost use Rattle.ring_archive.specs.View.{IsThere, OnRing};
 ghost use Rattle.ring_archive.specs.Held.{cell_behind, picked_value};
 
 use crate::fault::RingFault;
@@ -28,11 +29,10 @@ impl RingView<'_> {
         requires layout { patch.now.layout ≡ self.now.layout }
         requires archive { archive < length self.now.layout.archives }
         requires fits { FitsFrom self.now.layout archive first count }
-        requires file { HoldsRing patch.now.fresh (D.image disk.old) self.now.name.now self.now.layout.archives }
-        ensures values { IfOk result (λ values. UnderPatch patch.now.fresh (D.image disk.old) self.now.name.now (λ file. values.items ≡ values_from patch.now file archive first count)) }
-        ensures kept { D.image disk.new ≡ D.image disk.old }
-        ensures later { D.faults disk.old ≤ D.faults disk.new }
-        ensures cause { IsErrOf result RingFault.DiskFault → Rose (D.faults disk.old) (D.faults disk.new) }
+        requires file { IsThere self.now patch.now.fresh (D.image disk.old) }
+        ensures values { IfOk result (λ values. OnRing self.now patch.now.fresh (D.image disk.old) (λ file. values.items ≡ values_from patch.now file archive first count)) }
+        ensures count { IfOk result (λ values. length values.items ≡ count) }
+        ensures frame { ReadsOnly D.Disk disk.old disk.new (IsErrOf result RingFault.DiskFault) }
     {
         let ring = self.layout.archive(archive);
         if first % ring.step != 0 {

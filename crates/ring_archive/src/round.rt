@@ -1,7 +1,8 @@
 //! The cells of a ring in memory.
-ghost use Rattle.std.specs.Prelude.{◌≡◌, ◌+◌, ◌*◌, ◌%◌, ◌<◌, ◌≤◌, false, IfOk, IsErrOf, OnErr, OnOk, length, replicate, take, drop};
-ghost use Rattle.outside_io.specs.Faults.{Rose};
-ghost use Rattle.ring_archive.specs.Ring.{HoldsRing, OnFile, UnderPatch, cell_offset};
+ghost use Rattle.std.specs.Prelude.{◌≡◌, ◌+◌, ◌*◌, ◌%◌, ◌<◌, ◌≤◌, false, IfOk, IsErrOf, OnOk, length, replicate, take, drop, IsErr};
+ghost use Rattle.outside_io.specs.Frames.{ReadsOnly};
+ghost use Rattle.ring_archive.specs.Ring.{OnFile, cell_offset};
+ghost use Rattle.ring_archive.specs.View.{IsThere, OnRing};
 ghost use Rattle.ring_archive.specs.Held.{HoldsSlots, IsRoundOf, cell_behind, held_cell};
 
 use crate::fault::RingFault;
@@ -37,12 +38,10 @@ impl RingView<'_> {
         requires ring { IsRoundOf self.now.layout.archives round }
         requires slot { round.slot < round.points }
         requires count { count ≤ round.points }
-        requires file { HoldsRing fresh (D.image disk.old) self.now.name.now self.now.layout.archives }
+        requires file { IsThere self.now fresh (D.image disk.old) }
         ensures length { IfOk result (λ bytes. length bytes.items ≡ 12 * count) }
-        ensures cells { IfOk result (λ bytes. UnderPatch fresh (D.image disk.old) self.now.name.now (λ file. HoldsSlots fresh self.now.layout.archives file round bytes.items)) }
-        ensures kept { D.image disk.new ≡ D.image disk.old }
-        ensures later { D.faults disk.old ≤ D.faults disk.new }
-        ensures cause { IsErrOf result RingFault.DiskFault → Rose (D.faults disk.old) (D.faults disk.new) }
+        ensures cells { IfOk result (λ bytes. OnRing self.now fresh (D.image disk.old) (λ file. HoldsSlots fresh self.now.layout.archives file round bytes.items)) }
+        ensures frame { ReadsOnly D.Disk disk.old disk.new (IsErrOf result RingFault.DiskFault) }
     {
         let mut bytes = zeros(alloc, CELL_BYTES * count as usize)?;
         if fresh {
@@ -63,11 +62,9 @@ impl RingView<'_> {
         requires ring { IsRoundOf self.now.layout.archives round }
         requires slot { round.slot < round.points }
         requires room { length bytes.old ≤ 12 * round.points }
-        requires file { HoldsRing false (D.image disk.old) self.now.name.now self.now.layout.archives }
+        requires file { IsThere self.now false (D.image disk.old) }
         ensures cells { OnOk result (OnFile (D.image disk.old) self.now.name.now (λ file. HoldsSlots false self.now.layout.archives file round bytes.new)) }
-        ensures kept { D.image disk.new ≡ D.image disk.old }
-        ensures later { D.faults disk.old ≤ D.faults disk.new }
-        ensures cause { OnErr result (Rose (D.faults disk.old) (D.faults disk.new)) }
+        ensures frame { ReadsOnly D.Disk disk.old disk.new (IsErr result) }
     {
         let before_end = CELL_BYTES * (round.points - round.slot) as usize;
         if bytes.len() <= before_end {
@@ -88,11 +85,9 @@ impl RingView<'_> {
         requires archive { round.archive < length self.now.layout.archives }
         requires ring { IsRoundOf self.now.layout.archives round }
         requires room { 12 * round.slot + length bytes.old ≤ 12 * round.points }
-        requires file { HoldsRing false (D.image disk.old) self.now.name.now self.now.layout.archives }
+        requires file { IsThere self.now false (D.image disk.old) }
         ensures bytes { OnOk result (OnFile (D.image disk.old) self.now.name.now (λ file. bytes.new ≡ take (length bytes.old) (drop (cell_offset self.now.layout.archives (round.archive, round.slot)) file))) }
-        ensures kept { D.image disk.new ≡ D.image disk.old }
-        ensures later { D.faults disk.old ≤ D.faults disk.new }
-        ensures cause { OnErr result (Rose (D.faults disk.old) (D.faults disk.new)) }
+        ensures frame { ReadsOnly D.Disk disk.old disk.new (IsErr result) }
     {
         let offset = u64::from(self.layout.offset(round.archive));
         let at = offset + CELL_BYTES as u64 * u64::from(round.slot);

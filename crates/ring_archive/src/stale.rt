@@ -1,9 +1,10 @@
 //! Slots that hold anything.
 ghost use Rattle.std.specs.Prelude.{◌≡◌, ◌++◌, ◌-◌, ◌*◌, ◌==◌, ◌<◌, ◌≤◌, IfOk, IsErrOf, OnOk, filter, length};
 ghost use Rattle.std.specs.List.{list_all, list_any, range_with_len};
-ghost use Rattle.outside_io.specs.Faults.{Rose};
+ghost use Rattle.outside_io.specs.Frames.{ReadsOnly};
 ghost use Rattle.ring_format.specs.Head.{is_zero};
-ghost use Rattle.ring_archive.specs.Ring.{HoldsRing, UnderPatch, is_laid, stale_slots};
+ghost use Rattle.ring_archive.specs.Ring.{is_laid, stale_slots};
+ghost use Rattle.ring_archive.specs.View.{IsThere, OnRing};
 ghost use Rattle.ring_archive.specs.Held.{cell_behind, held_slots};
 
 use crate::fault::RingFault;
@@ -31,11 +32,9 @@ impl RingView<'_> {
     ) -> Result<Vec<u32>, RingFault>
         requires layout { patch.now.layout ≡ self.now.layout }
         requires archive { archive < length self.now.layout.archives }
-        requires file { HoldsRing patch.now.fresh (D.image disk.old) self.now.name.now self.now.layout.archives }
-        ensures slots { IfOk result (λ slots. UnderPatch patch.now.fresh (D.image disk.old) self.now.name.now (λ file. slots.items ≡ stale_slots patch.now file archive)) }
-        ensures kept { D.image disk.new ≡ D.image disk.old }
-        ensures later { D.faults disk.old ≤ D.faults disk.new }
-        ensures cause { IsErrOf result RingFault.DiskFault → Rose (D.faults disk.old) (D.faults disk.new) }
+        requires file { IsThere self.now patch.now.fresh (D.image disk.old) }
+        ensures slots { IfOk result (λ slots. OnRing self.now patch.now.fresh (D.image disk.old) (λ file. slots.items ≡ stale_slots patch.now file archive)) }
+        ensures frame { ReadsOnly D.Disk disk.old disk.new (IsErrOf result RingFault.DiskFault) }
     {
         let points = self.layout.archive(archive).points;
         let round = Round {

@@ -1,8 +1,9 @@
 //! Looking up buckets in a ring file.
-ghost use Rattle.std.specs.Prelude.{◌≡◌, ◌<◌, ◌≤◌, false, IfOk, OnErr, length, Some};
-ghost use Rattle.outside_io.specs.Faults.{Rose};
+ghost use Rattle.std.specs.Prelude.{◌≡◌, ◌<◌, ◌≤◌, false, IfOk, length, Some, IsErr};
+ghost use Rattle.outside_io.specs.Frames.{ReadsOnly};
 ghost use Rattle.ring_format.specs.Patch.{IsPlace};
-ghost use Rattle.ring_archive.specs.Ring.{HoldsRing, OnFile, UnderPatch, is_bucket, ring_cell, stored_cell, value_for, value_of};
+ghost use Rattle.ring_archive.specs.Ring.{OnFile, is_bucket, ring_cell, stored_cell, value_for, value_of};
+ghost use Rattle.ring_archive.specs.View.{IsThere, OnRing};
 
 use fixed_num::{CELL_BYTES, Milli};
 use outside_io::{Disk, DiskFailed};
@@ -38,11 +39,9 @@ impl<'a> RingView<'a> {
     ) -> Result<u32, DiskFailed>
         requires layout { patch.now.layout ≡ self.now.layout }
         requires archive { archive < length self.now.layout.archives }
-        requires file { HoldsRing patch.now.fresh (D.image disk.old) self.now.name.now self.now.layout.archives }
-        ensures value { IfOk result (λ base. UnderPatch patch.now.fresh (D.image disk.old) self.now.name.now (λ file. base ≡ base_of patch.now file archive)) }
-        ensures kept { D.image disk.new ≡ D.image disk.old }
-        ensures later { D.faults disk.old ≤ D.faults disk.new }
-        ensures cause { OnErr result (Rose (D.faults disk.old) (D.faults disk.new)) }
+        requires file { IsThere self.now patch.now.fresh (D.image disk.old) }
+        ensures value { IfOk result (λ base. OnRing self.now patch.now.fresh (D.image disk.old) (λ file. base ≡ base_of patch.now file archive)) }
+        ensures frame { ReadsOnly D.Disk disk.old disk.new (IsErr result) }
     {
         let _ = self.layout.archive(archive);
         let cell = self.ring_cell(disk, patch, archive, 0)?;
@@ -61,11 +60,9 @@ impl<'a> RingView<'a> {
     ) -> Result<Option<Milli>, DiskFailed>
         requires layout { patch.now.layout ≡ self.now.layout }
         requires archive { archive < length self.now.layout.archives }
-        requires file { HoldsRing patch.now.fresh (D.image disk.old) self.now.name.now self.now.layout.archives }
-        ensures value { IfOk result (λ value. UnderPatch patch.now.fresh (D.image disk.old) self.now.name.now (λ file. value ≡ value_of patch.now file archive bucket)) }
-        ensures kept { D.image disk.new ≡ D.image disk.old }
-        ensures later { D.faults disk.old ≤ D.faults disk.new }
-        ensures cause { OnErr result (Rose (D.faults disk.old) (D.faults disk.new)) }
+        requires file { IsThere self.now patch.now.fresh (D.image disk.old) }
+        ensures value { IfOk result (λ value. OnRing self.now patch.now.fresh (D.image disk.old) (λ file. value ≡ value_of patch.now file archive bucket)) }
+        ensures frame { ReadsOnly D.Disk disk.old disk.new (IsErr result) }
     {
         let ring = self.layout.archive(archive);
         if !is_bucket(bucket, ring) {
@@ -94,11 +91,9 @@ impl<'a> RingView<'a> {
     ) -> Result<(u32, Milli), DiskFailed>
         requires layout { patch.now.layout ≡ self.now.layout }
         requires place { IsPlace self.now.layout (archive, slot) }
-        requires file { HoldsRing patch.now.fresh (D.image disk.old) self.now.name.now self.now.layout.archives }
-        ensures value { IfOk result (λ cell. UnderPatch patch.now.fresh (D.image disk.old) self.now.name.now (λ file. cell ≡ ring_cell patch.now file (archive, slot))) }
-        ensures kept { D.image disk.new ≡ D.image disk.old }
-        ensures later { D.faults disk.old ≤ D.faults disk.new }
-        ensures cause { OnErr result (Rose (D.faults disk.old) (D.faults disk.new)) }
+        requires file { IsThere self.now patch.now.fresh (D.image disk.old) }
+        ensures value { IfOk result (λ cell. OnRing self.now patch.now.fresh (D.image disk.old) (λ file. cell ≡ ring_cell patch.now file (archive, slot))) }
+        ensures frame { ReadsOnly D.Disk disk.old disk.new (IsErr result) }
     {
         if let Some(cell) = patch.cell(archive, slot) {
             return Ok(cell);
@@ -118,11 +113,9 @@ impl<'a> RingView<'a> {
         slot: u32,
     ) -> Result<(u32, Milli), DiskFailed>
         requires place { IsPlace self.now.layout (archive, slot) }
-        requires file { HoldsRing false (D.image disk.old) self.now.name.now self.now.layout.archives }
+        requires file { IsThere self.now false (D.image disk.old) }
         ensures value { IfOk result (λ cell. OnFile (D.image disk.old) self.now.name.now (λ file. cell ≡ stored_cell self.now.layout.archives file (archive, slot))) }
-        ensures kept { D.image disk.new ≡ D.image disk.old }
-        ensures later { D.faults disk.old ≤ D.faults disk.new }
-        ensures cause { OnErr result (Rose (D.faults disk.old) (D.faults disk.new)) }
+        ensures frame { ReadsOnly D.Disk disk.old disk.new (IsErr result) }
     {
         let at = u64::from(self.layout.offset(archive)) + CELL_BYTES as u64 * u64::from(slot);
         let mut bytes = [0; CELL_BYTES];

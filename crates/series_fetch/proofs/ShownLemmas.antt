@@ -2,7 +2,7 @@
 use Rattle.std.proofs.Common.{◌≡◌, ℕ, ℤ, ◌+◌, ◌-◌, ◌*◌, ◌/◌, ◌<◌, Bool, true, false, List, [], ◌∷◌, ◌++◌, length, get_or, take, drop, map, Option, Some, None, refl, ap, ◌∙◌, arith}
 use Rattle.std.specs.Prelude.{slice_get}
 use Rattle.std.specs.List.{range_with_len}
-use Rattle.std.proofs.lemmas.List.{take_all, take_at}
+use Rattle.std.proofs.lemmas.List.{take_at}
 use Rattle.std.proofs.lemmas.List.FromFn.{fill_by_all, get_or-map-range_with_len, length-map-range_with_len}
 use Rattle.ring_format.specs.declared.archive.Archive.{Archive}
 use Rattle.ring_format.specs.Layout.{LayoutValue}
@@ -50,7 +50,7 @@ written_back old now len many whole = take_at now (drop (length now) old) len (m
 pub shown_read : (layout : LayoutValue) (patch : PatchValue) (file : List ℕ) (rings : Rings) (archive : Archive) (i first end count : ℕ) (held values : List (Option ℤ)) (cached : List (ℕ × ℤ))
     → patch.layout ≡ layout → slice_get layout.archives i ≡ Some archive → (end - first) / archive.step ≡ count → ReadsAs patch file rings
     → held ≡ values_from patch file i first count
-    → values ≡ map (λ k. shown_in layout (λ _ _. get_or (take count held) k None) cached i archive.step (first + k * archive.step)) (range_with_len 0 (length (take count held)))
+    → values ≡ map (λ k. shown_in layout (λ _ _. get_or held k None) cached i archive.step (first + k * archive.step)) (range_with_len 0 (length held))
     → values ≡ shown layout rings cached (Range i first end)
 unfolding values_from shown_from
 shown_read layout patch file rings archive i first end count held values cached same there many reads are is =
@@ -59,15 +59,13 @@ shown_read layout patch file rings archive i first end count held values cached 
     let in_patch : slice_get patch.layout.archives i ≡ Some archive = ap (λ (l : LayoutValue). slice_get l.archives i) same ∙ there in
     rw in_patch at are in
     let length_of : length held ≡ count = ap length cells ∙ length-map-range_with_len read 0 count in
-    let whole : take count held ≡ held = take_all count held (omega arith) in
-    let counted : length (take count held) ≡ count = ap length whole ∙ length_of in
-    let one : (k : ℕ) → k < count → get_or (take count held) k None ≡ rings i (first + k * archive.step) = λ k lt.
-    ap (λ (vs : List (Option ℤ)). get_or vs k None) (whole ∙ cells) ∙ get_or-map-range_with_len read 0 count k k None lt (omega arith) ∙ reads i (first + k * archive.step) in
-    let from_held : ℕ → Option ℤ = λ k. shown_in layout (λ _ _. get_or (take count held) k None) cached i archive.step (first + k * archive.step) in
+    let one : (k : ℕ) → k < count → get_or held k None ≡ rings i (first + k * archive.step) = λ k lt.
+    ap (λ (vs : List (Option ℤ)). get_or vs k None) cells ∙ get_or-map-range_with_len read 0 count k k None lt (omega arith) ∙ reads i (first + k * archive.step) in
+    let from_held : ℕ → Option ℤ = λ k. shown_in layout (λ _ _. get_or held k None) cached i archive.step (first + k * archive.step) in
     let from_rings : ℕ → Option ℤ = λ k. shown_in layout rings cached i archive.step (first + k * archive.step) in
     let all : values ≡ map from_rings (range_with_len 0 count) =
-    is ∙ ap (λ (n : ℕ). map from_held (range_with_len 0 n)) counted
-    ∙ map_range-same from_held from_rings count None (λ k lt. shown_in-same layout (λ _ _. get_or (take count held) k None) rings cached i archive.step (first + k * archive.step) (one k lt)) in
+    is ∙ ap (λ (n : ℕ). map from_held (range_with_len 0 n)) length_of
+    ∙ map_range-same from_held from_rings count None (λ k lt. shown_in-same layout (λ _ _. get_or held k None) rings cached i archive.step (first + k * archive.step) (one k lt)) in
     rw (there, many) all
 
 -- ---- for callers

@@ -4,7 +4,7 @@ use Rattle.std.specs.Prelude.{slice_get}
 use Rattle.ring_format.specs.declared.archive.Archive.{Archive}
 use Rattle.ring_format.specs.Layout.{LayoutValue}
 use Rattle.ring_archive.specs.Ring.{FitsFrom}
-use Rattle.std.proofs.Math.Nat.{div-add-mod, div-mul-le_self, mul-add, mul_comm, mul-le-mul_right, mul-mod_right}
+use Rattle.std.proofs.Math.Nat.{div-add-mod, div-mul-le_self, mul-add, mul-div_cancel, mul_comm, mul-le-mul_right, mul-mod_right}
 use Rattle.std.proofs.lemmas.Bool.Decides.{eqb_tells}
 use Rattle.std.proofs.lemmas.Nat.{le-div}
 use Rattle.series_fetch.specs.Window.{bucket_after, end_after, IsStretch, IsStretchOf}
@@ -37,10 +37,13 @@ is_stretch step from until some short order most =
           rw other.0 (until / step - from / step, record { whole = whole step from; some = omega arith; ends = end; small = omega arith })
     ]
 
--- so many values, at most as many as the window has buckets, end within 32 bits
-pub fits_range : (layout : LayoutValue) (i first end n : ℕ) (archive : Archive) → slice_get layout.archives i ≡ Some archive → IsStretchOf (slice_get layout.archives i) first end → n ≤ (end - first) / archive.step
-    → FitsFrom layout i first n
-fits_range layout i first end n archive there stretch few =
+-- as many values as the window has buckets reach from its first one to its end
+pub has_buckets : (layout : LayoutValue) (i first end n : ℕ) (archive : Archive) → slice_get layout.archives i ≡ Some archive → IsStretchOf (slice_get layout.archives i) first end → n ≡ (end - first) / archive.step → 0 < archive.step
+    → IfSome (slice_get layout.archives i) (λ a. (end ≡ first + n * a.step) × (end < 2 ^ 32))
+has_buckets layout i first end n archive there stretch all some =
     let here = subst (λ (o : Option Archive). IsStretchOf o first end) there stretch in
-    subst (λ (o : Option Archive). IfSome o (λ a. first + n * a.step < 2 ^ 32)) (sym there)
-    (omega (arith, here.1.ends, here.1.small, mul-le-mul_right archive.step few, div-mul-le_self (end - first) archive.step))
+    let count : ℕ = here.0 in
+    let apart : end - first ≡ count * archive.step = omega (arith, here.1.ends) in
+    let same : n ≡ count = all ∙ ap (λ (d : ℕ). d / archive.step) apart ∙ mul-div_cancel count some in
+    subst (λ (o : Option Archive). IfSome o (λ a. (end ≡ first + n * a.step) × (end < 2 ^ 32))) (sym there)
+    (here.1.ends ∙ ap (λ (d : ℕ). first + d * archive.step) (sym same), here.1.small)

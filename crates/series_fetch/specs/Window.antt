@@ -1,10 +1,9 @@
 -- The buckets of an archive that a question from a moment until a moment, asked at the moment `now`, is about.
-use Rattle.std.specs.Prelude.{◌≡◌, ℕ, ◌+◌, ◌-◌, ◌*◌, ◌^◌, ◌%◌, ◌==◌, ◌<◌, Bool, ◌||◌, nat_lt, nat_le, List, position, slice_get, Option, Some, None, if◌then◌else◌, max, min}
+use Rattle.std.specs.Prelude.{◌≡◌, ℕ, ◌+◌, ◌-◌, ◌*◌, ◌^◌, ◌%◌, ◌==◌, ◌<◌, Bool, ◌||◌, nat_lt, nat_le, List, position, slice_get, Option, Some, None, IfSome, if◌then◌else◌, max, min}
 use Rattle.std.specs.Option.{option_map_or}
 use Rattle.ring_format.specs.declared.archive.Archive.{Archive}
 use Rattle.ring_format.specs.Layout.{LayoutValue, retention_of}
 use Rattle.ring_format.specs.Head.{last_retention}
-use Rattle.ring_archive.specs.Ring.{FitsFrom}
 use Rattle.series_fetch.specs.declared.range.Window.{Window}
 use Rattle.series_fetch.specs.declared.range.Window.TheVariants.{Empty, Range}
 
@@ -61,7 +60,8 @@ abbrev pub IsWindow : LayoutValue → Window → Type 0
 IsWindow layout Empty = Unit {0}
 IsWindow layout (Range i first end) = IsStretchOf (slice_get layout.archives i) first end
 
--- so many values from the window's first bucket on, all of whose times fit 32 bits
-abbrev pub FitsWindow : LayoutValue → Window → ℕ → Type 0
-FitsWindow layout Empty count = Unit {0}
-FitsWindow layout (Range i first end) count = FitsFrom layout i first count
+-- it has so many buckets, from its first one to its end
+abbrev pub HasBuckets : LayoutValue → Window → ℕ → Type 0
+HasBuckets layout Empty count = count ≡ 0
+HasBuckets layout (Range i first end) count =
+    IfSome (slice_get layout.archives i) (λ archive. (end ≡ first + count * archive.step) × (end < 2 ^ 32))

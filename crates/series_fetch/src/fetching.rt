@@ -1,10 +1,11 @@
 //! The values of a window.
 ghost use Rattle.std.specs.Prelude.{◌≡◌, ◌≤◌, ℕ, true, All, IfOk, IsErrOf, length};
-ghost use Rattle.outside_io.specs.Faults.{Rose};
+ghost use Rattle.outside_io.specs.Frames.{ReadsOnly};
 ghost use Rattle.metric_line.specs.Moment.{is_moment};
 ghost use Rattle.point_cache.specs.Points.{IsRising};
-ghost use Rattle.ring_archive.specs.Ring.{HoldsRing, ReadsAs, Rings, UnderPatch};
-ghost use Rattle.series_fetch.specs.Window.{FitsWindow, IsWindow};
+ghost use Rattle.ring_archive.specs.Ring.{ReadsAs, Rings};
+ghost use Rattle.ring_archive.specs.View.{IsThere, OnRing};
+ghost use Rattle.series_fetch.specs.Window.{HasBuckets, IsWindow};
 ghost use Rattle.series_fetch.specs.Shown.{shown};
 
 use crate::laying::with_pending;
@@ -36,12 +37,10 @@ pub fn fetch<D: Disk>(
     requires window { IsWindow view.now.layout window }
     requires rising { IsRising cached.now }
     requires moments { All (λ p. is_moment p.0 ≡ true) cached.now }
-    requires file { HoldsRing patch.now.fresh (D.image disk.old) view.now.name.now view.now.layout.archives }
-    ensures shown { IfOk result (λ values. UnderPatch patch.now.fresh (D.image disk.old) view.now.name.now (λ file. (rings : Rings) → ReadsAs patch.now file rings → values.items ≡ shown view.now.layout rings cached.now window)) }
-    ensures fits { IfOk result (λ values. FitsWindow view.now.layout window (length values.items)) }
-    ensures kept { D.image disk.new ≡ D.image disk.old }
-    ensures later { D.faults disk.old ≤ D.faults disk.new }
-    ensures cause { IsErrOf result RingFault.DiskFault → Rose (D.faults disk.old) (D.faults disk.new) }
+    requires file { IsThere view.now patch.now.fresh (D.image disk.old) }
+    ensures shown { IfOk result (λ values. OnRing view.now patch.now.fresh (D.image disk.old) (λ file. (rings : Rings) → ReadsAs patch.now file rings → values.items ≡ shown view.now.layout rings cached.now window)) }
+    ensures count { IfOk result (λ values. HasBuckets view.now.layout window (length values.items)) }
+    ensures frame { ReadsOnly D.Disk disk.old disk.new (IsErrOf result RingFault.DiskFault) }
 {
     let Window::Range(archive, first, end) = window else {
         return Ok(Vec::new(alloc));
@@ -49,9 +48,7 @@ pub fn fetch<D: Disk>(
     let step = view.layout.archive(archive).step;
     let (first, end) = (first as u32, end as u32);
     let count = (end - first) / step;
-    let mut values = view.cells(alloc, disk, patch, archive, first, count)?;
-    // There are as many, but of a disk that does not tell its bytes nothing is known of them.
-    values.truncate(count as usize);
+    let values = view.cells(alloc, disk, patch, archive, first, count)?;
     let shown = with_pending(alloc, values, &view.layout, archive, first, step, cached)?;
     Ok(shown)
 }

@@ -24,11 +24,11 @@ loop-archive-preserved g c =
       plans = under_both c.args.patch.now.fresh (g.D.Disk.image c.args.disk.now) c.args.view.now.name.now _ _ _ c.loop-archive.invariant.plans here (λ file before here.
           subst (λ (n : ℕ). PlansFirst c.args.view.now.layout c.args.now c.args.points.now c.args.patch.now c.plan_archive.new.patch n file) (sym (add-one c.loop-archive.archive))
           (plans_more c.args.view.now.layout c.args.now c.args.points.now c.args.patch.now c.loop-archive.patch c.plan_archive.new.patch c.loop-archive.archive file before here));
-      filled = λ none. none_more c.args.view.now.layout c.args.now c.args.points.now c.loop-archive.archive (c.loop-archive.invariant.filled (c.in_ok-plan_archive.ensures.alike.grows none)) (c.in_ok-plan_archive.ensures.filled none);
-      untouched = λ none. c.in_ok-plan_archive.ensures.untouched (none c.loop-archive.archive (omega arith)) ∙ c.loop-archive.invariant.untouched (λ i lt. none i (omega arith));
+      filled = λ none. none_more c.args.view.now.layout c.args.now c.args.points.now c.loop-archive.archive (c.loop-archive.invariant.filled (c.in_ok-plan_archive.ensures.alike.grows none)) (c.in_ok-plan_archive.ensures.cells.filled none);
+      untouched = λ none. c.in_ok-plan_archive.ensures.cells.untouched (none c.loop-archive.archive (omega arith)) ∙ c.loop-archive.invariant.untouched (λ i lt. none i (omega arith));
       alike = alike_more c.args.patch.now c.loop-archive.patch c.plan_archive.new.patch c.loop-archive.invariant.alike c.in_ok-plan_archive.ensures.alike;
-      kept = c.in_ok-plan_archive.ensures.kept ∙ c.loop-archive.invariant.kept;
-      later = omega (arith, c.loop-archive.invariant.later, c.in_ok-plan_archive.ensures.later);
+      kept = c.in_ok-plan_archive.ensures.frame.kept ∙ c.loop-archive.invariant.kept;
+      later = omega (arith, c.loop-archive.invariant.later, c.in_ok-plan_archive.ensures.frame.later);
     }
 
 pub returns-clause-plans : goal.returns-clause-plans

@@ -14,8 +14,10 @@ loop-k-init g c =
     record {
       writes = under_all c.args.patch.now.fresh (g.D.Disk.image c.args.disk.now) c.args.view.now.name.now c.args.view.now.layout.archives _ c.requires.file (λ file rings reads. c.new-writes.ensures.items ∙ level_start c.args.view.now.layout rings c.args.finer);
       shown = rw c.new-writes.ensures.items (λ k d lt. absurd (omega arith));
-      exact = rw steps (let some : 1 ≤ c.archive-step.result.step = c.archive-step.ensures.step.0 in omega arith);
-      held = under_all c.args.patch.now.fresh (g.D.Disk.image c.args.disk.now) c.args.view.now.name.now c.args.view.now.layout.archives _ c.requires.file (λ file. c.new.ensures.items ∙ nothing_held c.args.patch.now file c.args.finer 0 (places_in c.args.view.now.layout c.args.finer));
+      held = record {
+        exact = rw steps (let some : 1 ≤ c.archive-step.result.step = c.archive-step.ensures.step.0 in omega arith);
+        held = under_all c.args.patch.now.fresh (g.D.Disk.image c.args.disk.now) c.args.view.now.name.now c.args.view.now.layout.archives _ c.requires.file (λ file. c.new.ensures.items ∙ nothing_held c.args.patch.now file c.args.finer 0 (places_in c.args.view.now.layout c.args.finer));
+      };
       kept = refl;
       later = omega arith;
     }
@@ -23,7 +25,7 @@ loop-k-init g c =
 pub loop-k-preserved : goal.loop-k-preserved
 loop-k-preserved g c =
     let lt = c.loop-k-test.true in
-    let held = under_moved c.args.patch.now.fresh c.args.patch.now.fresh (g.D.Disk.image c.args.disk.now) (g.D.Disk.image c.loop-k.disk) c.args.view.now.name.now _ refl c.loop-k.invariant.kept c.in_ok-stretch.ensures.held in
+    let held = under_moved c.args.patch.now.fresh c.args.patch.now.fresh (g.D.Disk.image c.args.disk.now) (g.D.Disk.image c.loop-k.disk) c.args.view.now.name.now _ refl c.loop-k.invariant.kept c.in_ok-stretch.ensures.held.held in
     let shown = c.requires.shown c.loop-k.k 0 lt in
     let steps = step_of_found c.args.view.now.layout.archives (c.args.finer + 1) c.archive-step.result c.archive-step.ensures.value in
     let has = subst (λ (bucket : ℕ). IsInStretch (step_of c.args.view.now.layout.archives (c.args.finer + 1)) c.in_ok-stretch.stretch.first c.in_ok-stretch.stretch.count bucket) (first_of_rest c.args.buckets.now c.loop-k.k (length c.args.buckets.now - c.loop-k.k) (omega arith)) c.in_ok-stretch.ensures.has in
@@ -31,13 +33,12 @@ loop-k-preserved g c =
       writes = under_both c.args.patch.now.fresh (g.D.Disk.image c.args.disk.now) c.args.view.now.name.now _ _ _ c.loop-k.invariant.writes held (λ file before held rings reads.
           level_more c.args.view.now.layout rings c.args.finer c.args.buckets.now c.loop-k.k c.in_ok-value.value c.loop-k.writes.items _ lt (before rings reads)
           (c.in_ok-value.ensures ∙ stretch_value c.args.patch.now c.args.view.now.layout file c.args.finer c.in_ok-stretch.stretch.first c.in_ok-stretch.stretch.count c.places_of-places.result c.archive-step.result.step (get_or c.args.buckets.now c.loop-k.k 0) rings c.in_ok-stretch.stretch.values.items
-          c.requires.layout c.requires.archive reads held (rw steps at has) c.archive-step.ensures.step.0 (rw steps at c.in_ok-stretch.ensures.exact) (rw steps at shown.multiple.1) c.places_of-places.ensures.value (c.places_of-places.ensures.exact ∙ steps))
+          c.requires.layout c.requires.finer.archive reads held (rw steps at has) c.archive-step.ensures.step.0 (rw steps at c.in_ok-stretch.ensures.held.exact) (rw steps at shown.multiple.1) c.places_of-places.ensures.value (c.places_of-places.ensures.exact ∙ steps))
           c.in_ok-push_given.ensures);
       shown = rw c.in_ok-push_given.ensures (given_shown (step_of c.args.view.now.layout.archives (c.args.finer + 1)) (get_or c.args.buckets.now c.loop-k.k 0) c.in_ok-value.value c.loop-k.writes.items c.loop-k.invariant.shown shown);
-      exact = c.in_ok-stretch.ensures.exact;
-      held = held;
-      kept = c.in_ok-stretch.ensures.kept ∙ c.loop-k.invariant.kept;
-      later = omega (arith, c.loop-k.invariant.later, c.in_ok-stretch.ensures.later);
+      held = record { exact = c.in_ok-stretch.ensures.held.exact; held = held };
+      kept = c.in_ok-stretch.ensures.frame.kept ∙ c.loop-k.invariant.kept;
+      later = omega (arith, c.loop-k.invariant.later, c.in_ok-stretch.ensures.frame.later);
     }
 
 pub returns-clause-writes : goal.returns-clause-writes

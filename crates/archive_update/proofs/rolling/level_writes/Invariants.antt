@@ -1,18 +1,17 @@
 -- What the buckets so far get.
-use Rattle.std.proofs.Common.{◌≡◌, ◌≤◌, ◌+◌, ◌%◌, All}
+use Rattle.std.proofs.Common.{◌≡◌, ◌≤◌, ◌+◌, All}
 use Rattle.std.specs.Prelude.{take}
 use Rattle.ring_archive.specs.Ring.{ReadsAs, Rings, UnderPatch}
 use Rattle.archive_update.specs.Batch.{level_writes, step_of}
 use Rattle.archive_update.specs.Buckets.{IsShown}
-use Rattle.archive_update.specs.Rolled.{HoldsStretch}
+use Rattle.archive_update.specs.Rolled.{IsRead}
 use Rattle.archive_update.proofs.rolling.level_writes.Given as goal
 
 abbrev pub invariant-loop-k : goal.invariant-loop-k
 invariant-loop-k g l = record {
   writes : UnderPatch l.patch.fresh (g.D.Disk.image l.fn.disk) l.view.name.now (λ file. (rings : Rings) → ReadsAs l.patch file rings → l.writes.items ≡ level_writes l.view.layout rings l.finer (take l.k l.buckets));
   shown : All (λ write. IsShown (step_of l.view.layout.archives (l.finer + 1)) write.0) l.writes.items;
-  exact : l.stretch.first % step_of l.view.layout.archives (l.finer + 1) ≡ 0;
-  held : UnderPatch l.patch.fresh (g.D.Disk.image l.fn.disk) l.view.name.now (HoldsStretch l.view.layout l.patch l.finer l.stretch.first l.stretch.count l.stretch.values.items);
+  held : IsRead l.view l.patch (g.D.Disk.image l.fn.disk) l.finer l.stretch.first l.stretch.count l.stretch.values.items;
   kept : g.D.Disk.image l.disk ≡ g.D.Disk.image l.fn.disk;
   later : g.D.Disk.faults l.fn.disk ≤ g.D.Disk.faults l.disk;
 }

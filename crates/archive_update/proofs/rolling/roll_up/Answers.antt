@@ -33,8 +33,8 @@ loop-finer-preserved g c =
       rolls = under_both c.args.patch.now.fresh (g.D.Disk.image c.args.disk.now) c.args.view.now.name.now _ _ _ c.loop-finer.invariant.rolls moved (λ file before level.
           rolls_more c.args.view.now.layout c.args.own.now c.args.patch.now c.loop-finer.patch c.roll_level.new.patch c.args.archive c.loop-finer.finer file (omega (arith, c.archive_count-finer-end.ensures.value)) before level);
       alike = alike_more c.args.patch.now c.loop-finer.patch c.roll_level.new.patch c.loop-finer.invariant.alike c.in_ok-more.ensures.alike;
-      kept = c.in_ok-more.ensures.kept ∙ c.loop-finer.invariant.kept;
-      later = omega (arith, c.loop-finer.invariant.later, c.in_ok-more.ensures.later);
+      kept = c.in_ok-more.ensures.frame.kept ∙ c.loop-finer.invariant.kept;
+      later = omega (arith, c.loop-finer.invariant.later, c.in_ok-more.ensures.frame.later);
     }
 
 pub returns-clause-rolls : goal.returns-clause-rolls

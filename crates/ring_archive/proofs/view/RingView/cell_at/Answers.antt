@@ -21,7 +21,7 @@ returns-then-slot-eq0-clause-value g c =
 
 pub returns-clause-value : goal.returns-clause-value
 returns-clause-value g c =
-    let there = rw c.in_ok-base.ensures.kept at c.in_ok-cell.ensures.value in
+    let there = rw c.in_ok-base.ensures.frame.kept at c.in_ok-cell.ensures.value in
     under_both c.args.patch.now.fresh (g.D.Disk.image c.args.disk.now) c.args.self.now.name.now _ _ _ c.in_ok-base.ensures.value there (λ file at here. c.value_for-2.ensures ∙ value_there c.args.patch.now file c.args.archive c.args.bucket c.archive-ring.result c.in_ok-base.base c.in_ok-cell.cell
     (rw c.requires.layout c.archive-ring.ensures.value) (grind (arith, c.is_bucket.ensures, c.if-not-is_bucket.false, c.if-not-is_bucket.ensures)) (grind (arith, c.if-base-eq0.false)) at
     (rw (← c.slot_of-slot.ensures.value) here))

@@ -1,0 +1,13 @@
+-- The file of a view under a patch, where the disk tells it.
+use Rattle.std.specs.Prelude.{ℕ, Bool, List, Option}
+use Rattle.outside_io.specs.Image.{Image}
+use Rattle.ring_archive.specs.Ring.{HoldsRing, UnderPatch}
+use Rattle.ring_archive.specs.declared.view.RingView.{RingView}
+
+-- the file stands on the disk with room for the view's layout, unless it is yet to be created
+abbrev pub IsThere : RingView → Bool → Option Image → Type 0
+IsThere view fresh known = HoldsRing fresh known view.name.now view.layout.archives
+
+-- a fact on the bytes of the file, which has none where it is yet to be created
+abbrev pub OnRing : RingView → Bool → Option Image → (List ℕ → Type 0) → Type 0
+OnRing view fresh known P = UnderPatch fresh known view.name.now P
