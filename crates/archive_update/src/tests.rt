@@ -5,12 +5,12 @@ ghost use Rattle.ring_format.specs.LayoutFile.{file_size_of};
 ghost use Rattle.ring_archive.specs.Ring.{HoldsRing};
 
 use super::*;
-use fixed_num::{CELL_BYTES, Milli, narrow, wide};
+use fixed_num::{Milli, narrow, wide};
 use metric_path::MetricPath;
 use outside_io::{Disk, DiskCalls, MemDisk};
 use point_cache::Points;
 use ring_archive::{RingFault, RingView};
-use ring_format::{Archive, HEAD_BYTES, Layout, Method, Patch, write_cell, write_head};
+use ring_format::{Archive, CELL_BYTES, HEAD_BYTES, Layout, Method, Patch, write_cell, write_head};
 use std::alloc::{AllocError, Global};
 use std::test::Fail;
 

@@ -3,7 +3,7 @@
 #![tactic(auto)]
 
 ghost use Rattle.std.specs.Prelude.{◌≡◌, SomeIff};
-ghost use Rattle.fixed_num.specs.Milli.{IsMilli};
+ghost use Rattle.fixed_num.specs.Milli.{IsMilli, milli_bytes, milli_of_bytes};
 
 mod digits;
 mod grammar;
@@ -21,6 +21,9 @@ pub use reading::{read_milli, read_millionths, read_nano};
 
 /// A value: a whole number of thousandths.
 pub type Milli = i64;
+
+/// The bytes of a value in a file.
+pub const MILLI_BYTES: usize = 8;
 
 /// The bytes that the text of any [`Milli`] fits in.
 pub const MILLI_TEXT: usize = 24;
@@ -54,6 +57,20 @@ pub fn narrow(number: i128) -> Option<Milli>
     ensures { SomeIff result (IsMilli number) number }
 {
     i64::try_from(number).ok()
+}
+
+/// The eight bytes of a value, big-endian in two's complement.
+pub fn milli_bytes(value: Milli) -> [u8; MILLI_BYTES]
+    ensures { result ≡ milli_bytes value }
+{
+    value.to_be_bytes()
+}
+
+/// The value that eight bytes hold.
+pub fn milli_of_bytes(bytes: [u8; MILLI_BYTES]) -> Milli
+    ensures { result ≡ milli_of_bytes bytes }
+{
+    i64::from_be_bytes(bytes)
 }
 
 #[cfg(test)]

@@ -7,9 +7,9 @@ ghost use Rattle.ring_archive.specs.Held.{HoldsSlots, IsRoundOf, cell_behind, he
 
 use crate::fault::RingFault;
 use crate::view::RingView;
-use fixed_num::{CELL_BYTES, Milli};
+use fixed_num::Milli;
 use outside_io::{Disk, DiskFailed};
-use ring_format::{Patch, read_cell};
+use ring_format::{CELL_BYTES, Patch, read_cell};
 use std::alloc::{AllocError, Global};
 
 // The slots of an archive's ring, from one on and round the ring's end.

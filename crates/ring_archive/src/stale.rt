@@ -10,9 +10,9 @@ ghost use Rattle.ring_archive.specs.Held.{cell_behind, held_slots};
 use crate::fault::RingFault;
 use crate::round::{Round, held_cell};
 use crate::view::RingView;
-use fixed_num::{CELL_BYTES, Milli};
+use fixed_num::Milli;
 use outside_io::Disk;
-use ring_format::Patch;
+use ring_format::{CELL_BYTES, Patch};
 use std::alloc::{AllocError, Global};
 
 // How many cells are passed over at once where all of them are zero.

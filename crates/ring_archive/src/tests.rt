@@ -4,10 +4,10 @@ ghost use Rattle.ring_format.specs.LayoutFile.{file_size_of};
 ghost use Rattle.ring_archive.specs.Ring.{HoldsRing};
 
 use super::*;
-use fixed_num::{CELL_BYTES, Milli};
+use fixed_num::Milli;
 use metric_path::MetricPath;
 use outside_io::{Disk, MemDisk};
-use ring_format::{Archive, CellWrite, Layout, Method, Patch, write_cell};
+use ring_format::{Archive, CELL_BYTES, CellWrite, Layout, Method, Patch, write_cell};
 use std::alloc::{AllocError, Global};
 use std::test::Fail;
 

@@ -5,9 +5,9 @@ ghost use Rattle.ring_format.specs.Patch.{IsPlace};
 ghost use Rattle.ring_archive.specs.Ring.{OnFile, is_bucket, ring_cell, stored_cell, value_for, value_of};
 ghost use Rattle.ring_archive.specs.View.{IsThere, OnRing};
 
-use fixed_num::{CELL_BYTES, Milli};
+use fixed_num::Milli;
 use outside_io::{Disk, DiskFailed};
-use ring_format::{Archive, Layout, Patch, read_cell, slot_of};
+use ring_format::{Archive, CELL_BYTES, Layout, Patch, read_cell, slot_of};
 
 /// The ring file of one name on a disk, with its layout.
 #[derive(Clone, Copy, Debug)]

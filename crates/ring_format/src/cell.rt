@@ -1,9 +1,9 @@
 //! The 12 bytes of a cell.
-ghost use Rattle.std.specs.Prelude.{◌≡◌, ◌<◌, ◌^◌, ℕ, ℤ, List, length, FitsSigned, slice_index};
-ghost use Rattle.std.specs.Int.{w64};
+ghost use Rattle.std.specs.Prelude.{◌≡◌, ◌<◌, ◌^◌, ℕ, ℤ, List, length, slice_index};
+ghost use Rattle.fixed_num.specs.Milli.{IsMilli};
 ghost use Rattle.ring_format.specs.Cell.{cell_bytes, cell_of};
 
-use fixed_num::Milli;
+use fixed_num::{Milli, milli_bytes, milli_of_bytes};
 
 /// The bytes of a cell in a ring file: its bucket in four bytes, and its value in eight.
 pub const CELL_BYTES: usize = 12;
@@ -22,7 +22,7 @@ pub fn write_cell(bucket: u32, value: Milli, out: &mut [u8; CELL_BYTES])
     ensures { out.new ≡ cell_bytes bucket value }
 {
     let [a, b, c, d] = bucket.to_be_bytes();
-    let [e, f, g, h, i, j, k, l] = value.to_be_bytes();
+    let [e, f, g, h, i, j, k, l] = milli_bytes(value);
     *out = [a, b, c, d, e, f, g, h, i, j, k, l];
 }
 
@@ -32,13 +32,13 @@ pub fn read_cell(bytes: &[u8; CELL_BYTES]) -> (u32, Milli)
 {
     let [a, b, c, d, e, f, g, h, i, j, k, l] = *bytes;
     let bucket = u32::from_be_bytes([a, b, c, d]);
-    let value = i64::from_be_bytes([e, f, g, h, i, j, k, l]);
+    let value = milli_of_bytes([e, f, g, h, i, j, k, l]);
     (bucket, value)
 }
 
 /// A cell that was written is read back. The function does nothing: what it ensures is the law.
 pub fn written_cell_is_read()
-    ensures { (bucket : ℕ) (value : ℤ) → bucket < 2 ^ 32 → FitsSigned w64 value
+    ensures { (bucket : ℕ) (value : ℤ) → bucket < 2 ^ 32 → IsMilli value
         → cell_of (cell_bytes bucket value) ≡ (bucket, value) }
 {}
 

@@ -1,7 +1,8 @@
 -- Lists of shown values.
-use Rattle.std.proofs.Common.{◌≡◌, ℕ, ℤ, ◌+◌, ◌-◌, ◌*◌, ◌/◌, ◌<◌, Bool, true, false, List, [], ◌∷◌, ◌++◌, length, get_or, take, drop, map, Option, Some, None, refl, ap, ◌∙◌, arith}
+use Rattle.std.proofs.Common.{◌≡◌, ℕ, ℤ, ◌+◌, ◌-◌, ◌*◌, ◌/◌, ◌<◌, Bool, true, false, List, [], ◌∷◌, ◌++◌, length, get_or, take, drop, map, Option, Some, None, refl, sym, ap, ◌∙◌, arith}
 use Rattle.std.specs.Prelude.{slice_get}
 use Rattle.std.specs.List.{range_with_len}
+use Rattle.std.proofs.Math.Nat.{mul-div_cancel}
 use Rattle.std.proofs.lemmas.List.{take_at}
 use Rattle.std.proofs.lemmas.List.FromFn.{fill_by_all, get_or-map-range_with_len, length-map-range_with_len}
 use Rattle.ring_format.specs.declared.archive.Archive.{Archive}
@@ -67,6 +68,23 @@ shown_read layout patch file rings archive i first end count held values cached 
     is ∙ ap (λ (n : ℕ). map from_held (range_with_len 0 n)) length_of
     ∙ map_range-same from_held from_rings count None (λ k lt. shown_in-same layout (λ _ _. get_or held k None) rings cached i archive.step (first + k * archive.step) (one k lt)) in
     rw (there, many) all
+
+-- pending points laid over any values show as they do over archives that have these values
+pub shown_over : (layout : LayoutValue) (archive : Archive) (i first end : ℕ) (held values : List (Option ℤ)) (cached : List (ℕ × ℤ))
+    → slice_get layout.archives i ≡ Some archive → (end - first) / archive.step ≡ length held → 0 < archive.step
+    → values ≡ map (λ k. shown_in layout (λ _ _. get_or held k None) cached i archive.step (first + k * archive.step)) (range_with_len 0 (length held))
+    → (rings : Rings) × (values ≡ shown layout rings cached (Range i first end))
+unfolding shown_from
+shown_over layout archive i first end held values cached there many some is =
+    let rings : Rings = λ a bucket. get_or held ((bucket - first) / archive.step) None in
+    let one : (k : ℕ) → get_or held k None ≡ rings i (first + k * archive.step) = λ k.
+    let back : (first + k * archive.step) - first ≡ k * archive.step = omega arith in
+    ap (λ (n : ℕ). get_or held n None) (sym (ap (λ (n : ℕ). n / archive.step) back ∙ mul-div_cancel k some)) in
+    let from_held : ℕ → Option ℤ = λ k. shown_in layout (λ _ _. get_or held k None) cached i archive.step (first + k * archive.step) in
+    let from_rings : ℕ → Option ℤ = λ k. shown_in layout rings cached i archive.step (first + k * archive.step) in
+    let all : values ≡ map from_rings (range_with_len 0 (length held)) =
+    is ∙ map_range-same from_held from_rings (length held) None (λ k lt. shown_in-same layout (λ _ _. get_or held k None) rings cached i archive.step (first + k * archive.step) (one k)) in
+    (rings, rw (there, many) all)
 
 -- ---- for callers
 

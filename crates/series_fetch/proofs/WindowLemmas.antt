@@ -1,12 +1,12 @@
 -- The buckets from after a moment to another.
-use Rattle.std.proofs.Common.{◌≡◌, ◌≢◌, ℕ, ◌+◌, ◌-◌, ◌*◌, ◌/◌, ◌%◌, ◌^◌, ◌<◌, ◌≤◌, Option, Some, IfSome, inl, inr, sym, ap, subst, ◌∙◌, arith}
+use Rattle.std.proofs.Common.{◌≡◌, ◌≢◌, ℕ, ◌+◌, ◌-◌, ◌*◌, ◌/◌, ◌%◌, ◌^◌, ◌<◌, ◌≤◌, List, Option, Some, None, IfSome, length, refl, inl, inr, sym, ap, subst, ◌∙◌, arith}
 use Rattle.std.specs.Prelude.{slice_get}
 use Rattle.ring_format.specs.declared.archive.Archive.{Archive}
 use Rattle.ring_format.specs.Layout.{LayoutValue}
-use Rattle.ring_archive.specs.Ring.{FitsFrom}
-use Rattle.std.proofs.Math.Nat.{div-add-mod, div-mul-le_self, mul-add, mul-div_cancel, mul_comm, mul-le-mul_right, mul-mod_right}
+use Rattle.std.proofs.Math.Nat.{div-add-mod, div-mul-le_self, mul-add, mul-div_cancel, mul_comm, mul-mod_right}
 use Rattle.std.proofs.lemmas.Bool.Decides.{eqb_tells}
 use Rattle.std.proofs.lemmas.Nat.{le-div}
+use Rattle.std.proofs.lemmas.Option.{slice_get_within}
 use Rattle.series_fetch.specs.Window.{bucket_after, end_after, IsStretch, IsStretchOf}
 
 -- the first bucket after a moment, as a product
@@ -47,3 +47,11 @@ has_buckets layout i first end n archive there stretch all some =
     let same : n ≡ count = all ∙ ap (λ (d : ℕ). d / archive.step) apart ∙ mul-div_cancel count some in
     subst (λ (o : Option Archive). IfSome o (λ a. (end ≡ first + n * a.step) × (end < 2 ^ 32))) (sym there)
     (here.1.ends ∙ ap (λ (d : ℕ). first + d * archive.step) (sym same), here.1.small)
+
+-- a window's archive is one of the layout's
+pub archive_within : (archives : List Archive) (i first end : ℕ) → IsStretchOf (slice_get archives i) first end → i < length archives
+archive_within archives i first end stretch = by (slice_get archives i) refl
+  where
+    by : (found : Option Archive) → slice_get archives i ≡ found → i < length archives
+    by None e = absurd (subst (λ (o : Option Archive). IsStretchOf o first end) e stretch)
+    by (Some archive) e = slice_get_within archives i archive e

@@ -1,3 +1,4 @@
 pub mod Window
 pub mod Shown
 pub mod Cut
+pub mod Fetched

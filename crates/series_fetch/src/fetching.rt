@@ -5,7 +5,8 @@ ghost use Rattle.metric_line.specs.Moment.{is_moment};
 ghost use Rattle.point_cache.specs.Points.{IsRising};
 ghost use Rattle.ring_archive.specs.Ring.{ReadsAs, Rings};
 ghost use Rattle.ring_archive.specs.View.{IsThere, OnRing};
-ghost use Rattle.series_fetch.specs.Window.{HasBuckets, IsWindow};
+ghost use Rattle.series_fetch.specs.Fetched.{Fetches};
+ghost use Rattle.series_fetch.specs.Window.{IsWindow};
 ghost use Rattle.series_fetch.specs.Shown.{shown};
 
 use crate::laying::with_pending;
@@ -38,8 +39,8 @@ pub fn fetch<D: Disk>(
     requires rising { IsRising cached.now }
     requires moments { All (λ p. is_moment p.0 ≡ true) cached.now }
     requires file { IsThere view.now patch.now.fresh (D.image disk.old) }
-    ensures shown { IfOk result (λ values. OnRing view.now patch.now.fresh (D.image disk.old) (λ file. (rings : Rings) → ReadsAs patch.now file rings → values.items ≡ shown view.now.layout rings cached.now window)) }
-    ensures count { IfOk result (λ values. HasBuckets view.now.layout window (length values.items)) }
+    ensures fetches { IfOk result (λ values.
+        Fetches view.now patch.now (D.image disk.old) cached.now window values.items) }
     ensures frame { ReadsOnly D.Disk disk.old disk.new (IsErrOf result RingFault.DiskFault) }
 {
     let Window::Range(archive, first, end) = window else {

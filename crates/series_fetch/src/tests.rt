@@ -5,12 +5,12 @@ ghost use Rattle.ring_format.specs.LayoutFile.{file_size_of};
 ghost use Rattle.ring_archive.specs.Ring.{HoldsRing};
 
 use super::*;
-use fixed_num::{CELL_BYTES, Milli};
+use fixed_num::Milli;
 use metric_path::MetricPath;
 use outside_io::{Disk, MemDisk};
 use point_cache::Points;
 use ring_archive::RingView;
-use ring_format::{Archive, Layout, Method, Patch, write_cell};
+use ring_format::{Archive, CELL_BYTES, Layout, Method, Patch, write_cell};
 use std::alloc::{AllocError, Global};
 use std::test::Fail;
 
