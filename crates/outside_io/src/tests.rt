@@ -312,6 +312,52 @@ fn fill_small(disk: &mut FolderDisk<HostRuntime>) -> Result<(), DiskFailed> {
     disk.create("c", 2)
 }
 
+fn byte_of(disk: &mut FolderDisk<HostRuntime>, name: &str, at: u64) -> Result<u8, DiskFailed> {
+    let mut byte = [9u8];
+    disk.read_at(name, at, &mut byte)?;
+    Ok(byte[0])
+}
+
+// Writes and reads two files by turns, and makes the one that is open anew.
+fn files_in_turn(disk: &mut FolderDisk<HostRuntime>) -> Result<[u8; 4], DiskFailed> {
+    disk.create("c", 4)?;
+    disk.write_at("c", 1, b"abc")?;
+    disk.create("e", 3)?;
+    disk.write_at("e", 2, b"z")?;
+    disk.write_at("c", 3, b"d")?;
+    let other = byte_of(disk, "e", 2)?;
+    let held = [byte_of(disk, "c", 1)?, byte_of(disk, "c", 3)?];
+    disk.create("c", 2)?;
+    Ok([other, held[0], held[1], byte_of(disk, "c", 1)?])
+}
+
+// While a file is open, another disk of the folder finds it removed and makes one of its name. What is written
+// through the first disk is read through it, until it makes the file itself: then both have that one.
+fn remade(
+    rt: &HostRuntime,
+    folder: &str,
+    disk: &mut FolderDisk<HostRuntime>,
+) -> Result<Result<[u8; 3], DiskFailed>, Fail> {
+    let path = format!(in rt.alloc(); "{folder}/c")?;
+    fs::remove_file(rt, path.as_str())?;
+    let mut second = folder_disk(rt, folder)?;
+    Ok(turns_of_two(disk, &mut second))
+}
+
+fn turns_of_two(
+    disk: &mut FolderDisk<HostRuntime>,
+    second: &mut FolderDisk<HostRuntime>,
+) -> Result<[u8; 3], DiskFailed> {
+    second.create("c", 5)?;
+    second.write_at("c", 0, b"other")?;
+    disk.write_at("c", 0, b"mn")?;
+    let own = byte_of(disk, "c", 1)?;
+    disk.create("c", 2)?;
+    let empty = byte_of(disk, "c", 1)?;
+    disk.write_at("c", 1, b"h")?;
+    Ok([own, empty, byte_of(second, "c", 1)?])
+}
+
 #[test]
 fn folders_keep_files(rt: HostRuntime) -> Result<(), Fail> {
     let folder = fresh_folder(&rt, "small")?;
@@ -332,6 +378,8 @@ fn folders_keep_files(rt: HostRuntime) -> Result<(), Fail> {
         disk.write_at("d", 0, b"x").is_err() && disk.faults() == 2,
         "no such file"
     );
+    assert!(rt; files_in_turn(&mut disk) == Ok(*b"zad\0") && disk.length("c") == Ok(Some(2)));
+    assert!(rt; remade(&rt, folder.as_str(), &mut disk)? == Ok(*b"n\0h") && disk.faults() == 2);
     fs::remove_dir_all(&rt, folder.as_str())?;
     Ok(())
 }
