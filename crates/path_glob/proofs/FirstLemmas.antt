@@ -1,5 +1,5 @@
 -- What a glob fits, by its first piece.
-use Rattle.std.proofs.Common.{◌≡◌, ℕ, ◌+◌, ◌<◌, ◌≤◌, ◌==◌, ◌⊎◌, inl, inr, Bool, true, false, cond, List, [], ◌∷◌, ◌++◌, length, take, drop, get_or, map, All, refl, sym, ap, ◌∙◌, subst, arith, eqb, append_assoc, append-nil}
+use Rattle.std.proofs.Common.{◌≡◌, ℕ, ◌<◌, ◌==◌, inl, inr, Bool, true, false, cond, List, [], ◌∷◌, ◌++◌, length, take, drop, map, All, refl, sym, ap, ◌∙◌, subst, arith, eqb, append_assoc, append-nil}
 use Rattle.std.proofs.lemmas.Bool.{eqb-true}
 use Rattle.std.proofs.lemmas.List.Elements.{All-append, All-cons, All-from_get_or, All-head, All-nil, All-push, All-tail}
 use Rattle.std.proofs.lemmas.List.Splits.{slice_split-cons_no, slice_split-cons_yes}
@@ -7,10 +7,10 @@ use Rattle.std.specs.List.{onto_first, position_or_len, slice_split}
 use Rattle.std.proofs.lemmas.List.{get_or-take, length-take, take-append-drop}
 use Rattle.std.proofs.lemmas.List.Sums.{fails_before_first}
 use Rattle.metric_path.specs.Path.{is_dot, nodes_of}
-use Rattle.path_glob.specs.Glob.{Braces, Exact, Fits, OneOf, NodeCovers, Piece, PieceCovers, Plain, Simple, SomeCovers}
+use Rattle.path_glob.specs.Glob.{Braces, Exact, OneOf, NodeCovers, Piece, PieceCovers, Plain, Simple, SomeCovers}
 use Rattle.path_glob.specs.Laws.{BeginsWith, DotThen, FirstThen, FitsPath, FitsSome, IsByte, IsClosed, IsMember, literal_front}
 use Rattle.path_glob.specs.Parts.{HasNone}
-use Rattle.path_glob.specs.Reading.{globs_of, is_comma, is_special, pieces_from, pieces_of, pieces_within, members_of, row_after, row_of, simple_of, values_of}
+use Rattle.path_glob.specs.Reading.{is_comma, is_special, pieces_from, pieces_of, pieces_within, members_of, row_after, row_of, simple_of, values_of}
 use Rattle.path_glob.proofs.CoverLemmas.{IsPlain, fits_none, moved, nodes_never_none, none_fits, ordinary_of}
 use Rattle.path_glob.proofs.PositionLemmas.{alone_row, row_alone}
 use Rattle.path_glob.proofs.PartLemmas.{braces_at, first_differs, list_at, others_differ}

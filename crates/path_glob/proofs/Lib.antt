@@ -5,3 +5,4 @@ mod FlagLemmas
 mod OrderLemmas
 mod PartLemmas
 mod PositionLemmas
+pub mod StretchLemmas

@@ -4,3 +4,4 @@ pub mod Faults
 pub mod Parts
 pub mod Positions
 pub mod Laws
+pub mod Stretch

@@ -1,13 +1,15 @@
 //! What globs fit, piece by piece from the left. The functions do nothing: what they ensure is the law.
-ghost use Rattle.std.specs.Prelude.{◌≡◌, ◌≢◌, ◌↔◌, ◌==◌, ℕ, List, [], ◌∷◌, ◌++◌, All, false, codes};
+ghost use Rattle.std.specs.Prelude.{◌≡◌, ◌≢◌, ◌↔◌, ◌==◌, ℕ, List, [], ◌∷◌, ◌++◌, All, false, None, codes};
 ghost use Rattle.std.specs.Cmp.Lexicographic.{slice_cmp};
 ghost use Rattle.std.specs.List.{slice_split};
 ghost use Rattle.std.specs.Ordering.{nat_cmp};
 ghost use Rattle.std.specs.declared.cmp.Ordering.TheVariants.{Less};
+ghost use Rattle.path_glob.specs.Faults.{glob_fault};
 ghost use Rattle.path_glob.specs.Glob.{Range};
 ghost use Rattle.path_glob.specs.Laws.{AreBytes, BeginsWith, DotThen, FirstThen, FitsPath, FitsSome, IsByte, IsClosed, IsMember, IsOneByte};
 ghost use Rattle.path_glob.specs.Parts.{HasNone};
 ghost use Rattle.path_glob.specs.Reading.{is_comma, is_special, members_of, only, range};
+ghost use Rattle.path_glob.specs.Stretch.{Fills};
 
 /// A byte that is no dot, wildcard, bracket or brace stands for itself, and a dot for the end of a node.
 pub fn bytes_stand_for_themselves()
@@ -68,4 +70,9 @@ pub fn texts_with_one_front_stand_together()
     ensures to { (front text later : List ℕ) → slice_cmp nat_cmp text front ≢ Less
         → (BeginsWith front text → ⊥) → slice_cmp nat_cmp later text ≢ Less
         → BeginsWith front later → ⊥ }
+{}
+
+/// A glob is a whole stretch of the bytes that globs may hold, with the commas that stand within braces.
+pub fn globs_are_whole_stretches()
+    ensures { (glob : List ℕ) → glob_fault glob ≡ None → Fills false glob }
 {}

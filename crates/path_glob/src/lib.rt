@@ -24,8 +24,8 @@ pub use fault::GlobFault;
 pub use glob::Glob;
 pub use laws::{
     braces_stand_for_their_values, bytes_stand_for_themselves, dashes_make_ranges,
-    lists_stand_for_one_byte, texts_with_one_front_stand_together, values_are_closed,
-    wildcards_stay_within_a_node,
+    globs_are_whole_stretches, lists_stand_for_one_byte, texts_with_one_front_stand_together,
+    values_are_closed, wildcards_stay_within_a_node,
 };
 
 #[cfg(test)]

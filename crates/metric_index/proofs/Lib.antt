@@ -1,0 +1,5 @@
+mod FindLemmas
+mod FrontLemmas
+mod IndexLemmas
+mod LiteralLemmas
+mod WalkLemmas

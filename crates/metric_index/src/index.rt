@@ -1,0 +1,108 @@
+//! The type of an index.
+ghost use Rattle.std.specs.Prelude.{◌≡◌};
+
+use crate::finding::fitted;
+use crate::front::{is_literal, least_path};
+use crate::hit::Hit;
+use metric_path::MetricPath;
+use path_glob::Glob;
+use std::alloc::{AllocError, Global};
+use std::collections::BTreeMap;
+use std::marker::Model;
+
+/// The known paths, each with its entry.
+#[derive(Drop)]
+pub struct Index<V> {
+    entries: BTreeMap<MetricPath, V>,
+}
+
+impl<V> Model for Index<V> {
+    ghost use Rattle.std.specs.Prelude.{◌≡◌, List, ℕ, None, All};
+    ghost use Rattle.metric_index.specs.Index.{paths_of};
+    ghost use Rattle.metric_path.specs.Path.{path_fault};
+
+    ghost Value = { List (List ℕ × V) };
+
+    ghost view = { λ index. index.entries.entries };
+
+    ghost invariant = { λ index. All (λ path. path_fault path ≡ None) (paths_of index.entries.entries) };
+}
+
+impl<V: Drop> Index<V> {
+    ghost use Rattle.std.specs.Prelude.{◌≡◌, [], All, IfOk, OnOk, OnErr, IsSome, None, Some, length, map};
+    ghost use Rattle.std.specs.Cmp.Lexicographic.{slice_cmp};
+    ghost use Rattle.std.specs.List.Sorted.{IsStrictlySortedBy};
+    ghost use Rattle.std.specs.Option.{option_copied};
+    ghost use Rattle.std.specs.Ordering.{nat_cmp};
+    ghost use Rattle.metric_path.specs.Path.{path_fault};
+    ghost use Rattle.metric_index.specs.Index.{Sets, entry_of, paths_of};
+    ghost use Rattle.metric_index.specs.Found.{Finds, IsFitted, seen};
+
+    /// An index without a path.
+    pub fn new(alloc: Global) -> Index<V>
+        ensures { result ≡ [] }
+    {
+        Index {
+            entries: BTreeMap::new(alloc),
+        }
+    }
+
+    /// How many paths are known. They are legal, and each is there once.
+    pub fn len(&self) -> usize
+        ensures value { result ≡ length self.now }
+        ensures rising { IsStrictlySortedBy (slice_cmp nat_cmp) (paths_of self.now) }
+        ensures legal { All (λ path. path_fault path ≡ None) (paths_of self.now) }
+    {
+        self.entries.len()
+    }
+
+    /// The entry of a path, or `None` where the path is not known. No memory is taken.
+    pub fn get(&self, path: &MetricPath) -> Option<&V>
+        ensures { option_copied result ≡ entry_of self.now path.now }
+    {
+        self.entries.get(path)
+    }
+
+    /// Gives a path this entry, whether or not it was known.
+    pub fn insert(&mut self, path: MetricPath, entry: V) -> Result<(), AllocError>
+        ensures ok { OnOk result (Sets self.old self.new path (Some entry)) }
+        ensures err { OnErr result (self.new ≡ self.old) }
+    {
+        let _ = path.text();
+        self.entries.insert(path, entry)?;
+        Ok(())
+    }
+
+    /// Gives a known path another entry. No memory is taken.
+    pub fn set(&mut self, path: &MetricPath, entry: V)
+        requires { IsSome (entry_of self.old path.now) }
+        ensures { Sets self.old self.new path.now (Some entry) }
+    {
+        let Some(place) = self.entries.get_mut(path) else {
+            unreachable!()
+        };
+        *place = entry;
+    }
+
+    /// Takes a path with its entry out. No memory is taken.
+    pub fn remove(&mut self, path: &MetricPath)
+        ensures { Sets self.old self.new path.now None }
+    {
+        self.entries.remove(path);
+    }
+
+    /// The known paths that a glob fits, in byte order, each once and with its entry. Only paths that begin
+    /// with the glob's literal front are looked at, and a glob without a wildcard is one look-up.
+    pub fn find(&self, alloc: Global, glob: &Glob) -> Result<Vec<Hit<'_, V>>, AllocError>
+        ensures { IfOk result (λ hits. Finds self.now (IsFitted glob.now) (map seen hits.items)) }
+    {
+        let entries = &self.entries;
+        let Some(least) = least_path(alloc, glob.literal_front())? else {
+            return Ok(Vec::new(alloc));
+        };
+        if is_literal(glob) {
+            return fitted(alloc, entries.range(&least..=&least), glob);
+        }
+        fitted(alloc, entries.range(&least..), glob)
+    }
+}

@@ -1,0 +1,13 @@
+#![tactic(auto)]
+//! The metrics that are known, by path, and those of them that a glob finds.
+
+mod finding;
+mod front;
+mod hit;
+mod index;
+
+pub use hit::Hit;
+pub use index::Index;
+
+#[cfg(test)]
+mod tests;

@@ -1,0 +1,9 @@
+pub mod AsciiLemmas
+pub mod CompleteLemmas
+pub mod GlobLemmas
+pub mod LawLemmas
+pub mod LoopLemmas
+pub mod ReadLemmas
+pub mod SoundLemmas
+pub mod TextLemmas
+pub mod WordLemmas

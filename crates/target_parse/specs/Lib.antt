@@ -1,0 +1,4 @@
+pub mod Tree
+pub mod Bytes
+pub mod Target
+pub mod Reading
