@@ -25,9 +25,12 @@ pub(crate) fn write_values<D: Disk>(
 ) -> Result<(), RingFault>
     requires layout { patch.old.layout ≡ view.now.layout }
     requires archive { archive < length view.now.layout.archives }
-    requires buckets { All (λ write. IsBucketOf (step_of view.now.layout.archives archive) write.0) writes.now }
+    requires buckets { All
+        (λ write. IsBucketOf (step_of view.now.layout.archives archive) write.0) writes.now }
     requires file { IsThere view.now patch.old.fresh (D.image disk.old) }
-    ensures writes { OnOk result (OnRing view.now patch.old.fresh (D.image disk.old) (Writes view.now.layout.archives patch.old patch.new archive writes.now)) }
+    ensures writes { OnOk result
+        (OnRing view.now patch.old.fresh (D.image disk.old)
+        (Writes view.now.layout.archives patch.old patch.new archive writes.now)) }
     ensures alike { IsAlike patch.old patch.new }
     ensures filled { OnOk result (patch.new.cells ≡ [] → writes.now ≡ []) }
     ensures frame { ReadsOnly D.Disk disk.old disk.new (IsErrOf result RingFault.DiskFault) }
@@ -48,7 +51,9 @@ fn prepared<D: Disk>(
     requires layout { patch.old.layout ≡ view.now.layout }
     requires archive { archive < length view.now.layout.archives }
     requires file { IsThere view.now patch.old.fresh (D.image disk.old) }
-    ensures prepares { IfOk result (λ base. OnRing view.now patch.old.fresh (D.image disk.old) (Prepares patch.old patch.new archive base)) }
+    ensures prepares { IfOk result
+        (λ base. OnRing view.now patch.old.fresh (D.image disk.old)
+        (Prepares patch.old patch.new archive base)) }
     ensures alike { IsAlike patch.old patch.new }
     ensures frame { ReadsOnly D.Disk disk.old disk.new (IsErrOf result RingFault.DiskFault) }
 {
@@ -64,7 +69,8 @@ fn prepared<D: Disk>(
 
 // Whether each slot of an archive holds zero, since the file is to be created and no cell is laid there.
 fn is_blank(patch: &Patch, archive: u32) -> bool
-    ensures { result ≡ (patch.now.fresh && not (list_any (λ cell. cell.0.0 == archive) patch.now.cells)) }
+    ensures { result ≡ (patch.now.fresh && not
+        (list_any (λ cell. cell.0.0 == archive) patch.now.cells)) }
 {
     patch.fresh() && !has_cells(patch, archive)
 }
@@ -87,7 +93,10 @@ fn clear_stale<D: Disk>(
     requires layout { patch.old.layout ≡ view.now.layout }
     requires archive { archive < length view.now.layout.archives }
     requires file { IsThere view.now patch.old.fresh (D.image disk.old) }
-    ensures prepares { OnOk result (OnRing view.now patch.old.fresh (D.image disk.old) (λ file. base_of patch.old file archive ≡ 0 → Prepares patch.old patch.new archive 0 file)) }
+    ensures prepares { OnOk result
+        (OnRing view.now patch.old.fresh (D.image disk.old)
+        (λ file. base_of patch.old file archive ≡ 0
+        → Prepares patch.old patch.new archive 0 file)) }
     ensures alike { IsAlike patch.old patch.new }
     ensures frame { ReadsOnly D.Disk disk.old disk.new (IsErrOf result RingFault.DiskFault) }
 {
@@ -98,7 +107,8 @@ fn clear_stale<D: Disk>(
 
 // Lays zero into slots of an archive.
 fn clear_slots(patch: &mut Patch, archive: u32, slots: &[u32]) -> Result<(), NoMemory>
-    ensures cleared { OnOk result (IsCleared patch.old patch.new archive slots.now (length slots.now)) }
+    ensures cleared { OnOk result
+        (IsCleared patch.old patch.new archive slots.now (length slots.now)) }
     ensures alike { IsAlike patch.old patch.new }
 {
     for slot in slots {
@@ -126,7 +136,8 @@ fn lay_all(
     writes: &[(u32, Milli)],
 ) -> Result<u32, NoMemory>
     requires archive { archive < length patch.old.layout.archives }
-    requires buckets { All (λ write. IsBucketOf (step_of patch.old.layout.archives archive) write.0) writes.now }
+    requires buckets { All
+        (λ write. IsBucketOf (step_of patch.old.layout.archives archive) write.0) writes.now }
     ensures lays { IfOk result (λ later. Lays patch.old patch.new archive base later writes.now) }
     ensures alike { IsAlike patch.old patch.new }
     ensures filled { OnOk result (patch.new.cells ≡ [] → writes.now ≡ []) }
@@ -148,7 +159,8 @@ fn lay_value(
 ) -> Result<u32, NoMemory>
     requires archive { archive < length patch.old.layout.archives }
     requires bucket { IsBucketOf (step_of patch.old.layout.archives archive) bucket }
-    ensures lays { IfOk result (λ later. Lays patch.old patch.new archive base later ((bucket, value) ∷ [])) }
+    ensures lays { IfOk result
+        (λ later. Lays patch.old patch.new archive base later ((bucket, value) ∷ [])) }
     ensures alike { IsAlike patch.old patch.new }
     ensures filled { OnOk result (patch.new.cells ≢ []) }
 {

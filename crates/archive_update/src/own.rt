@@ -20,8 +20,11 @@ pub(crate) fn own_writes(
 ) -> Result<Vec<(u32, Milli)>, AllocError>
     requires archive { archive < length layout.now.archives }
     requires moments { All (λ p. is_moment p.0 ≡ true) points.now }
-    ensures writes { IfOk result (λ writes. writes.items ≡ own_writes layout.now.archives now archive points.now) }
-    ensures buckets { IfOk result (λ writes. All (λ write. IsOwn (step_of layout.now.archives archive) write.0) writes.items) }
+    ensures writes { IfOk result
+        (λ writes. writes.items ≡ own_writes layout.now.archives now archive points.now) }
+    ensures buckets { IfOk result
+        (λ writes. All (λ write. IsOwn
+        (step_of layout.now.archives archive) write.0) writes.items) }
 {
     let step = layout.archive(archive).step;
     let mut writes = Vec::new(alloc);
@@ -41,7 +44,9 @@ fn put_latest(
     point: &(u32, Milli),
 ) -> Result<(), AllocError>
     requires { 0 < step }
-    ensures { OnOk result (writes.new.items ≡ with_latest writes.old.items (bucket_of step point.now.0, point.now.1)) }
+    ensures { OnOk result
+        (writes.new.items ≡ with_latest writes.old.items
+        (bucket_of step point.now.0, point.now.1)) }
 {
     let (time, value) = *point;
     let bucket = time - time % step;

@@ -41,10 +41,16 @@ pub fn plan<D: Disk>(
     requires rising { IsRising points.now }
     requires moments { All (λ p. is_moment p.0 ≡ true) points.now }
     requires file { IsThere view.now patch.fresh (D.image disk.old) }
-    ensures batch { IfOk result (λ new. OnRing view.now patch.fresh (D.image disk.old) (λ file. (rings : Rings) → ReadsAs patch file rings → ReadsAs new file (batch view.now.layout now points.now rings))) }
+    ensures batch { IfOk result
+        (λ new. OnRing view.now patch.fresh (D.image disk.old)
+        (λ file. (rings : Rings) → ReadsAs patch file rings
+        → ReadsAs new file (batch view.now.layout now points.now rings))) }
     ensures alike { MatchResult result (IsAlike patch) (λ refusal. IsAlike patch refusal.0) }
-    ensures cells { IfOk result (λ new. new.cells ≡ [] ↔ All (λ p. home_of view.now.layout.archives now p.0 ≡ None) points.now) }
-    ensures frame { ReadsOnly D.Disk disk.old disk.new (IsErrAnd result (λ refusal. refusal.1 ≡ RingFault.DiskFault)) }
+    ensures cells { IfOk result
+        (λ new. new.cells ≡ []
+        ↔ All (λ p. home_of view.now.layout.archives now p.0 ≡ None) points.now) }
+    ensures frame { ReadsOnly D.Disk disk.old disk.new
+        (IsErrAnd result (λ refusal. refusal.1 ≡ RingFault.DiskFault)) }
 {
     let mut patch = patch;
     match plan_all(alloc, view, disk, &mut patch, points, now) {
@@ -65,10 +71,17 @@ fn plan_all<D: Disk>(
     requires layout { patch.old.layout ≡ view.now.layout }
     requires moments { All (λ p. is_moment p.0 ≡ true) points.now }
     requires file { IsThere view.now patch.old.fresh (D.image disk.old) }
-    ensures plans { OnOk result (OnRing view.now patch.old.fresh (D.image disk.old) (PlansFirst view.now.layout now points.now patch.old patch.new (length view.now.layout.archives))) }
+    ensures plans { OnOk result
+        (OnRing view.now patch.old.fresh (D.image disk.old)
+        (PlansFirst view.now.layout now points.now patch.old patch.new
+        (length view.now.layout.archives))) }
     ensures alike { IsAlike patch.old patch.new }
-    ensures filled { OnOk result (patch.new.cells ≡ [] → HasNoOwn view.now.layout now points.now (length view.now.layout.archives)) }
-    ensures untouched { OnOk result (HasNoOwn view.now.layout now points.now (length view.now.layout.archives) → patch.new ≡ patch.old) }
+    ensures filled { OnOk result
+        (patch.new.cells ≡ []
+        → HasNoOwn view.now.layout now points.now (length view.now.layout.archives)) }
+    ensures untouched { OnOk result
+        (HasNoOwn view.now.layout now points.now (length view.now.layout.archives)
+        → patch.new ≡ patch.old) }
     ensures frame { ReadsOnly D.Disk disk.old disk.new (IsErrOf result RingFault.DiskFault) }
 {
     for archive in 0..view.layout.archive_count() {
@@ -91,9 +104,12 @@ fn plan_archive<D: Disk>(
     requires archive { archive < length view.now.layout.archives }
     requires moments { All (λ p. is_moment p.0 ≡ true) points.now }
     requires file { IsThere view.now patch.old.fresh (D.image disk.old) }
-    ensures plans { OnOk result (OnRing view.now patch.old.fresh (D.image disk.old) (Plans view.now.layout now points.now patch.old patch.new archive)) }
+    ensures plans { OnOk result
+        (OnRing view.now patch.old.fresh (D.image disk.old)
+        (Plans view.now.layout now points.now patch.old patch.new archive)) }
     ensures alike { IsAlike patch.old patch.new }
-    ensures cells { OnOk result (LaysIf patch.old patch.new (own_writes view.now.layout.archives now archive points.now)) }
+    ensures cells { OnOk result
+        (LaysIf patch.old patch.new (own_writes view.now.layout.archives now archive points.now)) }
     ensures frame { ReadsOnly D.Disk disk.old disk.new (IsErrOf result RingFault.DiskFault) }
 {
     let own = own_writes(alloc, &view.layout, archive, now, points)?;

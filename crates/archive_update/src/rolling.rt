@@ -51,7 +51,9 @@ pub(crate) fn roll_up<D: Disk>(
     requires archive { archive < length view.now.layout.archives }
     requires own { All (λ write. IsOwn (step_of view.now.layout.archives archive) write.0) own.now }
     requires file { IsThere view.now patch.old.fresh (D.image disk.old) }
-    ensures rolls { OnOk result (OnRing view.now patch.old.fresh (D.image disk.old) (RollsUp view.now.layout own.now patch.old patch.new archive)) }
+    ensures rolls { OnOk result
+        (OnRing view.now patch.old.fresh (D.image disk.old)
+        (RollsUp view.now.layout own.now patch.old patch.new archive)) }
     ensures alike { IsAlike patch.old patch.new }
     ensures frame { ReadsOnly D.Disk disk.old disk.new (IsErrOf result RingFault.DiskFault) }
 {
@@ -76,9 +78,12 @@ fn roll_level<D: Disk>(
 ) -> Result<bool, RingFault>
     requires layout { patch.old.layout ≡ view.now.layout }
     requires finer { HasCoarser view.now.layout finer }
-    requires own { All (λ write. IsReached (step_of view.now.layout.archives (finer + 1)) write.0) own.now }
+    requires own { All (λ write. IsReached
+        (step_of view.now.layout.archives (finer + 1)) write.0) own.now }
     requires file { IsThere view.now patch.old.fresh (D.image disk.old) }
-    ensures level { IfOk result (λ more. OnRing view.now patch.old.fresh (D.image disk.old) (Level view.now.layout own.now patch.old patch.new finer more)) }
+    ensures level { IfOk result
+        (λ more. OnRing view.now patch.old.fresh (D.image disk.old)
+        (Level view.now.layout own.now patch.old patch.new finer more)) }
     ensures alike { IsAlike patch.old patch.new }
     ensures frame { ReadsOnly D.Disk disk.old disk.new (IsErrOf result RingFault.DiskFault) }
 {
@@ -100,8 +105,10 @@ fn coarse_buckets(
 ) -> Result<Vec<u32>, AllocError>
     requires archive { archive < length layout.now.archives }
     requires own { All (λ write. IsReached (step_of layout.now.archives archive) write.0) own.now }
-    ensures value { IfOk result (λ buckets. buckets.items ≡ buckets_of_writes layout.now.archives archive own.now) }
-    ensures shown { IfOk result (λ buckets. All (IsShown (step_of layout.now.archives archive)) buckets.items) }
+    ensures value { IfOk result
+        (λ buckets. buckets.items ≡ buckets_of_writes layout.now.archives archive own.now) }
+    ensures shown { IfOk result
+        (λ buckets. All (IsShown (step_of layout.now.archives archive)) buckets.items) }
 {
     let step = layout.archive(archive).step;
     let mut buckets = buckets_with(alloc, step, own)?;
@@ -112,7 +119,8 @@ fn coarse_buckets(
 // The bucket of each write.
 fn buckets_with(alloc: Global, step: u32, own: &[(u32, Milli)]) -> Result<Vec<u32>, AllocError>
     requires { 0 < step }
-    ensures { IfOk result (λ buckets. buckets.items ≡ map (λ write. bucket_of step write.0) own.now) }
+    ensures { IfOk result
+        (λ buckets. buckets.items ≡ map (λ write. bucket_of step write.0) own.now) }
 {
     own.iter()
         .map(|write| write.0 - write.0 % step)
@@ -132,8 +140,13 @@ fn level_writes<D: Disk>(
     requires finer { HasCoarser view.now.layout finer }
     requires shown { All (IsShown (step_of view.now.layout.archives (finer + 1))) buckets.now }
     requires file { IsThere view.now patch.now.fresh (D.image disk.old) }
-    ensures writes { IfOk result (λ writes. OnRing view.now patch.now.fresh (D.image disk.old) (λ file. (rings : Rings) → ReadsAs patch.now file rings → writes.items ≡ level_writes view.now.layout rings finer buckets.now)) }
-    ensures shown { IfOk result (λ writes. All (λ write. IsShown (step_of view.now.layout.archives (finer + 1)) write.0) writes.items) }
+    ensures writes { IfOk result
+        (λ writes. OnRing view.now patch.now.fresh (D.image disk.old)
+        (λ file. (rings : Rings) → ReadsAs patch.now file rings
+        → writes.items ≡ level_writes view.now.layout rings finer buckets.now)) }
+    ensures shown { IfOk result
+        (λ writes. All (λ write. IsShown
+        (step_of view.now.layout.archives (finer + 1)) write.0) writes.items) }
     ensures frame { ReadsOnly D.Disk disk.old disk.new (IsErrOf result RingFault.DiskFault) }
 {
     let places = places_of(&view.layout, finer);
@@ -180,10 +193,14 @@ fn stretch_at<D: Disk>(
     requires finer { HasCoarser view.now.layout finer }
     requires shown { AreShown (step_of view.now.layout.archives (finer + 1)) buckets.now }
     requires file { IsThere view.now patch.now.fresh (D.image disk.old) }
-    requires held { IsRead view.now patch.now (D.image disk.old) finer stretch.first stretch.count stretch.values.items }
+    requires held { IsRead view.now patch.now
+        (D.image disk.old) finer stretch.first stretch.count stretch.values.items }
     ensures held { IfOk result (λ stretch.
         IsRead view.now patch.now (D.image disk.old) finer stretch.first stretch.count stretch.values.items) }
-    ensures has { IfOk result (λ stretch. IsInStretch (step_of view.now.layout.archives (finer + 1)) stretch.first stretch.count (slice_index buckets.now 0)) }
+    ensures has { IfOk result
+        (λ stretch. IsInStretch
+        (step_of view.now.layout.archives (finer + 1)) stretch.first stretch.count
+        (slice_index buckets.now 0)) }
     ensures frame { ReadsOnly D.Disk disk.old disk.new (IsErrOf result RingFault.DiskFault) }
 {
     let step = view.layout.archive(finer + 1).step;
@@ -208,7 +225,10 @@ fn read_stretch<D: Disk>(
     requires file { IsThere view.now patch.now.fresh (D.image disk.old) }
     ensures held { IfOk result (λ stretch.
         IsRead view.now patch.now (D.image disk.old) finer stretch.first stretch.count stretch.values.items) }
-    ensures has { IfOk result (λ stretch. IsInStretch (step_of view.now.layout.archives (finer + 1)) stretch.first stretch.count (slice_index buckets.now 0)) }
+    ensures has { IfOk result
+        (λ stretch. IsInStretch
+        (step_of view.now.layout.archives (finer + 1)) stretch.first stretch.count
+        (slice_index buckets.now 0)) }
     ensures near { IfOk result (λ stretch. AreNear view.now.layout finer stretch.count) }
     ensures frame { ReadsOnly D.Disk disk.old disk.new (IsErrOf result RingFault.DiskFault) }
 {
@@ -267,7 +287,10 @@ fn value_in(
     requires step { 0 < step }
     requires short { places ≤ 31536000 }
     requires has { stretch.now.first ≤ bucket }
-    ensures { IfOk result (λ value. value ≡ rolled_from layout.now (known_from stretch.now.values.items ((bucket - stretch.now.first) / step * places) places) places) }
+    ensures { IfOk result
+        (λ value. value ≡ rolled_from layout.now
+        (known_from stretch.now.values.items
+        ((bucket - stretch.now.first) / step * places) places) places) }
 {
     let at = ((bucket - stretch.first) / step) as usize * places as usize;
     let known = known_from(alloc, &stretch.values, at, places)?;
@@ -278,7 +301,8 @@ fn value_in(
 fn places_of(layout: &Layout, finer: u32) -> u32
     requires finer { HasCoarser layout.now finer }
     ensures value { result ≡ places_in layout.now finer }
-    ensures exact { result * step_of layout.now.archives finer ≡ step_of layout.now.archives (finer + 1) }
+    ensures exact { result * step_of layout.now.archives finer
+        ≡ step_of layout.now.archives (finer + 1) }
     ensures some { 1 ≤ result }
     ensures few { result ≤ step_of layout.now.archives (finer + 1) }
     ensures short { result ≤ 31536000 }

@@ -49,7 +49,8 @@ fn lay_cells(layout: &Layout, patch: &Patch, file: &mut [u8]) {
 // A disk with these bytes under a name.
 fn disk_with(alloc: Global, name: &str, layout: Layout, file: &[u8]) -> Result<MemDisk, AllocError>
     requires { file_size_of layout.archives ≤ length file.now }
-    ensures { IfOk result (λ disk. HoldsRing false (⟦<MemDisk as Disk>⟧.image disk) name.now layout.archives) }
+    ensures { IfOk result
+        (λ disk. HoldsRing false (⟦<MemDisk as Disk>⟧.image disk) name.now layout.archives) }
 {
     let bytes = Vec::from_slice(alloc, file)?;
     let mut disk = MemDisk::new(alloc, 0);

@@ -95,7 +95,8 @@ fn reached_by(whole: &[u8], fraction: &[u8], up: usize, down: usize) -> Reached
     requires whole { list_all is_ascii_digit whole.now ≡ true }
     requires fraction { list_all is_ascii_digit fraction.now ≡ true }
     requires few { up < 2 ^ 31 }
-    ensures { result ≡ reached_by (digits_value 10 (whole.now ++ fraction.now) * 10 ^ up) (10 ^ (length fraction.now + down)) }
+    ensures { result ≡ reached_by (digits_value 10 (whole.now ++ fraction.now) * 10 ^ up)
+        (10 ^ (length fraction.now + down)) }
 {
     let keep = (whole.len() + up).saturating_sub(down);
     let (front, rest) = cut_at(whole, keep);

@@ -43,7 +43,8 @@ fn count_fields(line: &[u8]) -> usize
 
 // The first field of a text and what follows it: `None` exactly where the text has no field.
 fn next_field(text: &[u8]) -> Option<(&[u8], &[u8])>
-    ensures { MatchOption result (fields_of text.now ≡ []) (λ parts. fields_of text.now ≡ parts.0.now ∷ fields_of parts.1.now) }
+    ensures { MatchOption result (fields_of text.now ≡ [])
+        (λ parts. fields_of text.now ≡ parts.0.now ∷ fields_of parts.1.now) }
 {
     let text = from_field(text);
     if text.is_empty() {

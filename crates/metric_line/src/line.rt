@@ -27,7 +27,8 @@ use std::alloc::Global;
 pub fn read_line(alloc: Global, line: &[u8], now: u32) -> Result<Datum, LineFault>
     requires { is_moment now ≡ true }
     ensures datum { IfOk result (λ datum. datum_of line.now now ≡ Ok (seen datum)) }
-    ensures fault { IfErr result (λ fault. fault ≢ LineFault.NoMemory → datum_of line.now now ≡ Err fault) }
+    ensures fault { IfErr result
+        (λ fault. fault ≢ LineFault.NoMemory → datum_of line.now now ≡ Err fault) }
     ensures memory { result ≡ Err LineFault.NoMemory → IsOk (datum_of line.now now) }
 {
     match three_fields(line) {
@@ -46,7 +47,8 @@ fn read_fields(
     now: u32,
 ) -> Result<Datum, LineFault>
     requires { is_moment now ≡ true }
-    ensures datum { IfOk result (λ datum. point_result path.now value.now time.now now ≡ Ok (seen datum)) }
+    ensures datum { IfOk result
+        (λ datum. point_result path.now value.now time.now now ≡ Ok (seen datum)) }
     ensures fault { IfErr result (λ fault. fault ≢ LineFault.NoMemory
         → point_result path.now value.now time.now now ≡ Err fault) }
     ensures memory { result ≡ Err LineFault.NoMemory

@@ -21,7 +21,8 @@ pub(crate) fn file_name_of(alloc: Global, text: &[u8]) -> Result<Vec<u8>, AllocE
 
 /// What stands before the suffix of a file name.
 pub(crate) fn stem_of(name: &[u8]) -> Option<&[u8]>
-    ensures { MatchOption result ((stem : List ℕ) → name.now ≢ stem ++ codes ".ring") (λ stem. name.now ≡ stem.now ++ codes ".ring") }
+    ensures { MatchOption result ((stem : List ℕ) → name.now ≢ stem ++ codes ".ring")
+        (λ stem. name.now ≡ stem.now ++ codes ".ring") }
 {
     name.strip_suffix(SUFFIX)
 }

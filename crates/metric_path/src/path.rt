@@ -171,7 +171,8 @@ impl MetricPath {
 
 // The path with this text, where it is legal.
 fn of_text(text: Vec<u8>) -> Option<MetricPath>
-    ensures { MatchOption result (path_fault text.items ≢ None) (λ path. (path_fault text.items ≡ None) × (path ≡ text.items)) }
+    ensures { MatchOption result (path_fault text.items ≢ None)
+        (λ path. (path_fault text.items ≡ None) × (path ≡ text.items)) }
 {
     if let Some(_) = fault_of(text.as_slice()) {
         return None;

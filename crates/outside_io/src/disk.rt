@@ -58,10 +58,13 @@ pub trait Disk {
 
     /// Each name once, in no order that is told.
     fn names(&mut self) -> Result<Vec<String>, NamesFault>
-        ensures listed { IfOk result (λ names. IfSome (image self.old) (λ held. ListsNames held (map string_bytes names.items))) }
+        ensures listed { IfOk result
+            (λ names. IfSome (image self.old)
+            (λ held. ListsNames held (map string_bytes names.items))) }
         ensures kept { image self.new ≡ image self.old }
         ensures later { Self.faults self.old ≤ Self.faults self.new }
-        ensures cause { IsErrOf result NamesFault.Failed → Rose (Self.faults self.old) (Self.faults self.new) };
+        ensures cause { IsErrOf result NamesFault.Failed
+            → Rose (Self.faults self.old) (Self.faults self.new) };
 
     /// The length in bytes of a file, or `None` where the name is not there.
     fn length(&mut self, name: &str) -> Result<Option<u64>, DiskFailed>
@@ -73,8 +76,12 @@ pub trait Disk {
     /// Leaves under the name exactly `len` zero bytes, whether it was there or not. A call that fails leaves
     /// anything or nothing under that name.
     fn create(&mut self, name: &str, len: u64) -> Result<(), DiskFailed>
-        ensures ok { OnOk result (WhereKnown (image self.old) (image self.new) (λ before after. Creates before after name.now len)) }
-        ensures err { OnErr result (WhereKnown (image self.old) (image self.new) (λ before after. ChangesOnly before after name.now)) }
+        ensures ok { OnOk result
+            (WhereKnown (image self.old) (image self.new)
+            (λ before after. Creates before after name.now len)) }
+        ensures err { OnErr result
+            (WhereKnown (image self.old) (image self.new)
+            (λ before after. ChangesOnly before after name.now)) }
         ensures later { Self.faults self.old ≤ Self.faults self.new }
         ensures cause { OnErr result (Rose (Self.faults self.old) (Self.faults self.new)) };
 
@@ -91,8 +98,12 @@ pub trait Disk {
     /// to lie in the file. A call that fails leaves any bytes in that range.
     fn write_at(&mut self, name: &str, at: u64, piece: &[u8]) -> Result<(), DiskFailed>
         requires { IsWithinFile (image self.old) name.now at (length piece.now) }
-        ensures ok { OnOk result (WhereKnown (image self.old) (image self.new) (λ before after. Writes before after name.now at piece.now)) }
-        ensures err { OnErr result (WhereKnown (image self.old) (image self.new) (λ before after. Tears before after name.now at (length piece.now))) }
+        ensures ok { OnOk result
+            (WhereKnown (image self.old) (image self.new)
+            (λ before after. Writes before after name.now at piece.now)) }
+        ensures err { OnErr result
+            (WhereKnown (image self.old) (image self.new)
+            (λ before after. Tears before after name.now at (length piece.now))) }
         ensures later { Self.faults self.old ≤ Self.faults self.new }
         ensures cause { OnErr result (Rose (Self.faults self.old) (Self.faults self.new)) };
 }

@@ -41,7 +41,8 @@ impl MemDisk {
     /// the next of them is number 1.
     pub fn failing(mut self, calls: Vec<u64>) -> Self
         ensures image { disk_image result ≡ disk_image self }
-        ensures state { state_of result ≡ record (state_of self) { writes = listed_calls calls.items } }
+        ensures state { state_of result
+            ≡ record (state_of self) { writes = listed_calls calls.items } }
     {
         self.state.writes = FailingCalls::new(calls);
         self
@@ -51,7 +52,8 @@ impl MemDisk {
     /// together; the next of them is number 1.
     pub fn failing_reads(mut self, calls: Vec<u64>) -> Self
         ensures image { disk_image result ≡ disk_image self }
-        ensures state { state_of result ≡ record (state_of self) { reads = listed_calls calls.items } }
+        ensures state { state_of result
+            ≡ record (state_of self) { reads = listed_calls calls.items } }
     {
         self.state.reads = FailingCalls::new(calls);
         self
@@ -69,7 +71,8 @@ impl MemDisk {
     /// From now on no call fails but for want of room or memory.
     pub fn mend(&mut self)
         ensures image { disk_image self.new ≡ disk_image self.old }
-        ensures state { state_of self.new ≡ record (state_of self.old) { writes = listed_calls []; reads = listed_calls [] } }
+        ensures state { state_of self.new
+            ≡ record (state_of self.old) { writes = listed_calls []; reads = listed_calls [] } }
     {
         self.state.writes = FailingCalls::none(self.alloc);
         self.state.reads = FailingCalls::none(self.alloc);
@@ -84,7 +87,8 @@ impl MemDisk {
 
     /// Puts a file on the disk, beside its room and its counted calls. At an error no file changes.
     pub fn put_file(&mut self, name: &str, bytes: Vec<u8>) -> Result<(), AllocError>
-        ensures ok { OnOk result (PutsFile (disk_image self.old) (disk_image self.new) name.now bytes.items) }
+        ensures ok { OnOk result
+            (PutsFile (disk_image self.old) (disk_image self.new) name.now bytes.items) }
         ensures err { OnErr result (SameImage (disk_image self.old) (disk_image self.new)) }
         ensures state { state_of self.new ≡ state_of self.old }
     {
@@ -93,10 +97,15 @@ impl MemDisk {
 
     // Makes a file where there is room for it.
     fn make_file(&mut self, name: &str, len: u64) -> Result<(), DiskFailed>
-        ensures ok { OnOk result (Creates (disk_image self.old) (disk_image self.new) name.now len) }
+        ensures ok { OnOk result
+            (Creates (disk_image self.old) (disk_image self.new) name.now len) }
         ensures err { OnErr result (SameImage (disk_image self.old) (disk_image self.new)) }
         ensures full { IsBeyondRoom self.old name.now len → IsErr result }
-        ensures state { state_of self.new ≡ record (state_of self.old) { room = room_left self.old name.now len (is_err result) } }
+        ensures state { state_of self.new
+            ≡ record (state_of self.old) {
+              room = room_left self.old name.now len
+                  (is_err result);
+            } }
     {
         let held = held_len(&self.files, name);
         let Some(room) = room_after(self.state.room, held, len) else {
@@ -114,7 +123,8 @@ impl MemDisk {
 
 // The room that is left after a file of one length has another.
 fn room_after(room: u64, held: u64, len: u64) -> Option<u64>
-    ensures { result ≡ (if nat_le len (room + held) then Some (min (room + held - len) (2 ^ 64 - 1)) else None) }
+    ensures { result ≡ (if nat_le len (room + held) then Some
+        (min (room + held - len) (2 ^ 64 - 1)) else None) }
 {
     let left = room.checked_sub(len.saturating_sub(held))?;
     Some(left.saturating_add(held.saturating_sub(len)))
@@ -137,7 +147,8 @@ fn put_bytes(
     name: &str,
     bytes: Vec<u8>,
 ) -> Result<(), AllocError>
-    ensures ok { OnOk result (PutsFile (image_of files.old) (image_of files.new) name.now bytes.items) }
+    ensures ok { OnOk result
+        (PutsFile (image_of files.old) (image_of files.new) name.now bytes.items) }
     ensures err { OnErr result (SameImage (image_of files.old) (image_of files.new)) }
 {
     match files.get_mut(name) {
@@ -211,7 +222,8 @@ fn read_file(files: &BTreeMap<String, Vec<u8>>, name: &str, at: u64, buf: &mut [
 }
 
 fn names_of(alloc: Global, files: &BTreeMap<String, Vec<u8>>) -> Result<Vec<String>, AllocError>
-    ensures all { IfOk result (λ names. map string_bytes names.items ≡ map string_bytes (keys files.now)) }
+    ensures all { IfOk result
+        (λ names. map string_bytes names.items ≡ map string_bytes (keys files.now)) }
     ensures ordered { IsOrdered string_cmp files.now }
 {
     let mut names = Vec::with_capacity(alloc, files.len())?;
@@ -233,9 +245,12 @@ impl Disk for MemDisk {
     // Fails where the call is listed; the list of names may want memory.
     #[tactic(auto, using(crate::proofs::FileNames::lists_keys))]
     fn names(&mut self) -> Result<Vec<String>, NamesFault>
-        ensures listed { IfOk result (λ names. ListsNames (disk_image self.old) (map string_bytes names.items)) }
-        ensures fails { IsErrOf result NamesFault.Failed ↔ IsTrue (fails_next (state_of self.old).reads) }
-        ensures frame { ReadsOnly ⟦<MemDisk as Disk>⟧ self.old self.new (IsErrOf result NamesFault.Failed) }
+        ensures listed { IfOk result
+            (λ names. ListsNames (disk_image self.old) (map string_bytes names.items)) }
+        ensures fails { IsErrOf result NamesFault.Failed
+            ↔ IsTrue (fails_next (state_of self.old).reads) }
+        ensures frame { ReadsOnly ⟦<MemDisk as Disk>⟧ self.old self.new
+            (IsErrOf result NamesFault.Failed) }
         ensures state { state_of self.new ≡ after_names (state_of self.old) }
     {
         self.state.calls.names = raised(self.state.calls.names);
@@ -262,12 +277,15 @@ impl Disk for MemDisk {
 
     // Fails where the call is listed, or goes beyond the room, or finds no memory.
     fn create(&mut self, name: &str, len: u64) -> Result<(), DiskFailed>
-        ensures ok { OnOk result (Creates (disk_image self.old) (disk_image self.new) name.now len) }
+        ensures ok { OnOk result
+            (Creates (disk_image self.old) (disk_image self.new) name.now len) }
         ensures err { OnErr result (SameImage (disk_image self.old) (disk_image self.new)) }
         ensures listed { IsTrue (fails_next (state_of self.old).writes) → IsErr result }
         ensures frame { CountsFaults ⟦<MemDisk as Disk>⟧ self.old self.new (IsErr result) }
         ensures full { IsBeyondRoom self.old name.now len → IsErr result }
-        ensures state { state_of self.new ≡ after_create (state_of self.old) (room_left self.old name.now len (is_err result)) (is_err result) }
+        ensures state { state_of self.new
+            ≡ after_create (state_of self.old) (room_left self.old name.now len (is_err result))
+            (is_err result) }
     {
         self.state.calls.creates = raised(self.state.calls.creates);
         if self.state.writes.fails_now() {
@@ -298,8 +316,10 @@ impl Disk for MemDisk {
     #[tactic(auto, using(crate::proofs::TornFiles::same_tears, crate::proofs::TornFiles::filled_tears))]
     fn write_at(&mut self, name: &str, at: u64, piece: &[u8]) -> Result<(), DiskFailed>
         requires { IsWithinFile (Some (disk_image self.old)) name.now at (length piece.now) }
-        ensures ok { OnOk result (Writes (disk_image self.old) (disk_image self.new) name.now at piece.now) }
-        ensures err { OnErr result (Tears (disk_image self.old) (disk_image self.new) name.now at (length piece.now)) }
+        ensures ok { OnOk result
+            (Writes (disk_image self.old) (disk_image self.new) name.now at piece.now) }
+        ensures err { OnErr result
+            (Tears (disk_image self.old) (disk_image self.new) name.now at (length piece.now)) }
         ensures frame { CountsFaults ⟦<MemDisk as Disk>⟧ self.old self.new (IsErr result) }
         ensures torn { OnErr result (LeavesTorn self.old self.new name.now at (length piece.now)) }
         ensures fails { is_err result ≡ fails_next (state_of self.old).writes }

@@ -107,12 +107,14 @@ impl Sink for MemSink {
         requires { 0 < length piece.now }
         ensures count { WritesSome result piece.now }
         ensures bytes { WriteGives (Some self.old.bytes) (Some self.new.bytes) result piece.now }
-        ensures frame { CountsWrites ⟦<MemSink as Sink>⟧ self.old self.new (result ≡ WriteEnd.Failed) }
+        ensures frame { CountsWrites ⟦<MemSink as Sink>⟧ self.old self.new
+            (result ≡ WriteEnd.Failed) }
         ensures state { self.new ≡ after_write self.old piece.now self.new.room result }
         ensures room { self.old.room ≤ self.new.room + taken result }
         ensures piece { TakesPiece self.old (length piece.now) result }
         ensures listed { IsTrue (fails_next self.old.calls) → result ≡ WriteEnd.Failed }
-        ensures within { HasRoom self.old (length piece.now) → result ≡ WriteEnd.Failed → IsTrue (fails_next self.old.calls) }
+        ensures within { HasRoom self.old (length piece.now) → result ≡ WriteEnd.Failed
+            → IsTrue (fails_next self.old.calls) }
     {
         if self.calls.fails_now() {
             self.faults = raised(self.faults);

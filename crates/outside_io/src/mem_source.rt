@@ -127,7 +127,8 @@ fn piece_len(cuts: &[usize], at: usize, most: usize) -> usize
     requires { 0 < most }
     ensures some { 0 < result }
     ensures bound { result ≤ most }
-    ensures uncut { EachIndex cuts.now (λ k. at < slice_index cuts.now k → at + result ≤ slice_index cuts.now k) }
+    ensures uncut { EachIndex cuts.now
+        (λ k. at < slice_index cuts.now k → at + result ≤ slice_index cuts.now k) }
 {
     let mut piece = most;
     for cut in cuts {

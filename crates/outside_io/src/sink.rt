@@ -43,7 +43,8 @@ pub trait Sink {
         ensures count { WritesSome result piece.now }
         ensures bytes { WriteGives (written self.old) (written self.new) result piece.now }
         ensures later { Self.write_faults self.old ≤ Self.write_faults self.new }
-        ensures cause { result ≡ WriteEnd.Failed → Rose (Self.write_faults self.old) (Self.write_faults self.new) }
+        ensures cause { result ≡ WriteEnd.Failed
+            → Rose (Self.write_faults self.old) (Self.write_faults self.new) }
         ensures beside { beside_write self.new ≡ beside_write self.old };
 }
 

@@ -38,6 +38,7 @@ pub trait Source {
         ensures count { ReadsSome result buf.new }
         ensures bytes { ReadTakes (left self.old) (left self.new) result buf.new }
         ensures later { Self.read_faults self.old ≤ Self.read_faults self.new }
-        ensures cause { result ≡ ReadEnd.Failed → Rose (Self.read_faults self.old) (Self.read_faults self.new) }
+        ensures cause { result ≡ ReadEnd.Failed
+            → Rose (Self.read_faults self.old) (Self.read_faults self.new) }
         ensures beside { beside_read self.new ≡ beside_read self.old };
 }

@@ -30,7 +30,9 @@ impl RingView<'_> {
         requires archive { archive < length self.now.layout.archives }
         requires fits { FitsFrom self.now.layout archive first count }
         requires file { IsThere self.now patch.now.fresh (D.image disk.old) }
-        ensures values { IfOk result (λ values. OnRing self.now patch.now.fresh (D.image disk.old) (λ file. values.items ≡ values_from patch.now file archive first count)) }
+        ensures values { IfOk result
+            (λ values. OnRing self.now patch.now.fresh (D.image disk.old)
+            (λ file. values.items ≡ values_from patch.now file archive first count)) }
         ensures count { IfOk result (λ values. length values.items ≡ count) }
         ensures frame { ReadsOnly D.Disk disk.old disk.new (IsErrOf result RingFault.DiskFault) }
     {
@@ -74,7 +76,9 @@ fn picked_values(
     requires slot { round.slot < round.points }
     requires fits { first + count * step < 2 ^ 32 }
     requires held { length bytes.now ≡ 12 * min count round.points }
-    ensures { IfOk result (λ values. values.items ≡ map (λ k. picked_value patch.now.cells round bytes.now first step k) (range_with_len 0 count)) }
+    ensures { IfOk result
+        (λ values. values.items ≡ map
+        (λ k. picked_value patch.now.cells round bytes.now first step k) (range_with_len 0 count)) }
 {
     let mut values = Vec::with_capacity(alloc, count as usize)?;
     for k in 0..count {
@@ -89,7 +93,8 @@ fn picked_value(patch: &Patch, round: Round, bytes: &[u8], bucket: u32, place: u
     requires slot { round.slot < round.points }
     requires place { place < round.points }
     requires held { 12 * place + 12 ≤ length bytes.now }
-    ensures { result ≡ (if bucket == 0 then None else value_for bucket (cell_behind patch.now.cells round bytes.now place)) }
+    ensures { result ≡ (if bucket == 0 then None else value_for bucket
+        (cell_behind patch.now.cells round bytes.now place)) }
 {
     if bucket == 0 {
         return None;

@@ -40,7 +40,9 @@ impl RingView<'_> {
         requires count { count ≤ round.points }
         requires file { IsThere self.now fresh (D.image disk.old) }
         ensures length { IfOk result (λ bytes. length bytes.items ≡ 12 * count) }
-        ensures cells { IfOk result (λ bytes. OnRing self.now fresh (D.image disk.old) (λ file. HoldsSlots fresh self.now.layout.archives file round bytes.items)) }
+        ensures cells { IfOk result
+            (λ bytes. OnRing self.now fresh (D.image disk.old)
+            (λ file. HoldsSlots fresh self.now.layout.archives file round bytes.items)) }
         ensures frame { ReadsOnly D.Disk disk.old disk.new (IsErrOf result RingFault.DiskFault) }
     {
         let mut bytes = zeros(alloc, CELL_BYTES * count as usize)?;
@@ -63,7 +65,9 @@ impl RingView<'_> {
         requires slot { round.slot < round.points }
         requires room { length bytes.old ≤ 12 * round.points }
         requires file { IsThere self.now false (D.image disk.old) }
-        ensures cells { OnOk result (OnFile (D.image disk.old) self.now.name.now (λ file. HoldsSlots false self.now.layout.archives file round bytes.new)) }
+        ensures cells { OnOk result
+            (OnFile (D.image disk.old) self.now.name.now
+            (λ file. HoldsSlots false self.now.layout.archives file round bytes.new)) }
         ensures frame { ReadsOnly D.Disk disk.old disk.new (IsErr result) }
     {
         let before_end = CELL_BYTES * (round.points - round.slot) as usize;
@@ -86,7 +90,10 @@ impl RingView<'_> {
         requires ring { IsRoundOf self.now.layout.archives round }
         requires room { 12 * round.slot + length bytes.old ≤ 12 * round.points }
         requires file { IsThere self.now false (D.image disk.old) }
-        ensures bytes { OnOk result (OnFile (D.image disk.old) self.now.name.now (λ file. bytes.new ≡ take (length bytes.old) (drop (cell_offset self.now.layout.archives (round.archive, round.slot)) file))) }
+        ensures bytes { OnOk result
+            (OnFile (D.image disk.old) self.now.name.now
+            (λ file. bytes.new ≡ take (length bytes.old)
+            (drop (cell_offset self.now.layout.archives (round.archive, round.slot)) file))) }
         ensures frame { ReadsOnly D.Disk disk.old disk.new (IsErr result) }
     {
         let offset = u64::from(self.layout.offset(round.archive));

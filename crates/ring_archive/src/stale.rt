@@ -33,7 +33,9 @@ impl RingView<'_> {
         requires layout { patch.now.layout ≡ self.now.layout }
         requires archive { archive < length self.now.layout.archives }
         requires file { IsThere self.now patch.now.fresh (D.image disk.old) }
-        ensures slots { IfOk result (λ slots. OnRing self.now patch.now.fresh (D.image disk.old) (λ file. slots.items ≡ stale_slots patch.now file archive)) }
+        ensures slots { IfOk result
+            (λ slots. OnRing self.now patch.now.fresh (D.image disk.old)
+            (λ file. slots.items ≡ stale_slots patch.now file archive)) }
         ensures frame { ReadsOnly D.Disk disk.old disk.new (IsErrOf result RingFault.DiskFault) }
     {
         let points = self.layout.archive(archive).points;
@@ -56,7 +58,10 @@ fn laid_slots(
 ) -> Result<Vec<u32>, AllocError>
     requires slot { round.slot < round.points }
     requires held { length bytes.now ≡ 12 * round.points }
-    ensures { IfOk result (λ slots. slots.items ≡ filter (λ slot. is_laid (cell_behind patch.now.cells round bytes.now slot)) (range_with_len 0 round.points)) }
+    ensures { IfOk result
+        (λ slots. slots.items ≡ filter
+        (λ slot. is_laid (cell_behind patch.now.cells round bytes.now slot))
+        (range_with_len 0 round.points)) }
 {
     if has_cells(patch, round.archive) {
         return patched_slots(alloc, patch, round, bytes);
@@ -80,7 +85,10 @@ fn patched_slots(
 ) -> Result<Vec<u32>, AllocError>
     requires slot { round.slot < round.points }
     requires held { length bytes.now ≡ 12 * round.points }
-    ensures { IfOk result (λ slots. slots.items ≡ filter (λ slot. is_laid (cell_behind patch.now.cells round bytes.now slot)) (range_with_len 0 round.points)) }
+    ensures { IfOk result
+        (λ slots. slots.items ≡ filter
+        (λ slot. is_laid (cell_behind patch.now.cells round bytes.now slot))
+        (range_with_len 0 round.points)) }
 {
     let mut slots = Vec::new(alloc);
     for slot in 0..round.points {
@@ -110,7 +118,8 @@ fn held_slots(alloc: Global, bytes: &[u8], points: u32) -> Result<Vec<u32>, Allo
 fn add_block(slots: &mut Vec<u32>, bytes: &[u8], first: u32, end: u32) -> Result<(), AllocError>
     requires order { first ≤ end }
     requires held { 12 * end ≤ length bytes.now }
-    ensures { OnOk result (slots.new.items ≡ slots.old.items ++ held_slots bytes.now first (end - first)) }
+    ensures { OnOk result
+        (slots.new.items ≡ slots.old.items ++ held_slots bytes.now first (end - first)) }
 {
     if is_zero(&bytes[CELL_BYTES * first as usize..CELL_BYTES * end as usize]) {
         return Ok(());

@@ -33,7 +33,8 @@ fn disk_with(
     layout: Layout,
     cells: &[Held],
 ) -> Result<MemDisk, AllocError>
-    ensures { IfOk result (λ disk. HoldsRing false (⟦<MemDisk as Disk>⟧.image disk) name.now layout.archives) }
+    ensures { IfOk result
+        (λ disk. HoldsRing false (⟦<MemDisk as Disk>⟧.image disk) name.now layout.archives) }
 {
     let mut file = vec![in alloc; 0; layout.file_size() as usize]?;
     for (slot, bucket, value) in cells {
@@ -52,7 +53,8 @@ fn failing_disk_with(
     cells: &[Held],
     failing: u64,
 ) -> Result<MemDisk, AllocError>
-    ensures { IfOk result (λ disk. HoldsRing false (⟦<MemDisk as Disk>⟧.image disk) name.now layout.archives) }
+    ensures { IfOk result
+        (λ disk. HoldsRing false (⟦<MemDisk as Disk>⟧.image disk) name.now layout.archives) }
 {
     let listed = Vec::from_slice(alloc, &[failing])?;
     let disk = disk_with(alloc, name, layout, cells)?;

@@ -40,7 +40,9 @@ impl<'a> RingView<'a> {
         requires layout { patch.now.layout ≡ self.now.layout }
         requires archive { archive < length self.now.layout.archives }
         requires file { IsThere self.now patch.now.fresh (D.image disk.old) }
-        ensures value { IfOk result (λ base. OnRing self.now patch.now.fresh (D.image disk.old) (λ file. base ≡ base_of patch.now file archive)) }
+        ensures value { IfOk result
+            (λ base. OnRing self.now patch.now.fresh (D.image disk.old)
+            (λ file. base ≡ base_of patch.now file archive)) }
         ensures frame { ReadsOnly D.Disk disk.old disk.new (IsErr result) }
     {
         let _ = self.layout.archive(archive);
@@ -61,7 +63,9 @@ impl<'a> RingView<'a> {
         requires layout { patch.now.layout ≡ self.now.layout }
         requires archive { archive < length self.now.layout.archives }
         requires file { IsThere self.now patch.now.fresh (D.image disk.old) }
-        ensures value { IfOk result (λ value. OnRing self.now patch.now.fresh (D.image disk.old) (λ file. value ≡ value_of patch.now file archive bucket)) }
+        ensures value { IfOk result
+            (λ value. OnRing self.now patch.now.fresh (D.image disk.old)
+            (λ file. value ≡ value_of patch.now file archive bucket)) }
         ensures frame { ReadsOnly D.Disk disk.old disk.new (IsErr result) }
     {
         let ring = self.layout.archive(archive);
@@ -92,7 +96,9 @@ impl<'a> RingView<'a> {
         requires layout { patch.now.layout ≡ self.now.layout }
         requires place { IsPlace self.now.layout (archive, slot) }
         requires file { IsThere self.now patch.now.fresh (D.image disk.old) }
-        ensures value { IfOk result (λ cell. OnRing self.now patch.now.fresh (D.image disk.old) (λ file. cell ≡ ring_cell patch.now file (archive, slot))) }
+        ensures value { IfOk result
+            (λ cell. OnRing self.now patch.now.fresh (D.image disk.old)
+            (λ file. cell ≡ ring_cell patch.now file (archive, slot))) }
         ensures frame { ReadsOnly D.Disk disk.old disk.new (IsErr result) }
     {
         if let Some(cell) = patch.cell(archive, slot) {
@@ -114,7 +120,9 @@ impl<'a> RingView<'a> {
     ) -> Result<(u32, Milli), DiskFailed>
         requires place { IsPlace self.now.layout (archive, slot) }
         requires file { IsThere self.now false (D.image disk.old) }
-        ensures value { IfOk result (λ cell. OnFile (D.image disk.old) self.now.name.now (λ file. cell ≡ stored_cell self.now.layout.archives file (archive, slot))) }
+        ensures value { IfOk result
+            (λ cell. OnFile (D.image disk.old) self.now.name.now
+            (λ file. cell ≡ stored_cell self.now.layout.archives file (archive, slot))) }
         ensures frame { ReadsOnly D.Disk disk.old disk.new (IsErr result) }
     {
         let at = u64::from(self.layout.offset(archive)) + CELL_BYTES as u64 * u64::from(slot);

@@ -14,7 +14,8 @@ pub(crate) fn between(points: &[(u32, Milli)], first: u32, end: u32) -> &[(u32, 
     requires order { first ≤ end }
     ensures rising { IsRising result.now }
     ensures from { All (λ p. first ≤ p.0) result.now }
-    ensures same { (step bucket : ℕ) → 0 < step → first ≤ bucket → bucket + step ≤ end → values_in step result.now bucket ≡ values_in step points.now bucket }
+    ensures same { (step bucket : ℕ) → 0 < step → first ≤ bucket → bucket + step ≤ end
+        → values_in step result.now bucket ≡ values_in step points.now bucket }
 {
     let from = count_before(points, first);
     let until = count_before(points, end);

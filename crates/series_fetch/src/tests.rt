@@ -127,7 +127,8 @@ fn disk_with(
     cells: &[Held],
 ) -> Result<MemDisk, AllocError>
     requires { file_size_of layout.archives ≤ 304 }
-    ensures { IfOk result (λ disk. HoldsRing false (⟦<MemDisk as Disk>⟧.image disk) name.now layout.archives) }
+    ensures { IfOk result
+        (λ disk. HoldsRing false (⟦<MemDisk as Disk>⟧.image disk) name.now layout.archives) }
 {
     let mut file = [0; 304];
     for (at, bucket, value) in cells {

@@ -18,7 +18,8 @@ pub fn text_of(alloc: Global, expr: &Expr) -> Result<String, AllocError>
 
 #[cycle(print)]
 fn push_text(out: &mut String, expr: &Expr) -> Result<(), AllocError>
-    ensures { OnOk result (string_bytes out.new ≡ string_bytes out.old ++ text_of (tree_of expr.now)) }
+    ensures { OnOk result
+        (string_bytes out.new ≡ string_bytes out.old ++ text_of (tree_of expr.now)) }
 {
     match expr {
         Expr::Call(name, arguments) => {

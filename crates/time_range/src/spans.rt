@@ -24,7 +24,8 @@ pub(crate) fn seconds_of(text: &[u8]) -> Option<u128>
 
 // The seconds of the spans of a text.
 fn total_of(text: &[u8]) -> Option<u128>
-    ensures { result ≡ option_map (λ seconds. min seconds (2 ^ 100)) (total_of (spans_of text.now)) }
+    ensures { result ≡ option_map
+        (λ seconds. min seconds (2 ^ 100)) (total_of (spans_of text.now)) }
 {
     let mut total = 0;
     let mut rest = text;

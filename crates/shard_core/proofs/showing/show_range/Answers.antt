@@ -16,7 +16,7 @@ returns-in-Ok-clause-shows g c =
     let end = c.args.range.2 in
     let named : c.new-view.result.name.now ≡ file_name_of c.args.path.now = grind (arith, c.new-view.ensures.name, c.deref.ensures, c.in_ok-name.ensures) in
     let by_name = subst (λ (name : List ℕ). UnderPatch c.new-patch.result.fresh (g.D.Disk.image c.args.disk.now) name (λ file. (rings : Rings) → ReadsAs c.new-patch.result file rings → c.in-Ok.values.items ≡ shown c.new-view.result.layout rings c.args.points.now (Range i first end)))
-    named c.in-Ok.ensures.shown in
+    named c.in-Ok.ensures.fetches.told in
     let by_layout = subst (λ (layout : LayoutValue). UnderPatch c.new-patch.result.fresh (g.D.Disk.image c.args.disk.now) (file_name_of c.args.path.now) (λ file. (rings : Rings) → ReadsAs c.new-patch.result file rings → c.in-Ok.values.items ≡ shown layout rings c.args.points.now (Range i first end)))
     c.new-view.ensures.layout by_name in
     let by_patch = subst (λ (patch : PatchValue). UnderPatch patch.fresh (g.D.Disk.image c.args.disk.now) (file_name_of c.args.path.now) (λ file. (rings : Rings) → ReadsAs patch file rings → c.in-Ok.values.items ≡ shown c.args.layout rings c.args.points.now (Range i first end)))
