@@ -29,7 +29,7 @@ pub ranks : (order : Metric → Metric → Ordering) → IsTotalOrder order → 
 ranks order o = ranks_by o (λ (m : Metric). m)
 
 -- none goes before the first
-first_is : (order : Metric → Metric → Ordering) → IsTotalOrder order → (metrics : Metrics) (path : List ℕ)
+pub first_is : (order : Metric → Metric → Ordering) → IsTotalOrder order → (metrics : Metrics) (path : List ℕ)
     → option_map (λ (m : Metric). m.0) (first_by order metrics) ≡ Some path → IsFirst order metrics path
 first_is order o [] path h = absurd (none_is_some h)
 first_is order o (x ∷ xs) path h =

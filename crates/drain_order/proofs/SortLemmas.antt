@@ -53,7 +53,7 @@ module _ {X : Type 0} (R : X → X → Ordering) (o : IsTotalOrder R) where
       by Equal e count more = ap is_lt (o.congr z x y e) ∙ none.0
       by Greater e count more = more (omega (arith, some, count))
 
-  not_before_both : (x y : X) → is_lt (R x y) ≡ false → is_lt (R y x) ≡ false → R x y ≡ Equal
+  pub not_before_both : (x y : X) → is_lt (R x y) ≡ false → is_lt (R y x) ≡ false → R x y ≡ Equal
   not_before_both x y a b = by (R x y) refl
     where
       by : (r : Ordering) → R x y ≡ r → R x y ≡ Equal

@@ -12,4 +12,6 @@ pub use picker::Picker;
 pub use strategy::Strategy;
 
 #[cfg(test)]
+mod slow_model;
+#[cfg(test)]
 mod tests;

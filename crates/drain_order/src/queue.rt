@@ -1,9 +1,11 @@
-ghost use Rattle.std.specs.Prelude.{◌≡◌, ◌≢◌, ◌<◌, [], IfOk, IsTrue, ◌↔◌, Some, drop, length, map, option_map, slice_get};
+ghost use Rattle.std.specs.Prelude.{◌≡◌, ◌≢◌, ◌<◌, [], IfOk, IsTrue, ◌↔◌, Some, drop, length, map, slice_get};
 ghost use Rattle.std.specs.List.{IsDistinct};
+ghost use Rattle.std.specs.List.Sorted.{IsPermutation};
 ghost use Rattle.std.specs.Str.{bytes_eq};
 ghost use Rattle.point_cache.specs.Pending.{paths_of};
 ghost use Rattle.drain_order.specs.Pick.{queue_now};
 ghost use Rattle.drain_order.specs.Queue.{waiting_of, waiting_paths};
+ghost use Rattle.drain_order.specs.Rank.{by_place, metric_at};
 
 use crate::waiting::Waiting;
 use metric_path::MetricPath;
@@ -49,6 +51,14 @@ impl Queue {
         Ok(Queue { waiting, next: 0 })
     }
 
+    /// A queue of all metrics with pending points, in order of arrival.
+    pub(crate) fn make_arrived(alloc: Global, cache: &PointCache) -> Result<Queue, AllocError>
+        ensures { IfOk result (λ queue. queue ≡ paths_of cache.now.metrics) }
+    {
+        let waiting = arrived(alloc, cache)?;
+        Ok(Queue { waiting, next: 0 })
+    }
+
     /// Whether no path is left.
     pub(crate) fn is_empty(&self) -> bool
         ensures { IsTrue result ↔ (self.now ≡ []) }
@@ -82,14 +92,15 @@ fn sorted(alloc: Global, cache: &PointCache) -> Result<Vec<Waiting>, AllocError>
     ensures paths { IfOk result (λ all. waiting_paths all.items ≡ queue_now [] cache.now.metrics) }
     ensures once { IsDistinct bytes_eq (paths_of cache.now.metrics) }
 {
-    let mut all = arrived(alloc, cache)?;
+    let mut all = placed(alloc, cache)?;
     all.sort_unstable();
     Ok(all)
 }
 
-/// All metrics with pending points, in order of arrival.
-fn arrived(alloc: Global, cache: &PointCache) -> Result<Vec<Waiting>, AllocError>
-    ensures all { IfOk result (λ all. all.items ≡ map waiting_of cache.now.metrics) }
+/// All metrics with pending points, by place.
+fn placed(alloc: Global, cache: &PointCache) -> Result<Vec<Waiting>, AllocError>
+    ensures all { IfOk result (λ all. all.items ≡ map waiting_of (by_place cache.now)) }
+    ensures placed { IsPermutation (paths_of cache.now.metrics) cache.now.places }
     ensures once { IsDistinct bytes_eq (paths_of cache.now.metrics) }
 {
     let count = cache.metrics();
@@ -101,10 +112,25 @@ fn arrived(alloc: Global, cache: &PointCache) -> Result<Vec<Waiting>, AllocError
     Ok(all)
 }
 
+/// All metrics with pending points, in order of arrival.
+fn arrived(alloc: Global, cache: &PointCache) -> Result<Vec<Waiting>, AllocError>
+    ensures { IfOk result (λ all. waiting_paths all.items ≡ paths_of cache.now.metrics) }
+{
+    let order = cache.in_arrival_order(alloc)?;
+    let count = order.len();
+    let mut all = Vec::with_capacity(alloc, count)?;
+    for index in 0..count {
+        let waiting = waiting_at(cache, order.place(index))?;
+        all.push(waiting)?;
+    }
+    Ok(all)
+}
+
 /// The metric at a place.
 fn waiting_at(cache: &PointCache, place: usize) -> Result<Waiting, AllocError>
-    requires { place < length cache.now.metrics }
-    ensures { IfOk result (λ waiting. option_map waiting_of (slice_get cache.now.metrics place) ≡ Some waiting) }
+    requires { place < length cache.now.places }
+    ensures path { IfOk result (λ waiting. slice_get cache.now.places place ≡ Some waiting.path) }
+    ensures metric { IfOk result (λ waiting. waiting ≡ waiting_of (metric_at cache.now place)) }
 {
     let path = cache.path(place).copy()?;
     Ok(Waiting {

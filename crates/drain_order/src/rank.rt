@@ -1,6 +1,7 @@
 ghost use Rattle.std.specs.Prelude.{◌≡◌, ◌<◌, length};
 ghost use Rattle.drain_order.specs.Pick.{by_age, by_count, oldest};
-ghost use Rattle.drain_order.specs.Rank.{IsPlaceOfFirst, metric_at, order_of};
+ghost use Rattle.drain_order.specs.Picking.{TellsPick};
+ghost use Rattle.drain_order.specs.Rank.{first_path, metric_at, order_of};
 
 use metric_path::MetricPath;
 use point_cache::PointCache;
@@ -17,7 +18,7 @@ pub(crate) enum Rank {
 
 /// The place of the first metric by rank, in one walk over all.
 pub(crate) fn first_by(rank: Rank, cache: &PointCache) -> Option<usize>
-    ensures { IsPlaceOfFirst (order_of rank) cache.now.metrics result }
+    ensures { TellsPick cache.now result (first_path rank cache.now.metrics) }
 {
     let count = cache.metrics();
     if count == 0 {
@@ -34,9 +35,9 @@ pub(crate) fn first_by(rank: Rank, cache: &PointCache) -> Option<usize>
 
 /// Which of two metrics comes first by rank.
 fn compare(rank: Rank, cache: &PointCache, a: usize, b: usize) -> Ordering
-    requires a { a < length cache.now.metrics }
-    requires b { b < length cache.now.metrics }
-    ensures { result ≡ order_of rank (metric_at cache.now.metrics a) (metric_at cache.now.metrics b) }
+    requires a { a < length cache.now.places }
+    requires b { b < length cache.now.places }
+    ensures { result ≡ order_of rank (metric_at cache.now a) (metric_at cache.now b) }
 {
     match rank {
         Rank::Count => compare_counts(cache, a, b),
@@ -46,9 +47,9 @@ fn compare(rank: Rank, cache: &PointCache, a: usize, b: usize) -> Ordering
 
 /// Which of two metrics has more points, or as many and the lesser path.
 fn compare_counts(cache: &PointCache, a: usize, b: usize) -> Ordering
-    requires a { a < length cache.now.metrics }
-    requires b { b < length cache.now.metrics }
-    ensures { result ≡ by_count (metric_at cache.now.metrics a) (metric_at cache.now.metrics b) }
+    requires a { a < length cache.now.places }
+    requires b { b < length cache.now.places }
+    ensures { result ≡ by_count (metric_at cache.now a) (metric_at cache.now b) }
 {
     let counts = count_at(cache, b).cmp(&count_at(cache, a));
     counts.then(path_at(cache, a).cmp(path_at(cache, b)))
@@ -56,9 +57,9 @@ fn compare_counts(cache: &PointCache, a: usize, b: usize) -> Ordering
 
 /// Which of two metrics has the older point, or one as old and the lesser path.
 fn compare_ages(cache: &PointCache, a: usize, b: usize) -> Ordering
-    requires a { a < length cache.now.metrics }
-    requires b { b < length cache.now.metrics }
-    ensures { result ≡ by_age (metric_at cache.now.metrics a) (metric_at cache.now.metrics b) }
+    requires a { a < length cache.now.places }
+    requires b { b < length cache.now.places }
+    ensures { result ≡ by_age (metric_at cache.now a) (metric_at cache.now b) }
 {
     let ages = oldest_at(cache, a).cmp(&oldest_at(cache, b));
     ages.then(path_at(cache, a).cmp(path_at(cache, b)))
@@ -67,26 +68,24 @@ fn compare_ages(cache: &PointCache, a: usize, b: usize) -> Ordering
 /// The path of the metric at a place.
 #[tactic(auto, using(crate::proofs::MetricLemmas::path_at_place))]
 fn path_at(cache: &PointCache, place: usize) -> &MetricPath
-    requires { place < length cache.now.metrics }
-    ensures { result.now ≡ (metric_at cache.now.metrics place).0 }
+    requires { place < length cache.now.places }
+    ensures { result.now ≡ (metric_at cache.now place).0 }
 {
     cache.path(place)
 }
 
 /// How many points the metric at a place has.
-#[tactic(auto, using(crate::proofs::MetricLemmas::points_at_place))]
 fn count_at(cache: &PointCache, place: usize) -> usize
-    requires { place < length cache.now.metrics }
-    ensures { result ≡ length (metric_at cache.now.metrics place).1 }
+    requires { place < length cache.now.places }
+    ensures { result ≡ length (metric_at cache.now place).1 }
 {
     cache.points(place).len()
 }
 
 /// The time of the oldest point of the metric at a place.
-#[tactic(auto, using(crate::proofs::MetricLemmas::points_at_place, crate::proofs::MetricLemmas::oldest_at_front))]
 fn oldest_at(cache: &PointCache, place: usize) -> u32
-    requires { place < length cache.now.metrics }
-    ensures { result ≡ oldest (metric_at cache.now.metrics place).1 }
+    requires { place < length cache.now.places }
+    ensures { result ≡ oldest (metric_at cache.now place).1 }
 {
     cache.points(place)[0].0
 }

@@ -8,7 +8,7 @@ use Rattle.std.proofs.lemmas.List.Sorted.{IsPartitionedBy-ltb, IsNonDecreasingBy
 use Rattle.point_cache.specs.Points.{RisesAfter, IsRising, IsPlaceOf, IsPlaceFor, PutsAt, has_time, with_point}
 
 -- equal numbers as a test
-eqb-other : (a b : ℕ) → a ≢ b → (a == b) ≡ false
+pub eqb-other : (a b : ℕ) → a ≢ b → (a == b) ≡ false
 eqb-other a b ne = elim (eqb_tells a b) [ inl s ↦ absurd (ne s.1) | inr o ↦ o.0 ]
 
 eqb-same : (a b : ℕ) → a ≡ b → (a == b) ≡ true

@@ -1,10 +1,11 @@
 -- The pending points: metrics in the order in which each got its first pending point, each a path and its points, of which it has
 -- at least one. A cache holds them up to a limit.
-use Rattle.std.specs.Prelude.{◌≡◌, ℕ, ℤ, ◌+◌, ◌<◌, ◌≤◌, true, false, List, [], ◌∷◌, Option, length, position, slice_get, unwrap_or}
+use Rattle.std.specs.Prelude.{◌≡◌, ℕ, ℤ, ◌+◌, ◌<◌, ◌≤◌, true, false, List, [], ◌∷◌, Option, Some, length, map, position, slice_get, swap_remove, unwrap_or}
 use Rattle.std.specs.Str.{bytes_eq}
 use Rattle.std.specs.List.{sum_by}
-use Rattle.std.specs.Map.{keys_of, lookup, values_of}
+use Rattle.std.specs.Map.{keys_of, lookup, remove_entry}
 use Rattle.indexmap.specs.IndexMap.{insert_entry}
+use Rattle.indexmap.specs.IndexSet.{insert_key}
 use Rattle.point_cache.specs.Points.{has_time, with_point}
 use Rattle.point_cache.specs.declared.put.Put.{Put}
 use Rattle.point_cache.specs.declared.put.Put.TheVariants.{Stored, Replaced, Full, NoMemory}
@@ -13,10 +14,16 @@ use Rattle.point_cache.specs.declared.put.Put.TheVariants.{Stored, Replaced, Ful
 abbrev pub Metrics : Type 0
 Metrics = List (List ℕ × List (ℕ × ℤ))
 
--- how many points may be pending, and the metrics that have some
+-- the metrics, and which path stands at each place: a permutation of their paths
+pub record Placed : Type 0 where
+  pub metrics : Metrics
+  pub places : List (List ℕ)
+
+-- how many points may be pending, the metrics that have some, and which path stands at each place
 pub record Cache : Type 0 where
   pub limit : ℕ
   pub metrics : Metrics
+  pub places : List (List ℕ)
 
 -- the paths, in order of arrival
 abbrev pub paths_of : Metrics → List (List ℕ)
@@ -26,13 +33,17 @@ paths_of metrics = keys_of metrics
 abbrev pub place_of : Metrics → List ℕ → Option ℕ
 place_of metrics path = position (bytes_eq path) (paths_of metrics)
 
--- the points of the metric at a place
-abbrev pub points_at : Metrics → ℕ → Option (List (ℕ × ℤ))
-points_at metrics place = slice_get (values_of metrics) place
+-- these are all places, in the order in which their metrics arrived
+abbrev pub IsArrivalOrder : Metrics → List (List ℕ) → List ℕ → Type 0
+IsArrivalOrder metrics places order = map (slice_get places) order ≡ map Some (paths_of metrics)
 
 -- the pending points of a path, none where it is not there
 abbrev pub points_of : Metrics → List ℕ → List (ℕ × ℤ)
 points_of metrics path = unwrap_or (lookup (bytes_eq path) metrics) []
+
+-- these are the points of the metric at a place
+abbrev pub ArePointsAt : Cache → ℕ → List (ℕ × ℤ) → Type 0
+ArePointsAt cache place points = (path : List ℕ) → slice_get cache.places place ≡ Some path → points ≡ points_of cache.metrics path
 
 -- how many points are pending in all
 abbrev pub points_count : Metrics → ℕ
@@ -71,9 +82,15 @@ ReplacesPoint old new time value NoMemory = ⊥
 abbrev pub HasRoom : Cache → Type 0
 HasRoom cache = points_count cache.metrics < cache.limit
 
--- the cache after a point is stored or replaced
+-- the cache after a point is stored or replaced: a new path gets the last place
 abbrev pub after_put : Cache → List ℕ → ℕ → ℤ → Cache
-after_put cache path time value = record cache { metrics = with_put cache.metrics path time value }
+after_put cache path time value =
+    record cache { metrics = with_put cache.metrics path time value; places = insert_key bytes_eq cache.places path }
+
+-- the cache after the metric at a place is taken: the path at the last place moves there
+abbrev pub after_take : Cache → ℕ → List ℕ → Cache
+after_take cache place path =
+    record cache { metrics = remove_entry (bytes_eq path) cache.metrics; places = swap_remove cache.places place path }
 
 -- What a put of a point makes of a cache. A new point is stored where it has room, and is refused where the cache is full, which
 -- changes nothing. A time that is there gets the new value, full or not. Want of memory, which no replacement meets, changes nothing.
@@ -87,18 +104,23 @@ Puts old new path time value Full =
 Puts old new path time value NoMemory =
     (has_time (points_of old.metrics path) time ≡ false) × (HasRoom old × (new ≡ old))
 
+-- the metrics and their places after a point is stored or replaced
+abbrev pub placed_put : Placed → List ℕ → ℕ → ℤ → Placed
+placed_put placed path time value =
+    record { metrics = with_put placed.metrics path time value; places = insert_key bytes_eq placed.places path }
+
 -- what a put makes of the metrics, when one more point has room
-abbrev pub PutsMetric : Metrics → Metrics → List ℕ → ℕ → ℤ → Put → Type 0
-PutsMetric old new path time value Stored = (has_time (points_of old path) time ≡ false) × (new ≡ with_put old path time value)
-PutsMetric old new path time value Replaced = (has_time (points_of old path) time ≡ true) × (new ≡ with_put old path time value)
+abbrev pub PutsMetric : Placed → Placed → List ℕ → ℕ → ℤ → Put → Type 0
+PutsMetric old new path time value Stored = (has_time (points_of old.metrics path) time ≡ false) × (new ≡ placed_put old path time value)
+PutsMetric old new path time value Replaced = (has_time (points_of old.metrics path) time ≡ true) × (new ≡ placed_put old path time value)
 PutsMetric old new path time value Full = ⊥
-PutsMetric old new path time value NoMemory = (has_time (points_of old path) time ≡ false) × (new ≡ old)
+PutsMetric old new path time value NoMemory = (has_time (points_of old.metrics path) time ≡ false) × (new ≡ old)
 
 -- and when none has
-abbrev pub ReplacesMetric : Metrics → Metrics → List ℕ → ℕ → ℤ → Put → Type 0
+abbrev pub ReplacesMetric : Placed → Placed → List ℕ → ℕ → ℤ → Put → Type 0
 ReplacesMetric old new path time value Stored = ⊥
-ReplacesMetric old new path time value Replaced = (has_time (points_of old path) time ≡ true) × (new ≡ with_put old path time value)
-ReplacesMetric old new path time value Full = (has_time (points_of old path) time ≡ false) × (new ≡ old)
+ReplacesMetric old new path time value Replaced = (has_time (points_of old.metrics path) time ≡ true) × (new ≡ placed_put old path time value)
+ReplacesMetric old new path time value Full = (has_time (points_of old.metrics path) time ≡ false) × (new ≡ old)
 ReplacesMetric old new path time value NoMemory = ⊥
 
 -- the number of points grew by what was put, and still each metric has a point

@@ -1,22 +1,23 @@
-ghost use Rattle.std.specs.Prelude.{◌≡◌, ◌+◌, ◌<◌, ◌≤◌, [], None, Some, IfSome, length, position, remove, slice_get};
-ghost use Rattle.point_cache.specs.Points.{IsRising};
+ghost use Rattle.std.specs.Prelude.{◌≡◌, ◌<◌, ◌≤◌, [], IfOk, IfSome, Some, is_some, length, position, slice_get};
 ghost use Rattle.std.specs.List.{IsDistinct};
+ghost use Rattle.std.specs.List.Sorted.{IsPermutation};
 ghost use Rattle.std.specs.Str.{bytes_eq};
-ghost use Rattle.indexmap.specs.IndexMap.{get, keys};
-ghost use Rattle.point_cache.specs.Pending.{Cache, Counts, EachHasPoints, Puts, PutsMetric, ReplacesMetric, added, paths_of, place_of, points_at, points_count, points_of};
+ghost use Rattle.point_cache.specs.Points.{IsRising};
+ghost use Rattle.point_cache.specs.Pending.{ArePointsAt, EachHasPoints, IsArrivalOrder, Puts, added, after_take, paths_of, place_of, points_count, points_of};
 
+use crate::arrivals::Arrivals;
+use crate::metric_map::MetricMap;
 use crate::{Points, Put};
 use fixed_num::Milli;
-use indexmap::IndexMap;
 use metric_path::MetricPath;
-use std::alloc::Global;
+use std::alloc::{AllocError, Global};
 use std::marker::Model;
 
-/// The pending points of metrics, up to a limit, in the order in which each metric got its first pending point. A metric that is
-/// there has at least one.
+/// The pending points of metrics, up to a limit. A metric that is there has at least one. Each stands at a place, by which it is
+/// read and taken. A place is that of its metric until a metric is taken.
 #[derive(Drop)]
 pub struct PointCache {
-    metrics: IndexMap<MetricPath, Points>,
+    metrics: MetricMap,
     count: u64,
     limit: u64,
     alloc: Global,
@@ -28,19 +29,19 @@ impl Model for PointCache {
 
     ghost Value = { Cache };
 
-    ghost view = { λ c. record { limit = c.limit; metrics = c.metrics.entries } };
+    ghost view = { λ c. record { limit = c.limit; metrics = c.metrics.metrics; places = c.metrics.places } };
 
-    ghost invariant = { λ c. (c.count ≡ points_count c.metrics.entries) × ((c.count ≤ c.limit) × EachHasPoints c.metrics.entries) };
+    ghost invariant = { λ c. (c.count ≡ points_count c.metrics.metrics) × ((c.count ≤ c.limit) × EachHasPoints c.metrics.metrics) };
 }
 
 impl PointCache {
     /// Nothing pending, and room for this many points.
     pub fn new(alloc: Global, limit: u64) -> PointCache
         requires { 0 < limit }
-        ensures { result ≡ record { limit = limit; metrics = [] } }
+        ensures { result ≡ record { limit = limit; metrics = []; places = [] } }
     {
         PointCache {
-            metrics: IndexMap::new(alloc),
+            metrics: MetricMap::new(alloc),
             count: 0,
             limit,
             alloc,
@@ -52,9 +53,9 @@ impl PointCache {
         ensures { Puts self.old self.new path.now time value result }
     {
         if self.count == self.limit {
-            return put_replaced(&mut self.metrics, path, time, value);
+            return self.metrics.replace(path, time, value);
         }
-        let put = put_metric(&mut self.metrics, self.alloc, path, time, value);
+        let put = self.metrics.put(self.alloc, path, time, value);
         self.count += count_of(put);
         put
     }
@@ -67,45 +68,42 @@ impl PointCache {
         self.count
     }
 
-    /// How many metrics have pending points.
+    /// How many metrics have pending points, and so how many places there are: at each is one of them.
     pub fn metrics(&self) -> usize
         ensures metrics { result ≡ length self.now.metrics }
+        ensures places { result ≡ length self.now.places }
+        ensures placed { IsPermutation (paths_of self.now.metrics) self.now.places }
         ensures each { EachHasPoints self.now.metrics }
         ensures once { IsDistinct bytes_eq (paths_of self.now.metrics) }
     {
         self.metrics.len()
     }
 
-    /// The place of a metric in order of arrival, `None` where it has no pending points.
+    /// The place of a metric, `None` where it has no pending points.
     pub fn place_of(&self, path: &MetricPath) -> Option<usize>
-        ensures place { result ≡ place_of self.now.metrics path.now }
-        ensures within { IfSome result (λ place. place < length self.now.metrics) }
+        ensures place { result ≡ position (bytes_eq path.now) self.now.places }
+        ensures pending { is_some result ≡ is_some (place_of self.now.metrics path.now) }
+        ensures within { IfSome result (λ place. place < length self.now.places) }
     {
-        self.metrics.get_index_of(path)
+        self.metrics.place_of(path)
     }
 
     /// The path of the metric at a place.
     pub fn path(&self, place: usize) -> &MetricPath
-        requires { place < length self.now.metrics }
-        ensures { slice_get (paths_of self.now.metrics) place ≡ Some result.now }
+        requires { place < length self.now.places }
+        ensures { slice_get self.now.places place ≡ Some result.now }
     {
-        let Some((path, _)) = self.metrics.get_index(place) else {
-            unreachable!()
-        };
-        path
+        self.metrics.path(place)
     }
 
     /// The pending points of the metric at a place, in rising time.
     pub fn points(&self, place: usize) -> &[(u32, Milli)]
-        requires { place < length self.now.metrics }
-        ensures points { points_at self.now.metrics place ≡ Some result.now }
+        requires { place < length self.now.places }
+        ensures points { ArePointsAt self.now place result.now }
         ensures rising { IsRising result.now }
         ensures some { 0 < length result.now }
     {
-        let Some((_, points)) = self.metrics.get_index(place) else {
-            unreachable!()
-        };
-        points.list()
+        self.metrics.points(place).list()
     }
 
     /// The pending points of a metric in rising time: none where it has none.
@@ -113,23 +111,29 @@ impl PointCache {
         ensures points { result.now ≡ points_of self.now.metrics path.now }
         ensures rising { IsRising result.now }
     {
-        match self.metrics.get(path) {
+        match self.metrics.points_of(path) {
             Some(points) => points.list(),
             None => &[],
         }
     }
 
-    /// Takes the metric at a place, in order of arrival, with its points. The others keep their order, and those behind it move up, so the
-    /// work grows with their number.
+    /// All places, in the order in which their metrics got their first pending points. The work is that of sorting as many numbers.
+    pub fn in_arrival_order(&self, alloc: Global) -> Result<Arrivals, AllocError>
+        ensures { IfOk result (IsArrivalOrder self.now.metrics self.now.places) }
+    {
+        self.metrics.in_arrival_order(alloc)
+    }
+
+    /// Takes the metric at a place, with its points. The metric at the last place moves there, and the others stay, so the work does
+    /// not grow with their number.
     pub fn take(&mut self, place: usize) -> (MetricPath, Points)
-        requires { place < length self.old.metrics }
-        ensures metric { slice_get self.old.metrics place ≡ Some result }
-        ensures others { self.new ≡ record self.old { metrics = remove self.old.metrics place } }
+        requires { place < length self.old.places }
+        ensures path { slice_get self.old.places place ≡ Some result.0 }
+        ensures points { result.1 ≡ points_of self.old.metrics result.0 }
+        ensures others { self.new ≡ after_take self.old place result.0 }
         ensures some { 0 < length result.1 }
     {
-        let Some((path, points)) = self.metrics.shift_remove_index(place) else {
-            unreachable!()
-        };
+        let (path, points) = self.metrics.take(place);
         self.count -= points.len() as u64;
         (path, points)
     }
@@ -143,101 +147,4 @@ fn count_of(put: Put) -> u64
         Put::Stored => 1,
         _ => 0,
     }
-}
-
-/// Puts a point of a metric where one more has room.
-fn put_metric(
-    metrics: &mut IndexMap<MetricPath, Points>,
-    alloc: Global,
-    path: &MetricPath,
-    time: u32,
-    value: Milli,
-) -> Put
-    ensures put { PutsMetric metrics.old.entries metrics.new.entries path.now time value result }
-    ensures counts { Counts metrics.old.entries metrics.new.entries result }
-{
-    match metrics.get_index_of(path) {
-        Some(place) => put_next(metrics, path, place, time, value),
-        None => put_first(metrics, path, Points::new(alloc), time, value),
-    }
-}
-
-/// Puts one more point of the metric at a place.
-fn put_next(
-    metrics: &mut IndexMap<MetricPath, Points>,
-    path: &MetricPath,
-    place: usize,
-    time: u32,
-    value: Milli,
-) -> Put
-    requires { position (bytes_eq path.now) (keys metrics.old) ≡ Some place }
-    ensures put { PutsMetric metrics.old.entries metrics.new.entries path.now time value result }
-    ensures counts { Counts metrics.old.entries metrics.new.entries result }
-{
-    let _ = path;
-    let Some(points) = metrics.get_index_mut(place) else {
-        unreachable!()
-    };
-    points.put(time, value)
-}
-
-/// Puts the first pending point of a metric.
-fn put_first(
-    metrics: &mut IndexMap<MetricPath, Points>,
-    path: &MetricPath,
-    mut points: Points,
-    time: u32,
-    value: Milli,
-) -> Put
-    requires absent { get bytes_eq metrics.old path.now ≡ None }
-    requires empty { points ≡ [] }
-    ensures put { PutsMetric metrics.old.entries metrics.new.entries path.now time value result }
-    ensures counts { Counts metrics.old.entries metrics.new.entries result }
-{
-    let Ok(path) = path.copy() else {
-        return Put::NoMemory;
-    };
-    match points.put(time, value) {
-        Put::Stored => {}
-        _ => return Put::NoMemory,
-    }
-    match metrics.insert(path, points) {
-        Ok(_) => Put::Stored,
-        Err(_) => Put::NoMemory,
-    }
-}
-
-/// Puts a point of a metric where no new one has room.
-fn put_replaced(
-    metrics: &mut IndexMap<MetricPath, Points>,
-    path: &MetricPath,
-    time: u32,
-    value: Milli,
-) -> Put
-    ensures put { ReplacesMetric metrics.old.entries metrics.new.entries path.now time value result }
-    ensures counts { Counts metrics.old.entries metrics.new.entries result }
-{
-    match metrics.get_index_of(path) {
-        Some(place) => replace_at(metrics, path, place, time, value),
-        None => Put::Full,
-    }
-}
-
-/// Replaces a point of the metric at a place.
-fn replace_at(
-    metrics: &mut IndexMap<MetricPath, Points>,
-    path: &MetricPath,
-    place: usize,
-    time: u32,
-    value: Milli,
-) -> Put
-    requires { position (bytes_eq path.now) (keys metrics.old) ≡ Some place }
-    ensures put { ReplacesMetric metrics.old.entries metrics.new.entries path.now time value result }
-    ensures counts { Counts metrics.old.entries metrics.new.entries result }
-{
-    let _ = path;
-    let Some(points) = metrics.get_index_mut(place) else {
-        unreachable!()
-    };
-    points.replace(time, value)
 }

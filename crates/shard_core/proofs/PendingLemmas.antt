@@ -1,6 +1,6 @@
 -- Pending metrics stay those of their class.
-use Rattle.std.proofs.Common.{◌≡◌, ℕ, zero, suc, ℤ, Bool, true, false, List, [], ◌∷◌, All, Some, None, unwrap_or, if◌then◌else◌, remove}
-use Rattle.std.specs.Map.{lookup}
+use Rattle.std.proofs.Common.{◌≡◌, ◌<◌, arith, length, ℕ, ℤ, Bool, true, false, List, [], ◌∷◌, All, Some, None, unwrap_or, if◌then◌else◌}
+use Rattle.std.specs.Map.{lookup, remove_entry}
 use Rattle.std.specs.Str.{bytes_eq}
 use Rattle.std.proofs.lemmas.List.Elements.{All-nil, All-cons, All-head, All-tail, All-append, All-filter}
 use Rattle.indexmap.specs.IndexMap.{insert_entry}
@@ -61,9 +61,23 @@ of_class_after_put class old new path time value Full puts all legal here moment
 of_class_after_put class old new path time value NoMemory puts all legal here moment = rw puts.1.1 all
 
 -- the metrics without one
-pub of_class_without : (class : ℕ) (metrics : Metrics) (place : ℕ) → AreOfClass class metrics → AreOfClass class (remove metrics place)
-of_class_without class [] zero all = all
-of_class_without class [] (suc place) all = all
-of_class_without class (m ∷ ms) zero all = All-tail (IsMetric class) m ms all
-of_class_without class (m ∷ ms) (suc place) all =
-    All-cons (IsMetric class) m _ (All-head (IsMetric class) m ms all) (of_class_without class ms place (All-tail (IsMetric class) m ms all))
+without : (class : ℕ) (b : Bool) (m : List ℕ × List (ℕ × ℤ)) (ms rest : Metrics) → IsMetric class m → All (IsMetric class) ms → All (IsMetric class) rest → All (IsMetric class) (if b then ms else m ∷ rest)
+without class true m ms rest one all left = all
+without class false m ms rest one all left = All-cons (IsMetric class) m rest one left
+
+pub of_class_without : (class : ℕ) (metrics : Metrics) (path : List ℕ) → AreOfClass class metrics → AreOfClass class (remove_entry (bytes_eq path) metrics)
+of_class_without class [] path all = all
+of_class_without class (m ∷ ms) path all =
+    let others = All-tail (IsMetric class) m ms all in
+    without class (bytes_eq path m.0) m ms (remove_entry (bytes_eq path) ms) (All-head (IsMetric class) m ms all) others (of_class_without class ms path others)
+
+-- a metric with points that is taken leaves fewer
+pub fewer_without : (metrics : Metrics) (path : List ℕ) → 0 < length (points_of metrics path) → length (remove_entry (bytes_eq path) metrics) < length metrics
+fewer_without [] path some = absurd (omega (arith, some))
+fewer_without (m ∷ ms) path some = by (bytes_eq path m.0) some (λ there. fewer_without ms path there)
+  where
+    by : (b : Bool) → 0 < length (unwrap_or (if b then Some m.1 else lookup (bytes_eq path) ms) [])
+        → (0 < length (points_of ms path) → length (remove_entry (bytes_eq path) ms) < length ms)
+        → length (if b then ms else m ∷ remove_entry (bytes_eq path) ms) < length (m ∷ ms)
+    by true here less = omega arith
+    by false there less = let fewer = less there in omega (arith, fewer)

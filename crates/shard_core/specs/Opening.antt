@@ -18,8 +18,8 @@ use Rattle.shard_core.specs.declared.shard.Shard.{Shard}
 pub record StartedFrom {D : Type 0} {d : Ghosts D} (class : ℕ) (settings : Settings) (disk : D) (shard : Shard D d) : Type 0 where
   pub here : shard.class ≡ class
   pub given : (path : List ℕ) → layout_by shard.given path ≡ settings.rules path
-  pub empty : shard.cache ≡ record { limit = settings.limit; metrics = [] }
-  pub waiting : shard.picker ≡ record { strategy = settings.strategy; queue = []; settled = None }
+  pub empty : shard.cache ≡ record { limit = settings.limit; metrics = []; places = [] }
+  pub waiting : shard.picker ≡ record { strategy = settings.strategy; queue = []; arrived = []; settled = None }
   pub same : d.image shard.disk ≡ d.image disk
   pub opens : Opens class (d.image disk) shard.layouts
   pub later : d.faults disk ≤ d.faults shard.disk

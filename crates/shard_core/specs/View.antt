@@ -2,6 +2,7 @@
 use Rattle.std.specs.Prelude.{◌≡◌, ℕ, List, Option}
 use Rattle.outside_io.specs.Image.{Image}
 use Rattle.outside_io.specs.declared.disk.Disk.{Ghosts}
+use Rattle.metric_path.specs.Class.{class_of}
 use Rattle.carbon_model.specs.State.{State}
 use Rattle.point_cache.specs.Pending.{points_of}
 use Rattle.schema_rules.specs.LayoutBy.{layout_by}
@@ -40,7 +41,7 @@ pub record OnlyCache {D : Type 0} {d : Ghosts D} (old new : Shard D d) : Type 0 
   pub layouts : new.layouts ≡ old.layouts
   pub disk : new.disk ≡ old.disk
 
--- the points of a path went into its ring file
-abbrev pub FilesPath : {D : Type 0} {d : Ghosts D} → Shard D d → Shard D d → List ℕ → ℕ → Type 0
-FilesPath {D} {d} old new path now =
-    DrainsKept old.class old.layouts (d.image old.disk) path (layout_by old.given path) now (points_of old.cache.metrics path) new.layouts (d.image new.disk)
+-- the points of a path of the class went into its ring file
+pub record FilesPath {D : Type 0} {d : Ghosts D} (old new : Shard D d) (path : List ℕ) (now : ℕ) : Type 0 where
+  pub here : class_of path ≡ old.class
+  pub files : DrainsKept old.class old.layouts (d.image old.disk) path (layout_by old.given path) now (points_of old.cache.metrics path) new.layouts (d.image new.disk)

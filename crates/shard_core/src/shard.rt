@@ -1,7 +1,7 @@
 //! The shard of a class.
 ghost use Rattle.std.specs.Prelude.{◌≡◌};
 ghost use Rattle.std.proofs.Props.{props};
-ghost use Rattle.drain_order.specs.Pick.{AllPending};
+ghost use Rattle.drain_order.specs.Picking.{Follows};
 ghost use Rattle.shard_core.specs.Shard.{AreOfClass, HasFiles};
 
 use crate::draining::{drain_file, file_anew};
@@ -32,7 +32,7 @@ pub struct Shard<D: Disk> {
     given: GivenLayouts,
     alloc: Global,
     ghost metrics: { AreOfClass class cache.metrics } by { Prim.hlevel props },
-    ghost waiting: { AllPending picker.queue cache.metrics } by { Prim.hlevel props },
+    ghost waiting: { Follows picker cache.metrics } by { Prim.hlevel props },
     ghost files: { HasFiles class layouts (D.image disk) } by { Prim.hlevel props },
 }
 
@@ -40,7 +40,7 @@ impl<D: Disk> Shard<D> {
     ghost use Rattle.std.specs.Prelude.{◌≡◌, ◌<◌, ◌≤◌, ℕ, List, None, Some, [], length, slice_get, IfOk, IfErr, IfSome, IsErrOf, OnErr, OnOk};
     ghost use Rattle.outside_io.specs.Frames.{CountsFaults, ReadsOnly};
     ghost use Rattle.metric_path.specs.Class.{class_of};
-    ghost use Rattle.point_cache.specs.Pending.{Puts, paths_of};
+    ghost use Rattle.point_cache.specs.Pending.{Puts};
     ghost use Rattle.carbon_model.specs.Series.{EndsInTime};
     ghost use Rattle.shard_core.specs.Shard.{Drains, Shows};
     ghost use Rattle.schema_rules.specs.LayoutBy.{layout_by};
@@ -112,7 +112,6 @@ impl<D: Disk> Shard<D> {
             Some(place) => place,
             None => return Ok(None),
         };
-        let _ = self.cache.metrics();
         self.file(place, now)?;
         let (path, _points) = self.cache.take(place);
         self.picker.settle();
@@ -122,13 +121,14 @@ impl<D: Disk> Shard<D> {
 
     // Puts the points of the metric at a place into its ring file. They stay pending.
     fn file(&mut self, place: usize, now: u32) -> Result<(), RingFault>
-        requires { place < length self.old.cache.metrics }
-        ensures files { OnOk result ((path : List ℕ) → slice_get (paths_of self.old.cache.metrics) place ≡ Some path → FilesPath self.old self.new path now) }
+        requires { place < length self.old.cache.places }
+        ensures files { OnOk result ((path : List ℕ) → slice_get self.old.cache.places place ≡ Some path → FilesPath self.old self.new path now) }
         ensures pending { (self.new.cache ≡ self.old.cache) × (self.new.picker ≡ self.old.picker) }
         ensures memory { IsErrOf result RingFault.NoMemory → Stays self.old self.new }
         ensures same { SameShard self.old self.new }
         ensures frame { CountsFaults D.Disk self.old.disk self.new.disk (IsErrOf result RingFault.DiskFault) }
     {
+        // At each place stands a metric with pending points.
         let _ = self.cache.metrics();
         let path = self.cache.path(place);
         let points = self.cache.points(place);

@@ -1,7 +1,7 @@
 use Rattle.std.proofs.Common.{◌≡◌, ℕ, List, None, subst, FitsSigned, w64}
 use Rattle.std.proofs.lemmas.Int.{to_z-of_z}
 use Rattle.metric_path.specs.Path.{path_fault}
-use Rattle.drain_order.proofs.StayLemmas.{puts_keep_pending}
+use Rattle.drain_order.proofs.StayLemmas.{puts_keep_follows}
 use Rattle.shard_core.proofs.PendingLemmas.{of_class_after_put}
 use Rattle.shard_core.proofs.shard.Shard.put.Goals as goal
 
@@ -11,7 +11,7 @@ invariant_of-self g c =
     let put = simp to_z-of_z at c.put-put.ensures in
     let legal = subst (λ (text : List ℕ). path_fault text ≡ None) c.text.ensures.value c.text.ensures.legal in record {
       metrics = of_class_after_put c.args.self.now.class c.args.self.now.cache c.put-put.new.self c.args.datum.now.path c.args.datum.now.time c.args.datum.now.value c.put-put.result put c.args.self.now.metrics legal c.requires c.args.datum.now.legal;
-      waiting = puts_keep_pending c.args.self.now.picker.queue c.args.self.now.cache c.put-put.new.self c.args.datum.now.path c.args.datum.now.time c.args.datum.now.value c.put-put.result put c.args.self.now.waiting;
+      waiting = puts_keep_follows c.args.self.now.picker c.args.self.now.cache c.put-put.new.self c.args.datum.now.path c.args.datum.now.time c.args.datum.now.value c.put-put.result put c.args.self.now.waiting;
       files = c.args.self.now.files;
     }
 
@@ -21,6 +21,6 @@ invariant_of-self-else-metrics g c =
     let put = simp to_z-of_z at c.put-put.ensures in
     let legal = subst (λ (text : List ℕ). path_fault text ≡ None) c.text.ensures.value c.text.ensures.legal in record {
       metrics = of_class_after_put c.args.self.now.class c.args.self.now.cache c.put-put.new.self c.args.datum.now.path c.args.datum.now.time c.args.datum.now.value c.put-put.result put c.args.self.now.metrics legal c.requires c.args.datum.now.legal;
-      waiting = puts_keep_pending c.args.self.now.picker.queue c.args.self.now.cache c.put-put.new.self c.args.datum.now.path c.args.datum.now.time c.args.datum.now.value c.put-put.result put c.args.self.now.waiting;
+      waiting = puts_keep_follows c.args.self.now.picker c.args.self.now.cache c.put-put.new.self c.args.datum.now.path c.args.datum.now.time c.args.datum.now.value c.put-put.result put c.args.self.now.waiting;
       files = c.args.self.now.files;
     }
