@@ -1,2 +1,3 @@
 pub mod ConfLemmas
+pub mod FrontLemmas
 pub mod RunLemmas

@@ -1,5 +1,5 @@
 -- From shards to disks, and from the end of a script to the end of a run.
-use Rattle.std.proofs.Common.{◌≡◌, ◌⊎◌, inl, inr, ◌∙◌, ℕ, zero, suc, ◌+◌, ◌<◌, ◌≤◌, List, [], ◌∷◌, ◌++◌, length, map, Option, Some, None, IfSome, option_map, append_assoc, refl, sym, ap, subst, arith}
+use Rattle.std.proofs.Common.{◌≡◌, ◌⊎◌, inl, inr, ◌∙◌, ℕ, zero, suc, ◌+◌, ◌<◌, ◌≤◌, List, [], ◌∷◌, ◌++◌, length, map, Option, Some, None, IfSome, option_map, append-nil, take, refl, sym, ap, subst, arith}
 use Rattle.std.specs.Prelude.{slice_get}
 use Rattle.std.specs.Option.{option_map_or}
 use Rattle.std.specs.Io.KnownBytes.{Appends}
@@ -12,19 +12,19 @@ use Rattle.carbon_model.specs.State.{State}
 use Rattle.carbon_model.specs.RingFiles.{Settings, Stands}
 use Rattle.carbon_model.specs.Replay.{IsLegalHistory, replay}
 use Rattle.shard_core.specs.Opening.{StartsAll}
-use Rattle.shard_core.specs.Shards.{AllTold, DisksStand, FailedAt, HoldsAll, disk_faults, faults_at, told_of}
+use Rattle.shard_core.specs.Shards.{DisksStand, FailedAt, HoldsAll, disk_faults, faults_at, told_of}
 use Rattle.shard_core.specs.View.{StandsFor}
 use Rattle.shard_core.specs.declared.shard.Shard.{Shard}
 use Rattle.shard_core.proofs.ShardsLemmas.{AreInOrder}
 use Rattle.carbon_script.specs.Command.{Command, DrainAll}
-use Rattle.carbon_script.specs.Script.{Does, FailsAt, Machine, RunsShort, ScriptRun, ServesUpTo, opening}
-use Rattle.carbon_script.specs.Sessions.{AppendsSome, CutShort, EndCause as SessionCause, Ends, EndsAs, Means, TakesInput}
+use Rattle.carbon_script.specs.Script.{Machine, ServesUpTo, opening, reply_at}
+use Rattle.carbon_script.specs.Sessions.{EndCause as SessionCause, Ends, EndsAs, Means, ServesAll as SessionServes, TakesInput}
 use Rattle.carbon_script.specs.declared.serve.ScriptEnd.{ScriptEnd}
 use Rattle.carbon_script.specs.declared.serve.ScriptEnd.TheVariants as end
 use Rattle.carbon_script.specs.declared.session.Session.{Session}
+use Rattle.carbon_script.proofs.ScriptLemmas.{appends_part}
 use Rattle.carbon_script.proofs.LegalLemmas.{Stays, does_stay, fails_stay, none_pending, opening_stays, runs_stay, short_stays}
-use Rattle.carbon_run.specs.Texts.{EndsWith}
-use Rattle.carbon_run.specs.Runs.{Answer, EndCause, EndFrom, Leads, Leaves, SameIfDone, Scripted, ShardsRun, Streams, Takes, TellsAlone, TellsEnd, TellsLast}
+use Rattle.carbon_run.specs.Runs.{Answer, EndCause, EndFrom, Leads, Leaves, Scripted, ServesAll, ShardsRun, Streams, Takes, TellsAlone, TellsBehind, TellsEnd}
 
 -- the disk at a place
 disk_at : {D : Type 0} {d : Ghosts D} (shards : List (Shard D d)) (k : ℕ) → slice_get (map (λ shard. shard.disk) shards) k ≡ option_map (λ shard. shard.disk) (slice_get shards k)
@@ -51,30 +51,31 @@ faults_of shards k = rw (disk_at shards k) (faults_in (slice_get shards k))
 
 -- ---- what is told
 
-last_told : (status : ℕ) (line : List ℕ) (answer : ℕ) (a b c : Option (List ℕ)) → AppendsSome a b → TellsLast status line answer b c → TellsLast status line answer a c
-last_told status line answer a b c some tells = record {
+-- a line alone stands behind what was written before
+told_behind : (status : ℕ) (line : List ℕ) (answer : ℕ) (a b c : Option (List ℕ)) (text : List ℕ) → Appends a b text → TellsAlone status line answer b c → TellsBehind text status line answer a c
+told_behind status line answer a b c text wrote tells = record {
   either = tells.either;
-  told = λ is. let at = tells.told is in (some.0 ++ at.0, subst (λ (t : List ℕ). Appends a c t) (sym (append_assoc some.0 at.0 line)) (Appends-more a b c some.0 (at.0 ++ line) some.1 at.1));
+  told = λ is. Appends-more a b c text line wrote (tells.told is);
+  short = λ is. appends_part a b c text line wrote (tells.short is);
 }
 
-pub end_told : (reason : ScriptEnd) (answer : ℕ) (a b c : Option (List ℕ)) → AppendsSome a b → TellsEnd reason answer b c → TellsEnd reason answer a c
-end_told end.Done answer a b c some tells = tells
-end_told end.ReadFault answer a b c some tells = last_told _ _ answer a b c some tells
-end_told end.WriteFault answer a b c some tells = tells
-end_told (end.DiskFault class) answer a b c some tells = last_told _ _ answer a b c some tells
-end_told end.InputLimit answer a b c some tells = last_told _ _ answer a b c some tells
-end_told end.NoMemory answer a b c some tells = last_told _ _ answer a b c some tells
+more_none : (a b c : Option (List ℕ)) (text : List ℕ) → Appends a b text → Appends b c [] → Appends a c text
+more_none a b c text first second = subst (λ (t : List ℕ). Appends a c t) (append-nil text) (Appends-more a b c text [] first second)
 
--- a line alone is the last
-pub alone_last : (status : ℕ) (line : List ℕ) (answer : ℕ) (before after : Option (List ℕ)) → TellsAlone status line answer before after → TellsLast status line answer before after
-alone_last status line answer before after tells = record { either = tells.either; told = λ is. ([], tells.told is) }
+end_told : (reason : ScriptEnd) (answer : ℕ) (a b c : Option (List ℕ)) (text : List ℕ) → Appends a b text → TellsEnd reason [] answer b c → TellsEnd reason text answer a c
+end_told end.Done answer a b c text wrote tells = (tells.0, more_none a b c text wrote tells.1)
+end_told end.ReadFault answer a b c text wrote tells = told_behind _ _ answer a b c text wrote tells
+end_told end.WriteFault answer a b c text wrote tells = (tells.0, more_none a b c text wrote tells.1)
+end_told (end.DiskFault class) answer a b c text wrote tells = told_behind _ _ answer a b c text wrote tells
+end_told end.InputLimit answer a b c text wrote tells = told_behind _ _ answer a b c text wrote tells
+end_told end.NoMemory answer a b c text wrote tells = told_behind _ _ answer a b c text wrote tells
 
 -- ---- the end of a script is that of its run
 
 -- what the session leaves, once its disks are handed back
-record Handed {D : Type 0} {d : Ghosts D} (session : Session D d) (answer : Answer D) : Type 0 where
-  history : answer.history ≡ session.store.history.entries
-  disks : (told : ℕ → Option Image) (s : State) → HoldsAll told session.store.shards.items.items s → DisksStand d.image told answer.disks s
+pub record Handed {D : Type 0} {d : Ghosts D} (session : Session D d) (answer : Answer D) : Type 0 where
+  pub history : answer.history ≡ session.store.history.entries
+  pub disks : (told : ℕ → Option Image) (s : State) → HoldsAll told session.store.shards.items.items s → DisksStand d.image told answer.disks s
 
 leaves : {D : Type 0} {d : Ghosts D} (told : ℕ → Option Image) (session : Session D d) (m : Machine) (answer : Answer D) → Handed session answer → Means told session m → Leaves d told m answer
 leaves told session m answer handed means = record {
@@ -82,56 +83,86 @@ leaves told session m answer handed means = record {
   disks = handed.disks told m.state means.store.shards;
 }
 
+all_leads : {D : Type 0} {d : Ghosts D} (reason : ScriptEnd) (told : ℕ → Option Image) (start : Machine) (bytes : List ℕ) (session : Session D d) (written : Option (List ℕ)) (streams : Streams) (answer : Answer D) → Handed session answer
+    → TellsEnd reason [] answer.status written streams.written' → SessionServes told start bytes streams.written session written → ServesAll d told reason start bytes streams answer
+all_leads reason told start bytes session written streams answer handed tells all =
+    (all.0, all.1, (all.2.0, (leaves told session all.0 answer handed all.2.1.0, end_told reason answer.status streams.written written streams.written' all.1 all.2.1.1 tells)))
+
 pub leads : {D : Type 0} {d : Ghosts D} (reason : ScriptEnd) (told : ℕ → Option Image) (start : State) (taken : List ℕ) (session : Session D d) (written : Option (List ℕ)) (streams : Streams) (answer : Answer D)
-    → answer.history ≡ session.store.history.entries → ((told : ℕ → Option Image) (s : State) → HoldsAll told session.store.shards.items.items s → DisksStand d.image told answer.disks s) → SameIfDone reason written streams.written'
-    → EndsAs reason told (opening start) taken streams.written session written → Leads d told reason (opening start) taken streams answer
-leads {d = d} end.Done told start taken session written streams answer history disks same ends =
-    let at = ends.2 in (
+    → Handed session answer → TellsEnd reason [] answer.status written streams.written'
+    → EndsAs reason told (opening start) taken streams.left' streams.written session written → Leads d told reason (opening start) taken streams answer
+leads end.Done told start taken session written streams answer handed tells ends =
+    let run = ends.2.0 in (
       ends.0,
       ends.1,
       (
-        at.0,
+        run,
         (
-          leaves told session ends.0 answer (record { history = history; disks = disks }) at.1.0,
+          leaves told session ends.0 answer handed ends.2.1.0,
           (
-            λ all. subst (λ (t : List ℕ). Appends streams.written streams.written' t) (at.1.1.same all) (subst (λ (w : Option (List ℕ)). Appends streams.written w at.1.1.text) (sym same) at.1.1.wrote),
-            λ k few. none_pending at.0.0 ends.0 at.0.2 at.0.3.1.0 k few,
+            end_told end.Done answer.status streams.written written streams.written' ends.1 ends.2.1.1 tells,
+            λ k few. none_pending told run.0 ends.0 run.2 run.3.1.0 k few,
           ),
         ),
       ),
     )
-leads end.ReadFault told start taken session written streams answer history disks same ends = (ends.0, ends.1, (ends.2.0, leaves told session ends.0 answer (record { history = history; disks = disks }) ends.2.1))
-leads end.InputLimit told start taken session written streams answer history disks same ends = (ends.0, ends.1, (ends.2.0, leaves told session ends.0 answer (record { history = history; disks = disks }) ends.2.1))
-leads end.WriteFault told start taken session written streams answer history disks same ends =
-    let cut = ends.2.1 in
-    (ends.0, ends.1, cut.0, cut.1, (ends.2.0, (cut.2.0, leaves told session cut.0 answer (record { history = history; disks = disks }) cut.2.1)))
-leads (end.DiskFault class) told start taken session written streams answer history disks same ends =
-    let cut = ends.2.1 in
-    (ends.0, ends.1, cut.0, (ends.2.0, (cut.1.0, history ∙ cut.1.1)))
-leads end.NoMemory told start taken session written streams answer history disks same ends =
-    let cut = ends.2.1 in
-    (ends.0, ends.1, cut.0, (ends.2.0, (cut.1.0, leaves told session cut.0 answer (record { history = history; disks = disks }) cut.1.1)))
+leads end.ReadFault told start taken session written streams answer handed tells ends = all_leads end.ReadFault told (opening start) taken session written streams answer handed tells ends
+leads end.InputLimit told start taken session written streams answer handed tells ends = all_leads end.InputLimit told (opening start) taken session written streams answer handed tells ends
+leads end.WriteFault told start taken session written streams answer handed tells ends =
+    let part = ends.5.1.1 in
+    let text = reply_at ends.4.others ends.2 ends.3 in (
+      ends.0,
+      ends.1,
+      ends.2,
+      ends.3,
+      ends.4,
+      (
+        ends.5.0,
+        (
+          leaves told session ends.2 answer handed ends.5.1.0,
+          (tells.0, (part.0, part.1, more_none streams.written written streams.written' (ends.4.said ++ take part.0 text) part.2 tells.1)),
+        ),
+      ),
+    )
+leads (end.DiskFault class) told start taken session written streams answer handed tells ends =
+    let cut = ends.4 in
+    (ends.0, ends.1, ends.2, ends.3, (cut.0, (handed.history ∙ cut.1.0, end_told (end.DiskFault class) answer.status streams.written written streams.written' ends.3.said cut.1.1 tells)))
+leads end.NoMemory told start taken session written streams answer handed tells (inl ends) =
+    inl (ends.0, (ends.1.0, all_leads end.NoMemory told (opening start) ends.0 session written streams answer handed tells ends.1.1))
+leads end.NoMemory told start taken session written streams answer handed tells (inr ends) =
+    let cut = ends.4 in
+    inr (
+      ends.0,
+      ends.1,
+      ends.2,
+      ends.3,
+      (cut.0, (leaves told session ends.2 answer handed cut.1.0, end_told end.NoMemory answer.status streams.written written streams.written' ends.3.said cut.1.1 tells)),
+    )
 
 -- ---- the history is legal
 
 legal_at : (start : State) (m : Machine) (history : List Entry) → history ≡ m.entries → Stays start m → IsLegalHistory start history
 legal_at start m history same stays = subst (λ (es : List Entry). IsLegalHistory start es) (sym same) stays.legal
 
-serves_stay : (start : State) (taken : List ℕ) (last : Machine) (command : Command) → ServesUpTo (opening start) taken last command → Stays start last
-serves_stay start taken last command serves = runs_stay start (opening start) serves.handed last serves.said serves.runs (opening_stays start)
+serves_stay : (told : ℕ → Option Image) (start : State) (taken : List ℕ) (left : Option (List ℕ)) (last : Machine) (command : Command) → ServesUpTo told (opening start) taken left last command → Stays start last
+serves_stay told start taken left last command serves = runs_stay told start (opening start) serves.handed last serves.said serves.runs (opening_stays start)
+
+all_legally : {D : Type 0} (d : Ghosts D) (reason : ScriptEnd) (told : ℕ → Option Image) (start : State) (bytes : List ℕ) (streams : Streams) (answer : Answer D) → ServesAll d told reason (opening start) bytes streams answer → IsLegalHistory start answer.history
+all_legally d reason told start bytes streams answer all = legal_at start all.0 answer.history all.2.1.0.history (runs_stay told start (opening start) _ all.0 all.1 all.2.0 (opening_stays start))
 
 pub leads_legally : {D : Type 0} (d : Ghosts D) (reason : ScriptEnd) (told : ℕ → Option Image) (start : State) (taken : List ℕ) (streams : Streams) (answer : Answer D) → Leads d told reason (opening start) taken streams answer → IsLegalHistory start answer.history
 leads_legally d end.Done told start taken streams answer leads =
     let run = leads.2.0 in
-    legal_at start leads.0 answer.history leads.2.1.0.history (does_stay start run.0 DrainAll leads.0 run.2 run.3.1.0 (runs_stay start (opening start) _ run.0 run.1 run.3.0 (opening_stays start)))
-leads_legally d end.ReadFault told start taken streams answer leads = legal_at start leads.0 answer.history leads.2.1.history (runs_stay start (opening start) _ leads.0 leads.1 leads.2.0 (opening_stays start))
-leads_legally d end.InputLimit told start taken streams answer leads = legal_at start leads.0 answer.history leads.2.1.history (runs_stay start (opening start) _ leads.0 leads.1 leads.2.0 (opening_stays start))
+    legal_at start leads.0 answer.history leads.2.1.0.history (does_stay told start run.0 DrainAll leads.0 run.2 run.3.1.0 (runs_stay told start (opening start) _ run.0 run.1 run.3.0 (opening_stays start)))
+leads_legally d end.ReadFault told start taken streams answer leads = all_legally d end.ReadFault told start taken streams answer leads
+leads_legally d end.InputLimit told start taken streams answer leads = all_legally d end.InputLimit told start taken streams answer leads
 leads_legally d end.WriteFault told start taken streams answer leads =
-    legal_at start leads.2 answer.history leads.4.1.1.history (does_stay start leads.0 leads.1 leads.2 leads.3 leads.4.1.0 (serves_stay start taken leads.0 leads.1 leads.4.0))
+    legal_at start leads.2 answer.history leads.5.1.0.history (does_stay told start leads.0 leads.1 leads.2 leads.3 leads.5.0 (serves_stay told start taken streams.left' leads.0 leads.1 leads.4))
 leads_legally d (end.DiskFault class) told start taken streams answer leads =
-    legal_at start leads.2 answer.history leads.3.1.1 (fails_stay start leads.0 leads.1 class leads.2 leads.3.1.0 (serves_stay start taken leads.0 leads.1 leads.3.0))
-leads_legally d end.NoMemory told start taken streams answer leads =
-    legal_at start leads.2 answer.history leads.3.1.1.history (short_stays start leads.0 leads.1 leads.2 leads.3.1.0 (serves_stay start taken leads.0 leads.1 leads.3.0))
+    legal_at start leads.2 answer.history leads.4.1.0 (fails_stay start leads.0 leads.1 class leads.2 leads.4.0 (serves_stay told start taken streams.left' leads.0 leads.1 leads.3))
+leads_legally d end.NoMemory told start taken streams answer (inl leads) = all_legally d end.NoMemory told start leads.0 streams answer leads.1.1
+leads_legally d end.NoMemory told start taken streams answer (inr leads) =
+    legal_at start leads.2 answer.history leads.4.1.0.history (short_stays start leads.0 leads.1 leads.2 leads.4.0 (serves_stay told start taken streams.left' leads.0 leads.1 leads.3))
 
 -- ---- from the shards to the run
 
@@ -151,7 +182,6 @@ scripted {d = d} settings disks shards streams answer starts later run =
       start = starts.state;
       opens = starts.opens;
       reason = run.reason;
-      tells = run.tells;
       taken = run.taken;
       consumed = run.consumed;
       takes = run.takes;
@@ -183,15 +213,14 @@ takes_as end.NoMemory taken left takes = takes
 
 pub shards_run : {D : Type 0} {d : Ghosts D} (reason : ScriptEnd) (shards : List (Shard D d)) (old new : Session D d) (written : Option (List ℕ)) (streams : Streams) (answer : Answer D) → old.store.shards.items.items ≡ shards
     → ((told : ℕ → Option Image) (s : State) → HoldsAll told shards s → Means told old (opening s))
-    → Ends reason streams.left old streams.written streams.left' new written → TellsEnd reason answer.status written streams.written' → SameIfDone reason written streams.written'
+    → Ends reason streams.left old streams.written streams.left' new written → TellsEnd reason [] answer.status written streams.written'
     → answer.history ≡ new.store.history.entries → ((told : ℕ → Option Image) (s : State) → HoldsAll told new.store.shards.items.items s → DisksStand d.image told answer.disks s)
     → ((k : ℕ) → disk_faults d.faults answer.disks k ≡ faults_at new.store.shards.items.items k) → ShardsRun shards streams answer
-shards_run reason shards old new written streams answer same means ends tells silent history disks faults = record {
+shards_run reason shards old new written streams answer same means ends tells history disks faults = record {
   reason = reason;
-  tells = end_told reason answer.status streams.written written streams.written' ends.some tells;
   taken = ends.taken;
   consumed = ends.consumed;
   takes = takes_as reason ends.taken streams.left' ends.input;
-  leads = λ told s holds. leads reason told s ends.taken new written streams answer history disks silent (ends.ends told (opening s) (means told s holds));
+  leads = λ told s holds. leads reason told s ends.taken new written streams answer (record { history = history; disks = disks }) tells (ends.ends told (opening s) (means told s holds));
   cause = end_from reason old new shards answer.disks same ends.cause faults;
 }

@@ -1,5 +1,5 @@
 -- What a run of carbon comes to.
-use Rattle.std.specs.Prelude.{◌≡◌, ◌<◌, ◌^◌, ◌⊎◌, ℕ, List, [], Option, IfSome, Ok, Err, length, string_bytes}
+use Rattle.std.specs.Prelude.{◌≡◌, ◌<◌, ◌^◌, ◌⊎◌, ℕ, List, [], ◌++◌, Option, IfSome, Ok, Err, length, string_bytes}
 use Rattle.std.specs.Io.KnownBytes.{Appends, Consumes, IsAtEnd}
 use Rattle.outside_io.specs.Image.{Image}
 use Rattle.outside_io.specs.Faults.{Rose}
@@ -9,19 +9,20 @@ use Rattle.outside_io.specs.declared.sink.Sink.{Ghosts as SinkGhosts}
 use Rattle.carbon_history.specs.Book.{Book}
 use Rattle.line_frame.specs.Lines.{lines}
 use Rattle.line_frame.specs.Machine.{Runs as RunsLines}
+use Rattle.line_service.specs.Service.{RunsOut}
 use Rattle.carbon_history.specs.declared.entry.Entry.{Entry}
 use Rattle.carbon_model.specs.State.{State}
 use Rattle.carbon_model.specs.RingFiles.{Opens, Settings}
 use Rattle.carbon_model.specs.Replay.{IsLegalHistory, replay}
 use Rattle.schema_rules.specs.RulesOf.{RulesValue}
 use Rattle.shard_core.specs.Opening.{AreSound, RefusesAll}
-use Rattle.shard_core.specs.Shards.{AllTold, DisksStand, HoldsAll, disk_faults, faults_at, told_of}
+use Rattle.shard_core.specs.Shards.{DisksStand, HoldsAll, disk_faults, faults_at, told_of}
 use Rattle.shard_core.specs.declared.shard.Shard.{Shard}
 use Rattle.shard_core.specs.declared.opening.Refusal.{Refusal}
 use Rattle.shard_core.specs.declared.fault.StartFault.{StartFault}
 use Rattle.shard_core.specs.declared.fault.StartFault.TheVariants.{Damaged, DiskFault, NoMemory}
 use Rattle.carbon_script.specs.Command.{Command}
-use Rattle.carbon_script.specs.Script.{Does, FailsAt, Machine, RunsShort, ScriptRun, ServesUpTo, Steps, opening}
+use Rattle.carbon_script.specs.Script.{AppendsPart, Does, FailsAt, Machine, RunsShort, ScriptRun, ServesUpTo, Steps, opening, reply_at}
 use Rattle.carbon_script.specs.declared.serve.ScriptEnd.{ScriptEnd}
 use Rattle.carbon_script.specs.declared.serve.ScriptEnd.TheVariants as end
 use Rattle.schema_rules.specs.LayoutBy.{layout_by}
@@ -30,7 +31,7 @@ use Rattle.carbon_run.specs.declared.words.Options.{Options}
 use Rattle.carbon_run.specs.Conf.{IsRefused, rules_in}
 use Rattle.carbon_run.specs.declared.conf.ConfFault.{ConfFault}
 use Rattle.carbon_run.specs.declared.conf.ConfFault.TheVariants as conf
-use Rattle.carbon_run.specs.Texts.{EndsWith, conf_fault_line, damaged_line, disk_fault_line, limit_line, no_memory_line, read_fault_line, rule_fault_line, usage_line}
+use Rattle.carbon_run.specs.Texts.{conf_fault_line, damaged_line, disk_fault_line, limit_line, no_memory_line, read_fault_line, rule_fault_line, usage_line}
 
 -- the streams of a run: what is left of the input, and what was written, before it and after it
 pub record Streams : Type 0 where
@@ -53,15 +54,16 @@ streams_of s k input input' out out' =
 abbrev pub answer_of : {D : Type 0} → ℕ → Book → List D → Answer D
 answer_of status history disks = record { status = status; history = history.entries; disks = disks }
 
--- A fault line was written, and nothing else, under the status of the fault; or it could not be written whole, and the status is 7.
-pub record TellsAlone (status : ℕ) (line : List ℕ) (answer : ℕ) (before after : Option (List ℕ)) : Type 0 where
+-- A fault line was written behind a text, and nothing else, under the status of the fault; or no more than a front of the line could be, and the status
+-- is 7.
+pub record TellsBehind (text : List ℕ) (status : ℕ) (line : List ℕ) (answer : ℕ) (before after : Option (List ℕ)) : Type 0 where
   pub either : (answer ≡ status) ⊎ (answer ≡ 7)
-  pub told : answer ≡ status → Appends before after line
+  pub told : answer ≡ status → Appends before after (text ++ line)
+  pub short : answer ≡ 7 → AppendsPart before after text line
 
--- the same behind what a script had written
-pub record TellsLast (status : ℕ) (line : List ℕ) (answer : ℕ) (before after : Option (List ℕ)) : Type 0 where
-  pub either : (answer ≡ status) ⊎ (answer ≡ 7)
-  pub told : answer ≡ status → EndsWith before after line
+-- the same of a line that stands alone
+abbrev pub TellsAlone : ℕ → List ℕ → ℕ → Option (List ℕ) → Option (List ℕ) → Type 0
+TellsAlone status line answer before after = TellsBehind [] status line answer before after
 
 -- ---- runs that end before the script
 
@@ -111,23 +113,14 @@ pub record NoStart {D : Type 0} (d : Ghosts D) (streams : Streams) (disks : List
 
 -- ---- runs of the script
 
--- how the end of a script is told: the text of a script that is done, else the fault line behind what was written
-abbrev pub TellsEnd : ScriptEnd → ℕ → Option (List ℕ) → Option (List ℕ) → Type 0
-TellsEnd end.Done answer before after = answer ≡ 0
-TellsEnd end.ReadFault answer before after = TellsLast 6 read_fault_line answer before after
-TellsEnd end.WriteFault answer before after = answer ≡ 7
-TellsEnd (end.DiskFault class) answer before after = TellsLast 5 (disk_fault_line class) answer before after
-TellsEnd end.InputLimit answer before after = TellsLast 10 limit_line answer before after
-TellsEnd end.NoMemory answer before after = TellsLast 8 no_memory_line answer before after
-
--- nothing is written behind a script that is done
-abbrev pub SameIfDone : ScriptEnd → Option (List ℕ) → Option (List ℕ) → Type 0
-SameIfDone end.Done before after = after ≡ before
-SameIfDone end.ReadFault before after = Unit {0}
-SameIfDone end.WriteFault before after = Unit {0}
-SameIfDone (end.DiskFault class) before after = Unit {0}
-SameIfDone end.InputLimit before after = Unit {0}
-SameIfDone end.NoMemory before after = Unit {0}
+-- how the end of a script that said this is told: by the fault line behind it, but where it is done, or a write failed
+abbrev pub TellsEnd : ScriptEnd → List ℕ → ℕ → Option (List ℕ) → Option (List ℕ) → Type 0
+TellsEnd end.Done said answer before after = (answer ≡ 0) × Appends before after said
+TellsEnd end.ReadFault said answer before after = TellsBehind said 6 read_fault_line answer before after
+TellsEnd end.WriteFault said answer before after = (answer ≡ 7) × Appends before after said
+TellsEnd (end.DiskFault class) said answer before after = TellsBehind said 5 (disk_fault_line class) answer before after
+TellsEnd end.InputLimit said answer before after = TellsBehind said 10 limit_line answer before after
+TellsEnd end.NoMemory said answer before after = TellsBehind said 8 no_memory_line answer before after
 
 -- the fault line of an end could not be written: the status is 7 although the script did not end by a failed write
 abbrev pub FailsToTell : ScriptEnd → ℕ → Type 0
@@ -143,27 +136,34 @@ pub record Leaves {D : Type 0} (d : Ghosts D) (told : ℕ → Option Image) (mac
   pub history : answer.history ≡ machine.entries
   pub disks : DisksStand d.image told answer.disks machine.state
 
--- What was done by a script that began at `start` and was given the bytes `taken`. Where it is done, it is a whole script: its text was written, where all
--- disks tell what they hold, and nothing is pending. Where a read failed or the limit was met, all lines were served, and no drain was made besides.
--- Else the first lines were served and the next command was cut short, which is the drain of all that is pending only where it says so or behind the last
--- line of an input that came to its end.
+-- all lines of these bytes were served, and the end is told behind what they say
+abbrev pub ServesAll : {D : Type 0} → Ghosts D → (ℕ → Option Image) → ScriptEnd → Machine → List ℕ → Streams → Answer D → Type 0
+ServesAll d told reason start bytes streams answer =
+    (last : Machine) × (said : List ℕ) × (RunsLines (Steps told) start (lines bytes) last said
+    × (Leaves d told last answer × TellsEnd reason said answer.status streams.written streams.written'))
+
+-- What was done by a script that began at `start` and was given the bytes `taken`, and what was written. Where it is done, it is a whole script, and
+-- nothing is pending. Where a read failed or the limit was met, all lines were served, and no drain was made besides; so too where memory ran out between
+-- two reads, of what was taken before the last one. Else the first lines were served and the next command was cut short, which is the drain of all that
+-- is pending only where it says so or behind the last line of an input that came to its end.
 abbrev pub Leads : {D : Type 0} → Ghosts D → (ℕ → Option Image) → ScriptEnd → Machine → List ℕ → Streams → Answer D → Type 0
 Leads d told end.Done start taken streams answer =
-    (last : Machine) × (text : List ℕ) × (ScriptRun start taken last text × (Leaves d told last answer
-    × ((AllTold told → Appends streams.written streams.written' text) × ((class : ℕ) → class < 16 → last.state.pending class ≡ []))))
-Leads d told end.ReadFault start taken streams answer =
-    (last : Machine) × (said : List ℕ) × (RunsLines Steps start (lines taken) last said × Leaves d told last answer)
-Leads d told end.InputLimit start taken streams answer =
-    (last : Machine) × (said : List ℕ) × (RunsLines Steps start (lines taken) last said × Leaves d told last answer)
+    (last : Machine) × (text : List ℕ) × (ScriptRun told start taken last text × (Leaves d told last answer
+    × (TellsEnd end.Done text answer.status streams.written streams.written' × ((class : ℕ) → class < 16 → last.state.pending class ≡ []))))
+Leads d told end.ReadFault start taken streams answer = ServesAll d told end.ReadFault start taken streams answer
+Leads d told end.InputLimit start taken streams answer = ServesAll d told end.InputLimit start taken streams answer
 Leads d told end.WriteFault start taken streams answer =
-    (before : Machine) × (command : Command) × (last : Machine) × (said : List ℕ)
-    × (ServesUpTo start taken before command × (Does before command last said × Leaves d told last answer))
+    (before : Machine) × (command : Command) × (last : Machine) × (said : List ℕ) × (at : ServesUpTo told start taken streams.left' before command)
+    × (Does told before command last said × (Leaves d told last answer
+    × ((answer.status ≡ 7) × AppendsPart streams.written streams.written' at.said (reply_at at.others last said))))
 Leads d told (end.DiskFault class) start taken streams answer =
-    (before : Machine) × (command : Command) × (last : Machine)
-    × (ServesUpTo start taken before command × (FailsAt before command class last × (answer.history ≡ last.entries)))
+    (before : Machine) × (command : Command) × (last : Machine) × (at : ServesUpTo told start taken streams.left' before command)
+    × (FailsAt before command class last × ((answer.history ≡ last.entries)
+    × TellsEnd (end.DiskFault class) at.said answer.status streams.written streams.written'))
 Leads d told end.NoMemory start taken streams answer =
-    (before : Machine) × (command : Command) × (last : Machine)
-    × (ServesUpTo start taken before command × (RunsShort before command last × Leaves d told last answer))
+    ((front : List ℕ) × (RunsOut front taken × ServesAll d told end.NoMemory start front streams answer))
+    ⊎ ((before : Machine) × (command : Command) × (last : Machine) × (at : ServesUpTo told start taken streams.left' before command)
+    × (RunsShort before command last × (Leaves d told last answer × TellsEnd end.NoMemory at.said answer.status streams.written streams.written')))
 
 -- how much of the input was taken
 abbrev pub Takes : ScriptEnd → List ℕ → Option (List ℕ) → Type 0
@@ -194,7 +194,6 @@ EndFrom end.NoMemory shards disks' = Unit {0}
 -- The same of shards that have started, whatever state they stand for.
 pub record ShardsRun {D : Type 0} {d : Ghosts D} (shards : List (Shard D d)) (streams : Streams) (answer : Answer D) : Type 0 where
   pub reason : ScriptEnd
-  pub tells : TellsEnd reason answer.status streams.written streams.written'
   pub taken : List ℕ
   pub consumed : Consumes streams.left streams.left' taken
   pub takes : Takes reason taken streams.left'
@@ -208,7 +207,6 @@ pub record Scripted {D : Type 0} (d : Ghosts D) (settings : Settings) (streams :
   pub start : State
   pub opens : Opens settings (told_of d.image disks) start
   pub reason : ScriptEnd
-  pub tells : TellsEnd reason answer.status streams.written streams.written'
   pub taken : List ℕ
   pub consumed : Consumes streams.left streams.left' taken
   pub takes : Takes reason taken streams.left'

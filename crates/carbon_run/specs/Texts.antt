@@ -1,6 +1,5 @@
 -- The last line of a run that failed, and what is written before it.
-use Rattle.std.specs.Prelude.{ℕ, List, ◌++◌, Option, codes, decimal}
-use Rattle.std.specs.Io.KnownBytes.{Appends}
+use Rattle.std.specs.Prelude.{ℕ, List, ◌++◌, codes, decimal}
 use Rattle.schema_rules.specs.declared.fault.RuleFile.{RuleFile}
 use Rattle.schema_rules.specs.declared.fault.RuleCause.{RuleCause}
 use Rattle.schema_rules.specs.declared.fault.RuleCause.TheVariants.{TooLong, Line, BadPattern, BadRetention, BadLayout, BadFactor, BadMethod}
@@ -81,9 +80,3 @@ cause_text (BadMethod number) = section_text number bad_method
 -- the line of a refused rule file, by its name and the cause
 abbrev pub rule_fault_line : RuleFile → RuleCause → List ℕ
 rule_fault_line file cause = carbon_word ++ (rule_file_name file ++ (cause_text cause ++ codes "\n"))
-
--- ---- a line behind others
-
--- what was written ends with this line
-abbrev pub EndsWith : Option (List ℕ) → Option (List ℕ) → List ℕ → Type 0
-EndsWith before after line = (front : List ℕ) × Appends before after (front ++ line)

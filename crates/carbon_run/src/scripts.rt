@@ -1,11 +1,11 @@
 //! The command `script`, once the rule files are read.
-ghost use Rattle.std.specs.Prelude.{◌≡◌, ◌⊎◌, ℕ, Option, vec_len};
+ghost use Rattle.std.specs.Prelude.{◌≡◌, ◌⊎◌, ℕ, [], Option, vec_len};
 ghost use Rattle.outside_io.specs.Frames.{CountsReads, CountsWrites};
 ghost use Rattle.outside_io.specs.Image.{Image};
 ghost use Rattle.carbon_model.specs.State.{State};
 ghost use Rattle.shard_core.specs.Shards.{DisksStand, HoldsAll, disk_faults, faults_at};
 ghost use Rattle.shard_core.specs.Opening.{settings_of};
-ghost use Rattle.carbon_run.specs.Runs.{FailsToTell, NoStart, SameIfDone, Scripted, ShardsRun, TellsEnd, TellsStart, answer_of, streams_of};
+ghost use Rattle.carbon_run.specs.Runs.{FailsToTell, NoStart, Scripted, ShardsRun, TellsEnd, TellsStart, answer_of, streams_of};
 
 use crate::Report;
 use crate::telling::{tell_damaged, tell_disk_fault, tell_limit, tell_no_memory, tell_read_fault};
@@ -61,8 +61,7 @@ fn run_shards<D: Disk, S: Source, K: Sink>(
 
 /// Writes the fault line of a script's end, and answers the exit status.
 fn tell_end<K: Sink>(end: ScriptEnd, out: &mut K) -> u8
-    ensures told { TellsEnd end result (K.written out.old) (K.written out.new) }
-    ensures silent { SameIfDone end (K.written out.old) (K.written out.new) }
+    ensures told { TellsEnd end [] result (K.written out.old) (K.written out.new) }
     ensures writes { CountsWrites K.Sink out.old out.new (FailsToTell end result) }
 {
     match end {

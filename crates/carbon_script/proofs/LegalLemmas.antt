@@ -2,6 +2,7 @@
 use Rattle.std.proofs.Common.{◌≡◌, inl, inr, ◌==◌, false, ℕ, zero, suc, ◌<◌, List, [], ◌∷◌, ◌++◌, Option, Some, None, refl, sym, ap, ◌∙◌, subst, arith}
 use Rattle.std.proofs.lemmas.Bool.{cases_order}
 use Rattle.std.proofs.lemmas.Bool.Decides.{eqb_tells}
+use Rattle.outside_io.specs.Image.{Image}
 use Rattle.metric_path.specs.Class.{class_of}
 use Rattle.line_frame.specs.Lines.{Line}
 use Rattle.line_frame.specs.Machine.{Runs}
@@ -49,18 +50,18 @@ up_to_legal s pass class now drains made =
     (legal_both s made.0 made.1 (classes_legal s pass class now made.0 made.2.1.0) (drains_legal (replay s made.0) pass class now made.1 made.2.1.1))
 
 -- a command keeps to it
-pub does_stay : (start : State) (m : Machine) (command : Command) (next : Machine) (said : List ℕ) → Does m command next said → Stays start m → Stays start next
-does_stay start m (Metric point) next said does stays =
+pub does_stay : (told : ℕ → Option Image) (start : State) (m : Machine) (command : Command) (next : Machine) (said : List ℕ) → Does told m command next said → Stays start m → Stays start next
+does_stay told start m (Metric point) next said does stays =
     let more = stays_with start m (put_entry point does.0 ∷ []) stays (does.1.0, tt) in
     rw does.1.1.0 (record { legal = more.legal; state = more.state })
-does_stay start m (Refused fault) next said does stays = rw does.0 (record { legal = stays.legal; state = stays.state })
-does_stay start m Long next said does stays = rw does.0 (record { legal = stays.legal; state = stays.state })
-does_stay start m (Clock t) next said does stays = rw does.0 (record { legal = stays.legal; state = stays.state })
-does_stay start m (Ask q) next said does stays = rw does.0 (stays_with start m (ask_entry m ∷ []) stays (tt, tt))
-does_stay start m DrainAll next said does stays =
+does_stay told start m (Refused fault) next said does stays = rw does.0 (record { legal = stays.legal; state = stays.state })
+does_stay told start m Long next said does stays = rw does.0 (record { legal = stays.legal; state = stays.state })
+does_stay told start m (Clock t) next said does stays = rw does.0 (record { legal = stays.legal; state = stays.state })
+does_stay told start m (Ask q) next said does stays = rw does.0 (stays_with start m (ask_entry m ∷ []) stays (tt, tt))
+does_stay told start m DrainAll next said does stays =
     let more = stays_with start m does.0 stays (all_legal m.state 0 m.clock does.0 does.1.0) in
     rw does.1.1.0 (record { legal = more.legal; state = more.state })
-does_stay start m Bad next said does stays = rw does.0 stays
+does_stay told start m Bad next said does stays = rw does.0 stays
 
 pub fails_stay : (start : State) (m : Machine) (command : Command) (class : ℕ) (next : Machine) → FailsAt m command class next → Stays start m → Stays start next
 fails_stay start m (Metric point) class next fails stays = absurd fails
@@ -74,17 +75,17 @@ fails_stay start m Bad class next fails stays = absurd fails
 
 pub short_stays : (start : State) (m : Machine) (command : Command) (next : Machine) → RunsShort m command next → Stays start m → Stays start next
 short_stays start m (Metric point) next short stays = rw short stays
-short_stays start m (Refused fault) next short stays = rw short stays
-short_stays start m Long next short stays = rw short stays
-short_stays start m (Clock t) next short stays = rw short stays
+short_stays start m (Refused fault) next short stays = absurd short
+short_stays start m Long next short stays = absurd short
+short_stays start m (Clock t) next short stays = absurd short
 short_stays start m (Ask q) next short stays = rw short stays
 short_stays start m DrainAll next short stays = rw short.2.1 (stays_with start m short.1 stays (up_to_legal m.state 0 short.0 m.clock short.1 short.2.0))
-short_stays start m Bad next short stays = rw short stays
+short_stays start m Bad next short stays = absurd short
 
-pub runs_stay : (start : State) (m : Machine) (lines : List Line) (last : Machine) (said : List ℕ) → Runs Steps m lines last said → Stays start m → Stays start last
-runs_stay start m [] last said runs stays = rw runs.0 stays
-runs_stay start m (line ∷ others) last said runs stays =
-    runs_stay start runs.0 others last runs.2 runs.3.1.0 (does_stay start m (command_of line m.clock) runs.0 runs.1 runs.3.0 stays)
+pub runs_stay : (told : ℕ → Option Image) (start : State) (m : Machine) (lines : List Line) (last : Machine) (said : List ℕ) → Runs (Steps told) m lines last said → Stays start m → Stays start last
+runs_stay told start m [] last said runs stays = rw runs.0 stays
+runs_stay told start m (line ∷ others) last said runs stays =
+    runs_stay told start runs.0 others last runs.2 runs.3.1.0 (does_stay told start m (command_of line m.clock) runs.0 runs.1 runs.3.0 stays)
 
 pub opening_stays : (start : State) → Stays start (opening start)
 opening_stays start = record { legal = tt; state = refl }
@@ -132,6 +133,6 @@ none_below s pass (suc class) now drains made k few =
     (subst (λ (t : State). t.pending k ≡ []) (sym (replay-append s made.0 made.1))
     (at_last s pass class now made.0 made.1 k made.2.1.1 (none_below s pass class now made.0 made.2.1.0 k) few))
 
-pub none_pending : (m : Machine) (next : Machine) (said : List ℕ) → Does m DrainAll next said → (k : ℕ) → k < 16 → next.state.pending k ≡ []
+pub none_pending : (told : ℕ → Option Image) (m : Machine) (next : Machine) (said : List ℕ) → Does told m DrainAll next said → (k : ℕ) → k < 16 → next.state.pending k ≡ []
 unfolding DrainsAll
-none_pending m next said does k few = rw does.1.1.0 (none_below m.state 0 16 m.clock does.0 does.1.0 k few)
+none_pending told m next said does k few = rw does.1.1.0 (none_below m.state 0 16 m.clock does.0 does.1.0 k few)

@@ -1,23 +1,25 @@
 -- From the lines that a service served to the run of a script.
-use Rattle.std.proofs.Common.{◌≡◌, ℕ, List, [], ◌∷◌, ◌++◌, Option, Result, Ok, Err, refl, sym, ap, ◌∙◌, subst, append_assoc, append-nil}
-use Rattle.std.specs.Io.KnownBytes.{Appends, Consumes}
+use Rattle.std.proofs.Common.{◌≡◌, inl, inr, ℕ, List, [], ◌∷◌, ◌++◌, Option, Result, Ok, Err, refl, sym, subst, append-nil, take}
+use Rattle.std.specs.Io.KnownBytes.{Appends}
 use Rattle.outside_io.specs.Image.{Image}
 use Rattle.outside_io.specs.declared.disk.Disk.{Ghosts}
+use Rattle.outside_io.specs.Sink.{AppendsFront}
+use Rattle.outside_io.proofs.Known.{Appends-none, Appends-more}
 use Rattle.line_frame.specs.Lines.{Line, lines}
 use Rattle.line_frame.specs.Machine.{Runs}
-use Rattle.line_service.specs.Service.{At, Chain, Service, ServesFirst, StepOf, StopsAt}
+use Rattle.line_service.specs.Service.{At, Chain, Service, StepOf}
 use Rattle.line_service.specs.declared.ends.Stop.{Stop}
 use Rattle.line_service.specs.declared.ends.Stop.TheVariants as stop
 use Rattle.line_service.specs.declared.ends.ServiceEnd.TheVariants as service
 use Rattle.shard_core.proofs.ShardsLemmas.{failed_later, fewer_more, fewer_none}
 use Rattle.carbon_script.specs.Command.{Command, DrainAll, command_of}
 use Rattle.carbon_script.specs.Ends.{end_of}
-use Rattle.carbon_script.specs.Script.{IsNext, Machine, ServesUpTo, Steps, summary_text}
-use Rattle.carbon_script.specs.Sessions.{AppendsSome, CutShort, Done, EndCause, Ends, EndsAs, Finishes, GoesLater, HasCause, Means, Serves, Stops, Summed, TakesInput, Writes}
+use Rattle.carbon_script.specs.Script.{AppendsPart, IsNext, Machine, ServesUpTo, Steps, reply_at, summary_text}
+use Rattle.carbon_script.specs.Sessions.{AppendsSome, CutShort, EndCause, Ends, EndsAs, Finishes, GoesLater, HasCause, Means, Serves, ServesAll, Stops, TakesInput, its_reply, its_summary}
 use Rattle.carbon_script.specs.declared.serve.ScriptEnd.{ScriptEnd}
 use Rattle.carbon_script.specs.declared.serve.ScriptEnd.TheVariants as end
 use Rattle.carbon_script.specs.declared.session.Session.{Session}
-use Rattle.carbon_script.proofs.SessionLemmas.{appends_some_none, appends_some_more, short_nothing, writes_more, writes_none}
+use Rattle.carbon_script.proofs.SessionLemmas.{appends_some_none, appends_some_more}
 
 -- ---- what the lines did
 
@@ -25,9 +27,9 @@ use Rattle.carbon_script.proofs.SessionLemmas.{appends_some_none, appends_some_m
 record Followed {D : Type 0} {d : Ghosts D} (told : ℕ → Option Image) (start : Machine) (handed : List Line) (before : Option (List ℕ)) (to : At (Session D d)) : Type 0 where
   last : Machine
   said : List ℕ
-  runs : Runs Steps start handed last said
+  runs : Runs (Steps told) start handed last said
   means : Means told to.server last
-  wrote : Writes told before to.written said
+  wrote : Appends before to.written said
 
 follow : {D : Type 0} {d : Ghosts D} (told : ℕ → Option Image) (handed : List Line) (from to : At (Session D d)) (m : Machine) → Chain (StepOf Serves) from handed to → Means told from.server m → Followed told m handed from.written to
 follow told [] from to m chain means =
@@ -36,7 +38,7 @@ follow told [] from to m chain means =
       said = [];
       runs = (refl, refl);
       means = means;
-      wrote = writes_none told from.written;
+      wrote = Appends-none from.written;
     })
 follow told (line ∷ others) from to m chain means =
     let one = chain.1.0.does told m means in
@@ -45,8 +47,14 @@ follow told (line ∷ others) from to m chain means =
       said = one.said ++ more.said;
       runs = (one.next, one.said, more.said, (one.does, (more.runs, refl)));
       means = more.means;
-      wrote = writes_more told from.written chain.0.written to.written one.said more.said one.wrote more.wrote;
+      wrote = Appends-more from.written chain.0.written to.written one.said more.said one.wrote more.wrote;
     }
+
+-- all lines of some bytes
+all_served : {D : Type 0} {d : Ghosts D} (told : ℕ → Option Image) (bytes : List ℕ) (from to : At (Session D d)) (m : Machine) → Chain (StepOf Serves) from (lines bytes) to → Means told from.server m
+    → ServesAll told m bytes from.written to.server to.written
+all_served told bytes from to m chain means =
+    let followed = follow told (lines bytes) from to m chain means in (followed.last, followed.said, (followed.runs, (followed.means, followed.wrote)))
 
 -- the disks' counts of failed calls, and what was written, over some lines
 frame_later : {D : Type 0} {d : Ghosts D} (handed : List Line) (from to : At (Session D d)) → Chain (StepOf Serves) from handed to → GoesLater from.server to.server × AppendsSome from.written to.written
@@ -58,9 +66,9 @@ frame_later (line ∷ others) from to chain =
     )
 
 -- the first lines were served, and this is the next command
-up_to : (start : Machine) (taken : List ℕ) (handed others : List Line) (last : Machine) (said : List ℕ) (command : Command) → Runs Steps start handed last said → lines taken ≡ handed ++ others → IsNext others last.clock command
-    → ServesUpTo start taken last command
-up_to start taken handed others last said command runs split next = record {
+abbrev up_to : (told : ℕ → Option Image) (start : Machine) (taken : List ℕ) (left : Option (List ℕ)) (handed others : List Line) (last : Machine) (said : List ℕ) (command : Command) → Runs (Steps told) start handed last said → lines taken ≡ handed ++ others
+    → IsNext taken left others last.clock command → ServesUpTo told start taken left last command
+up_to told start taken left handed others last said command runs split next = record {
   handed = handed;
   others = others;
   said = said;
@@ -68,11 +76,6 @@ up_to start taken handed others last said command runs split next = record {
   split = split;
   next = next;
 }
-
--- some command comes next
-next_command : (others : List Line) (now : ℕ) → (command : Command) × IsNext others now command
-next_command [] now = (DrainAll, refl)
-next_command (line ∷ others) now = (command_of line now, refl)
 
 -- ---- the ends
 
@@ -82,13 +85,22 @@ cause_later (stop.DiskFault class) a b c later cause = failed_later a.store.shar
 cause_later stop.Spent a b c later cause = tt
 cause_later stop.NoMemory a b c later cause = tt
 
+-- the whole of a text, and a front of another one
+pub appends_part : (a b c : Option (List ℕ)) (whole part : List ℕ) → Appends a b whole → AppendsFront b c part → AppendsPart a c whole part
+appends_part a b c whole part first front = (front.0, front.1, Appends-more a b c whole (take front.0 part) first front.2)
+
 -- a command that was cut short ends the script
-cut_ends : {D : Type 0} {d : Ghosts D} (reason : Stop) (told : ℕ → Option Image) (start : Machine) (taken : List ℕ) (last : Machine) (command : Command) (before after : Option (List ℕ)) (new : Session D d)
-    → ServesUpTo start taken last command → CutShort reason told last command new → EndsAs (end_of reason) told start taken before new after
-cut_ends stop.WriteFault told start taken last command before after new serves cut = (last, command, (serves, cut))
-cut_ends (stop.DiskFault class) told start taken last command before after new serves cut = (last, command, (serves, cut))
-cut_ends stop.Spent told start taken last command before after new serves cut = absurd cut
-cut_ends stop.NoMemory told start taken last command before after new serves cut = (last, command, (serves, cut))
+cut_ends : {D : Type 0} {d : Ghosts D} (reply : Machine → List ℕ → List ℕ) (reason : Stop) (told : ℕ → Option Image) (start : Machine) (taken : List ℕ) (left : Option (List ℕ)) (last : Machine) (command : Command) (a b c : Option (List ℕ)) (new : Session D d)
+    (at : ServesUpTo told start taken left last command) → ((next : Machine) (said : List ℕ) → reply next said ≡ reply_at at.others next said) → Appends a b at.said → CutShort reply reason told last command b new c
+    → EndsAs (end_of reason) told start taken left a new c
+cut_ends reply stop.WriteFault told start taken left last command a b c new at same wrote cut =
+    let front = subst (λ (t : List ℕ). AppendsFront b c t) (same cut.0 cut.1) cut.2.1.1 in
+    (last, command, cut.0, cut.1, at, (cut.2.0, (cut.2.1.0, appends_part a b c at.said (reply_at at.others cut.0 cut.1) wrote front)))
+cut_ends reply (stop.DiskFault class) told start taken left last command a b c new at same wrote cut =
+    (last, command, cut.0, at, (cut.1.0, (cut.1.1.0, subst (λ (w : Option (List ℕ)). Appends a w at.said) (sym cut.1.1.1) wrote)))
+cut_ends reply stop.Spent told start taken left last command a b c new at same wrote cut = absurd cut
+cut_ends reply stop.NoMemory told start taken left last command a b c new at same wrote cut =
+    inr (last, command, cut.0, at, (cut.1.0, (cut.1.1.0, subst (λ (w : Option (List ℕ)). Appends a w at.said) (sym cut.1.1.1) wrote)))
 
 takes_cut : (reason : Stop) (taken : List ℕ) (left : Option (List ℕ)) → TakesInput (end_of reason) taken left
 takes_cut stop.WriteFault taken left = tt
@@ -107,32 +119,23 @@ ends_stopped reason left left' from to service =
       input = takes_cut reason service.0 left';
       ends = λ told start means.
           let followed = follow told at.handed from at.mid start at.chain means in
-          cut_ends reason told start service.0 followed.last (command_of at.line followed.last.clock) from.written to.written to.server
-          (up_to start service.0 at.handed (at.line ∷ at.rest) followed.last followed.said (command_of at.line followed.last.clock) followed.runs at.split refl)
-          (at.stopped.cut told followed.last followed.means);
+          cut_ends its_reply reason told start service.0 left' followed.last (command_of at.line followed.last.clock) from.written at.mid.written to.written to.server
+          (up_to told start service.0 left' at.handed (at.line ∷ at.rest) followed.last followed.said (command_of at.line followed.last.clock) followed.runs at.split refl)
+          (λ next said. refl) followed.wrote (at.stopped.cut told followed.last followed.means);
       later = fewer_more from.server.store.shards.items.items at.mid.server.store.shards.items.items to.server.store.shards.items.items before.0 at.stopped.later;
       cause = cause_later reason from.server at.mid.server to.server before.0 at.stopped.cause;
       some = appends_some_more from.written at.mid.written to.written before.1 at.stopped.some;
     }
 
--- memory ran out between two lines
+-- memory ran out between two reads
 pub ends_short : {D : Type 0} {d : Ghosts D} (left left' : Option (List ℕ)) (from to : At (Session D d)) → Service Serves Stops service.NoMemory left from left' to → Ends end.NoMemory left from.server from.written left' to.server to.written
 ends_short left left' from to service =
-    let at = service.1.1 in
-    let frame = frame_later at.handed from to at.chain in record {
+    let front = service.1.1.0 in
+    let frame = frame_later (lines front) from to service.1.1.1.1 in record {
       taken = service.0;
       consumed = service.1.0;
       input = tt;
-      ends = λ told start means.
-          let followed = follow told at.handed from to start at.chain means in
-          let next = next_command at.rest followed.last.clock in (
-            followed.last,
-            next.0,
-            (
-              up_to start service.0 at.handed at.rest followed.last followed.said next.0 followed.runs at.split next.1,
-              (followed.last, (short_nothing followed.last next.0, followed.means)),
-            ),
-          );
+      ends = λ told start means. inl (front, (service.1.1.1.0, all_served told front from to start service.1.1.1.1 means));
       later = frame.0;
       cause = tt;
       some = frame.1;
@@ -145,8 +148,7 @@ ends_unread left left' from to service =
       taken = service.0;
       consumed = service.1.0;
       input = tt;
-      ends = λ told start means.
-          let followed = follow told (lines service.0) from to start service.1.1 means in (followed.last, followed.said, (followed.runs, followed.means));
+      ends = λ told start means. all_served told service.0 from to start service.1.1 means;
       later = frame.0;
       cause = tt;
       some = frame.1;
@@ -159,8 +161,7 @@ ends_limit left left' from to service =
       taken = service.0;
       consumed = service.1.0;
       input = service.1.1.1;
-      ends = λ told start means.
-          let followed = follow told (lines service.0) from to start service.1.1.0 means in (followed.last, followed.said, (followed.runs, followed.means));
+      ends = λ told start means. all_served told service.0 from to start service.1.1.0 means;
       later = frame.0;
       cause = tt;
       some = frame.1;
@@ -181,7 +182,7 @@ ends_done x left left' from mid to service finishes later some =
             followed.said ++ summary_text summed.next,
             (
               (followed.last, followed.said, summed.said, (followed.runs, (summed.does, refl))),
-              (summed.means, writes_more told from.written mid.written to.written followed.said (summary_text summed.next) followed.wrote summed.wrote),
+              (summed.means, Appends-more from.written mid.written to.written followed.said (summary_text summed.next) followed.wrote summed.wrote),
             ),
           );
       later = fewer_more from.server.store.shards.items.items mid.server.store.shards.items.items to.server.store.shards.items.items before.0 later;
@@ -199,9 +200,9 @@ ends_cut T reason left left' from mid to service finishes later cause some =
       input = takes_cut reason service.0 left';
       ends = λ told start means.
           let followed = follow told (lines service.0) from mid start service.1.1.0 means in
-          cut_ends reason told start service.0 followed.last DrainAll from.written to.written to.server
-          (up_to start service.0 (lines service.0) [] followed.last followed.said DrainAll followed.runs (sym (append-nil (lines service.0))) refl)
-          (finishes told followed.last followed.means);
+          cut_ends its_summary reason told start service.0 left' followed.last DrainAll from.written mid.written to.written to.server
+          (up_to told start service.0 left' (lines service.0) [] followed.last followed.said DrainAll followed.runs (sym (append-nil (lines service.0))) (refl, service.1.1.1))
+          (λ next said. refl) followed.wrote (finishes told followed.last followed.means);
       later = fewer_more from.server.store.shards.items.items mid.server.store.shards.items.items to.server.store.shards.items.items before.0 later;
       cause = cause_later reason from.server mid.server to.server before.0 cause;
       some = appends_some_more from.written mid.written to.written before.1 some;

@@ -1,6 +1,6 @@
 -- From what the store does to what the machine does.
 use Rattle.std.proofs.Common.{◌≡◌, ℕ, ◌+◌, ◌-◌, ◌<◌, false, List, [], ◌∷◌, ◌++◌, length, Option, Some, None, Result, Ok, Err, IfSome, refl, sym, ap, ◌∙◌, subst, arith, append-nil, length-append, count_by, take}
-use Rattle.std.specs.Prelude.{IsSome, codes}
+use Rattle.std.specs.Prelude.{codes}
 use Rattle.std.specs.Io.KnownBytes.{Appends}
 use Rattle.outside_io.specs.Image.{Image}
 use Rattle.outside_io.specs.declared.disk.Disk.{Ghosts}
@@ -11,23 +11,21 @@ use Rattle.line_frame.specs.Machine.{Runs}
 use Rattle.line_frame.proofs.MachineLemmas.{Runs-none, Runs-more}
 use Rattle.line_service.specs.declared.ends.Stop.{Stop}
 use Rattle.line_service.specs.declared.ends.Stop.TheVariants as stop
-use Rattle.metric_path.specs.Class.{class_of, fnv1a}
-use Rattle.std.proofs.lemmas.Bool.{false≢true}
-use Rattle.std.proofs.lemmas.Nat.{mod_below}
 use Rattle.metric_line.specs.Point.{Point}
 use Rattle.metric_line.specs.declared.fault.LineFault.{LineFault}
 use Rattle.carbon_history.specs.declared.entry.Entry.{Entry}
 use Rattle.carbon_history.specs.declared.entry.PutEnd.{PutEnd}
 use Rattle.carbon_model.specs.State.{State}
 use Rattle.carbon_model.specs.Replay.{DrainsAll, DrainsClasses, DrainsUpTo, after, replay}
-use Rattle.shard_core.specs.Shards.{AllTold, HoldsAll}
+use Rattle.shard_core.specs.Shards.{HoldsAll}
 use Rattle.shard_core.proofs.ShardsLemmas.{failed_later, fewer_more, fewer_none}
-use Rattle.carbon_script.specs.Command.{Command, Metric, Refused, Long, Clock, Ask, DrainAll, Bad, command_of}
+use Rattle.carbon_script.specs.Command.{Command, Metric, Refused, Long, Clock, Ask, DrainAll, Bad, TakesMemory, command_of}
 use Rattle.carbon_script.specs.Counts.{counted, overlong, refused}
 use Rattle.carbon_script.specs.Ends.{stop_of}
-use Rattle.carbon_script.specs.Script.{Does, FailsAt, Machine, RunsShort, ask_entry, fault_entry, count_text, drained_text, drains_word, is_drain, opening, puts_text, put_entry, refusals_text, reply_text, settled, summary_text, with_entries}
-use Rattle.carbon_script.specs.Sessions.{AppendsSome, CutShort, Done, Finishes, GoesLater, HasCause, Means, Obeys, Serves, Stops, Summed, Writes, summary_of}
-use Rattle.carbon_script.specs.Stores.{AsksStore, DrainsOfAll, Keeps, PutsStore, StaysStore, next_ask, reply_in}
+use Rattle.carbon_script.specs.Script.{Does, FailsAt, Machine, RunsShort, ask_entry, fault_entry, count_text, drained_text, drains_word, is_drain, opening, puts_text, put_entry, refusals_text, settled, summary_text, with_entries}
+use Rattle.carbon_script.specs.Sessions.{AppendsSome, CutShort, Done, Finishes, GoesLater, HasCause, Means, Obeys, Serves, Stops, Summed, its_reply, its_summary, summary_of}
+use Rattle.carbon_script.specs.Replies.{IsReply}
+use Rattle.carbon_script.specs.Stores.{AsksStore, DrainsOfAll, Keeps, PutsStore, StaysStore, next_ask}
 use Rattle.carbon_script.specs.declared.counts.Counts.{Counts}
 use Rattle.carbon_script.specs.declared.fault.Fault.{Fault}
 use Rattle.carbon_script.specs.declared.fault.Fault.TheVariants as fault
@@ -48,23 +46,11 @@ pub some_front : (a b : Option (List ℕ)) (text : List ℕ) → AppendsFront a 
 some_front a b text front = (take front.0 text, front.2)
 
 -- the same stop by another name
-pub obeys_as : {D : Type 0} {d : Ghosts D} (T : Type 0) (reason same : Stop) (old : Session D d) (command : Command) (before : Option (List ℕ)) (new : Session D d) (later : Option (List ℕ)) → reason ≡ same → Obeys {T = T} (Err same) old command before new later
-    → Obeys {T = T} (Err reason) old command before new later
-obeys_as T reason same old command before new later is obeys =
-    subst (λ (r : Stop). (told : ℕ → Option Image) (machine : Machine) → Means told old machine → CutShort r told machine command new) (sym is) obeys
-
-pub writes_none : (told : ℕ → Option Image) (a : Option (List ℕ)) → Writes told a a []
-writes_none told a = record { text = []; wrote = Appends-none a; same = λ all. refl }
-
-pub writes_more : (told : ℕ → Option Image) (a b c : Option (List ℕ)) (first second : List ℕ) → Writes told a b first → Writes told b c second → Writes told a c (first ++ second)
-writes_more told a b c first second one other = record {
-  text = one.text ++ other.text;
-  wrote = Appends-more a b c one.text other.text one.wrote other.wrote;
-  same = λ all. ap (λ (t : List ℕ). t ++ other.text) (one.same all) ∙ ap (λ (t : List ℕ). first ++ t) (other.same all);
-}
-
-writes_text : (told : ℕ → Option Image) (before after : Option (List ℕ)) (text said : List ℕ) → Appends before after text → text ≡ said → Writes told before after said
-writes_text told before after text said wrote same = record { text = text; wrote = wrote; same = λ all. same }
+pub cut_as : {D : Type 0} {d : Ghosts D} (reply : Machine → List ℕ → List ℕ) (reason same : Stop) (old : Session D d) (command : Command) (before : Option (List ℕ)) (new : Session D d) (after : Option (List ℕ)) → reason ≡ same
+    → ((told : ℕ → Option Image) (machine : Machine) → Means told old machine → CutShort reply same told machine command before new after)
+    → (told : ℕ → Option Image) (machine : Machine) → Means told old machine → CutShort reply reason told machine command before new after
+cut_as reply reason same old command before new after is cut =
+    subst (λ (r : Stop). (told : ℕ → Option Image) (machine : Machine) → Means told old machine → CutShort reply r told machine command before new after) (sym is) cut
 
 -- ---- commands that say nothing
 
@@ -81,21 +67,18 @@ obeys_put x old new point end written puts clock counts told m means =
         counts = counts ∙ ap (λ (c : Counts). counted c end) means.counts;
         whole = means.whole;
       };
-      wrote = writes_none told written;
+      wrote = Appends-none written;
     }
 
--- nothing was done
-pub short_nothing : (m : Machine) (command : Command) → RunsShort m command m
-short_nothing m (Metric point) = refl
-short_nothing m (Refused reason) = refl
-short_nothing m Long = refl
-short_nothing m (Clock t) = refl
-short_nothing m (Ask q) = refl
-short_nothing m DrainAll = (0, [], (([], [], (refl, (refl, tt))), sym (no_entries m)))
-  where
-    no_entries : (n : Machine) → with_entries n [] ≡ n
-    no_entries n = ap (λ (es : List Entry). record n { entries = es }) (append-nil n.entries)
-short_nothing m Bad = refl
+-- nothing was done of a command that takes memory
+pub short_nothing : (m : Machine) (command : Command) → TakesMemory command → RunsShort m command m
+short_nothing m (Metric point) takes = refl
+short_nothing m (Refused reason) takes = absurd takes
+short_nothing m Long takes = absurd takes
+short_nothing m (Clock t) takes = absurd takes
+short_nothing m (Ask q) takes = refl
+short_nothing m DrainAll takes = absurd takes
+short_nothing m Bad takes = absurd takes
 
 pub means_stays : {D : Type 0} {d : Ghosts D} (told : ℕ → Option Image) (old new : Session D d) (m : Machine) → StaysStore old.store new.store → new.clock ≡ old.clock → new.counts ≡ old.counts → Means told old m → Means told new m
 means_stays told old new m stays clock counts means = record {
@@ -106,77 +89,61 @@ means_stays told old new m stays clock counts means = record {
 }
 
 -- memory ran out before anything was done
-pub cut_nothing : {D : Type 0} {d : Ghosts D} (T : Type 0) (old new : Session D d) (command : Command) (before after : Option (List ℕ)) → StaysStore old.store new.store → new.clock ≡ old.clock → new.counts ≡ old.counts
-    → Obeys {T = T} (Err stop.NoMemory) old command before new after
-cut_nothing T old new command before later stays clock counts told m means = (m, (short_nothing m command, means_stays told old new m stays clock counts means))
+pub cut_nothing : {D : Type 0} {d : Ghosts D} (reply : Machine → List ℕ → List ℕ) (old new : Session D d) (command : Command) (written : Option (List ℕ)) → TakesMemory command → StaysStore old.store new.store → new.clock ≡ old.clock
+    → new.counts ≡ old.counts → (told : ℕ → Option Image) (m : Machine) → Means told old m → CutShort reply stop.NoMemory told m command written new written
+cut_nothing reply old new command written takes stays clock counts told m means = (m, (short_nothing m command takes, (means_stays told old new m stays clock counts means, refl)))
 
 pub stays_same : {D : Type 0} {d : Ghosts D} (old new : Store D d) → new ≡ old → StaysStore old new
 stays_same old new same told s es keeps = rw same keeps
 
 -- ---- questions
 
-few_classes : (path : List ℕ) → class_of path < 16
-few_classes path = mod_below (fnv1a path) 16 (omega arith)
-
-pub told_text : (told : ℕ → Option Image) (path : List ℕ) (a b : List ℕ) → IfSome (told (class_of path)) (λ opening. a ≡ b) → AllTold told → a ≡ b
-told_text told path a b same all = by (told (class_of path)) (all (class_of path) (few_classes path)) same
-  where
-    by : (t : Option Image) → IsSome t → IfSome t (λ opening. a ≡ b) → a ≡ b
-    by None some same = absurd (false≢true some)
-    by (Some opening) some same = same
-
 -- the machine after a question
 pub asked : {D T : Type 0} {d : Ghosts D} (text : T → List ℕ) (said : T) (old new : Session D d) (q : Question) (told : ℕ → Option Image) (m : Machine) → AsksStore text (Ok said) old.store q old.clock new.store → new.clock ≡ old.clock → new.counts ≡ old.counts
-    → Means told old m → (next : Machine) × ((next ≡ with_entries m (ask_entry m ∷ [])) × (Means told new next × (AllTold told → text said ≡ reply_text m q)))
+    → Means told old m → Does told m (Ask q) (with_entries m (ask_entry m ∷ [])) (text said) × Means told new (with_entries m (ask_entry m ∷ []))
 asked text said old new q told m asks clock counts means =
     let done = asks told m.state m.entries means.store in (
-      with_entries m (ask_entry m ∷ []),
-      (
-        refl,
-        (
-          record {
-            store = subst (λ (now : ℕ). Keeps told new.store m.state (m.entries ++ next_ask m.entries now ∷ [])) means.clock done.0;
-            clock = clock ∙ means.clock;
-            counts = counts ∙ means.counts;
-            whole = means.whole;
-          },
-          λ all. told_text told q.path (text said) (reply_in m.state q old.clock) done.1 all ∙ ap (λ (now : ℕ). reply_in m.state q now) means.clock,
-        ),
-      ),
+      (refl, subst (λ (now : ℕ). IsReply told m.state q now (text said)) means.clock done.1),
+      record {
+        store = subst (λ (now : ℕ). Keeps told new.store m.state (m.entries ++ next_ask m.entries now ∷ [])) means.clock done.0;
+        clock = clock ∙ means.clock;
+        counts = counts ∙ means.counts;
+        whole = means.whole;
+      },
     )
 
 pub obeys_ask : {D T U : Type 0} {d : Ghosts D} (x : U) (text : T → List ℕ) (said : T) (old new : Session D d) (q : Question) (before after : Option (List ℕ)) → AsksStore text (Ok said) old.store q old.clock new.store → new.clock ≡ old.clock → new.counts ≡ old.counts
     → Appends before after (text said) → Obeys (Ok x) old (Ask q) before new after
 obeys_ask x text said old new q before after asks clock counts wrote told m means =
     let done = asked text said old new q told m asks clock counts means in record {
-      next = done.0;
-      said = reply_text m q;
-      does = (done.1.0, refl);
-      means = done.1.1.0;
-      wrote = record { text = text said; wrote = wrote; same = done.1.1.1 };
+      next = with_entries m (ask_entry m ∷ []);
+      said = text said;
+      does = done.0;
+      means = done.1;
+      wrote = wrote;
     }
 
--- it could not be written
+-- no more than a front of it could be written
 pub ask_unwritten : {D T : Type 0} {d : Ghosts D} (U : Type 0) (text : T → List ℕ) (said : T) (old new : Session D d) (q : Question) (before after : Option (List ℕ)) → AsksStore text (Ok said) old.store q old.clock new.store → new.clock ≡ old.clock → new.counts ≡ old.counts
-    → Obeys {T = U} (Err stop.WriteFault) old (Ask q) before new after
-ask_unwritten U text said old new q before later asks clock counts told m means =
-    let done = asked text said old new q told m asks clock counts means in (done.0, reply_text m q, ((done.1.0, refl), done.1.1.0))
+    → AppendsFront before after (text said) → Obeys {T = U} (Err stop.WriteFault) old (Ask q) before new after
+ask_unwritten U text said old new q before after asks clock counts wrote told m means =
+    let done = asked text said old new q told m asks clock counts means in (with_entries m (ask_entry m ∷ []), text said, (done.0, (done.1, wrote)))
 
 -- or not be answered
-pub ask_cut : {D T : Type 0} {d : Ghosts D} (U : Type 0) (text : T → List ℕ) (reason : Fault) (old new : Session D d) (q : Question) (before after : Option (List ℕ)) → AsksStore text (Err reason) old.store q old.clock new.store → new.clock ≡ old.clock → new.counts ≡ old.counts
-    → Obeys {T = U} (Err (stop_of reason)) old (Ask q) before new after
-ask_cut U text (fault.Disk class) old new q before later asks clock counts = λ told m means.
+pub ask_cut : {D T : Type 0} {d : Ghosts D} (U : Type 0) (text : T → List ℕ) (reason : Fault) (old new : Session D d) (q : Question) (written : Option (List ℕ)) → AsksStore text (Err reason) old.store q old.clock new.store → new.clock ≡ old.clock → new.counts ≡ old.counts
+    → Obeys {T = U} (Err (stop_of reason)) old (Ask q) written new written
+ask_cut U text (fault.Disk class) old new q written asks clock counts = λ told m means.
     let done = asks.1 told m.state m.entries means.store in (
       with_entries m (ask_entry m ∷ fault_entry class ∷ []),
-      ((sym asks.0, refl), done.entries ∙ ap (λ (now : ℕ). m.entries ++ next_ask m.entries now ∷ fault_entry class ∷ []) means.clock),
+      ((sym asks.0, refl), (done.entries ∙ ap (λ (now : ℕ). m.entries ++ next_ask m.entries now ∷ fault_entry class ∷ []) means.clock, refl)),
     )
-ask_cut U text fault.NoMemory old new q before later asks clock counts = cut_nothing U old new (Ask q) before later asks clock counts
+ask_cut U text fault.NoMemory old new q written asks clock counts = cut_nothing its_reply old new (Ask q) written tt asks clock counts
 
 -- ---- drains
 
 -- the machine after all drains
 pub drained_all : {D T : Type 0} {d : Ghosts D} (x : T) (old new : Session D d) (count : ℕ) (told : ℕ → Option Image) (m : Machine) → DrainsOfAll (Ok x) old.store old.clock new.store → count ≡ length new.store.history.entries - length old.store.history.entries
-    → new.clock ≡ old.clock → new.counts ≡ old.counts → Means told old m → (next : Machine) × (Does m DrainAll next (drained_text count) × Means told new next)
+    → new.clock ≡ old.clock → new.counts ≡ old.counts → Means told old m → (next : Machine) × (Does told m DrainAll next (drained_text count) × Means told new next)
 drained_all x old new count told m drains counted clock counts means =
     let done = drains told m.state m.entries means.store in
     let made = subst (λ (now : ℕ). DrainsAll m.state 0 now done.0) means.clock done.1.0 in
@@ -194,24 +161,27 @@ drained_all x old new count told m drains counted clock counts means =
       ),
     )
 
-pub drain_cut : {D : Type 0} {d : Ghosts D} (T U : Type 0) (reason : Fault) (old new : Session D d) (before after : Option (List ℕ)) → DrainsOfAll {T = T} (Err reason) old.store old.clock new.store → new.clock ≡ old.clock → new.counts ≡ old.counts
-    → Obeys {T = U} (Err (stop_of reason)) old DrainAll before new after
-drain_cut T U (fault.Disk class) old new before later drains clock counts told m means =
+pub drain_cut : {D : Type 0} {d : Ghosts D} (T : Type 0) (reply : Machine → List ℕ → List ℕ) (reason : Fault) (old new : Session D d) (written : Option (List ℕ)) → DrainsOfAll {T = T} (Err reason) old.store old.clock new.store → new.clock ≡ old.clock
+    → new.counts ≡ old.counts → (told : ℕ → Option Image) (m : Machine) → Means told old m → CutShort reply (stop_of reason) told m DrainAll written new written
+drain_cut T reply (fault.Disk class) old new written drains clock counts told m means =
     let done = drains told m.state m.entries means.store in (
       with_entries m (done.0 ++ fault_entry class ∷ []),
-      ((done.0, (subst (λ (now : ℕ). DrainsUpTo m.state 0 class now done.0) means.clock done.1.0, refl)), done.1.1),
+      ((done.0, (subst (λ (now : ℕ). DrainsUpTo m.state 0 class now done.0) means.clock done.1.0, refl)), (done.1.1, refl)),
     )
-drain_cut T U fault.NoMemory old new before later drains clock counts told m means =
+drain_cut T reply fault.NoMemory old new written drains clock counts told m means =
     let done = drains told m.state m.entries means.store in (
       with_entries m done.1,
       (
         (done.0, done.1, (subst (λ (now : ℕ). DrainsUpTo m.state 0 done.0 now done.1) means.clock done.2.0, refl)),
-        record {
-          store = done.2.1;
-          clock = clock ∙ means.clock;
-          counts = counts ∙ means.counts;
-          whole = means.whole;
-        },
+        (
+          record {
+            store = done.2.1;
+            clock = clock ∙ means.clock;
+            counts = counts ∙ means.counts;
+            whole = means.whole;
+          },
+          refl,
+        ),
       ),
     )
 
@@ -230,7 +200,7 @@ finishes x y old new count text before after drains counted clock counts said wr
       said = drained_text count;
       does = done.1.0;
       means = done.1.1;
-      wrote = writes_text told before after text (summary_text done.0) wrote (said ∙ summary_is told new done.0 done.1.1);
+      wrote = subst (λ (t : List ℕ). Appends before after t) (said ∙ summary_is told new done.0 done.1.1) wrote;
     }
 
 pub obeys_drain : {D T U : Type 0} {d : Ghosts D} (x : T) (y : U) (old new : Session D d) (count : ℕ) (text : List ℕ) (before after : Option (List ℕ)) → DrainsOfAll (Ok x) old.store old.clock new.store
@@ -241,30 +211,43 @@ obeys_drain x y old new count text before after drains counted clock counts said
       said = drained_text count;
       does = done.1.0;
       means = done.1.1;
-      wrote = writes_text told before after text (drained_text count) wrote said;
+      wrote = subst (λ (t : List ℕ). Appends before after t) said wrote;
     }
 
--- all was drained, but that could not be written
-pub drain_unwritten : {D T : Type 0} {d : Ghosts D} (x : T) (old new : Session D d) (count : ℕ) → DrainsOfAll (Ok x) old.store old.clock new.store → count ≡ length new.store.history.entries - length old.store.history.entries
-    → new.clock ≡ old.clock → new.counts ≡ old.counts → (told : ℕ → Option Image) (m : Machine) → Means told old m → CutShort stop.WriteFault told m DrainAll new
-drain_unwritten x old new count drains counted clock counts told m means =
-    let done = drained_all x old new count told m drains counted clock counts means in (done.0, drained_text count, done.1)
+-- all was drained, but no more than a front of that could be written
+pub drain_unwritten : {D T : Type 0} {d : Ghosts D} (x : T) (old new : Session D d) (count : ℕ) (text : List ℕ) (before after : Option (List ℕ)) → DrainsOfAll (Ok x) old.store old.clock new.store
+    → count ≡ length new.store.history.entries - length old.store.history.entries → new.clock ≡ old.clock → new.counts ≡ old.counts → text ≡ drained_text count → AppendsFront before after text
+    → (told : ℕ → Option Image) (m : Machine) → Means told old m → CutShort its_reply stop.WriteFault told m DrainAll before new after
+drain_unwritten x old new count text before after drains counted clock counts said wrote told m means =
+    let done = drained_all x old new count told m drains counted clock counts means in
+    (done.0, drained_text count, (done.1.0, (done.1.1, subst (λ (t : List ℕ). AppendsFront before after t) said wrote)))
+
+-- or of the summary
+pub unfinished : {D T : Type 0} {d : Ghosts D} (x : T) (old new : Session D d) (count : ℕ) (text : List ℕ) (before after : Option (List ℕ)) → DrainsOfAll (Ok x) old.store old.clock new.store
+    → count ≡ length new.store.history.entries - length old.store.history.entries → new.clock ≡ old.clock → new.counts ≡ old.counts → text ≡ summary_of new → AppendsFront before after text
+    → (told : ℕ → Option Image) (m : Machine) → Means told old m → CutShort its_summary stop.WriteFault told m DrainAll before new after
+unfinished x old new count text before after drains counted clock counts said wrote told m means =
+    let done = drained_all x old new count told m drains counted clock counts means in
+    (done.0, drained_text count, (done.1.0, (done.1.1, subst (λ (t : List ℕ). AppendsFront before after t) (said ∙ summary_is told new done.0 done.1.1) wrote)))
 
 -- or there was no memory for what is to be written
-pub drain_short : {D T : Type 0} {d : Ghosts D} (x : T) (old new : Session D d) → DrainsOfAll (Ok x) old.store old.clock new.store → new.clock ≡ old.clock → new.counts ≡ old.counts
-    → (told : ℕ → Option Image) (m : Machine) → Means told old m → CutShort stop.NoMemory told m DrainAll new
+pub drain_short : {D T : Type 0} {d : Ghosts D} (reply : Machine → List ℕ → List ℕ) (x : T) (old new : Session D d) (written : Option (List ℕ)) → DrainsOfAll (Ok x) old.store old.clock new.store → new.clock ≡ old.clock → new.counts ≡ old.counts
+    → (told : ℕ → Option Image) (m : Machine) → Means told old m → CutShort reply stop.NoMemory told m DrainAll written new written
 unfolding DrainsAll
-drain_short x old new drains clock counts told m means =
+drain_short reply x old new written drains clock counts told m means =
     let done = drains told m.state m.entries means.store in (
       with_entries m done.0,
       (
         (16, done.0, ((done.0, [], (sym (append-nil done.0), (subst (λ (now : ℕ). DrainsClasses m.state 0 16 now done.0) means.clock done.1.0, tt))), refl)),
-        record {
-          store = done.1.1;
-          clock = clock ∙ means.clock;
-          counts = counts ∙ means.counts;
-          whole = means.whole;
-        },
+        (
+          record {
+            store = done.1.1;
+            clock = clock ∙ means.clock;
+            counts = counts ∙ means.counts;
+            whole = means.whole;
+          },
+          refl,
+        ),
       ),
     )
 
@@ -287,7 +270,7 @@ obeys_refused x old new reason written store clock counts told m means = record 
     counts = counts ∙ ap (λ (c : Counts). refused c reason) means.counts;
     whole = means.whole;
   };
-  wrote = writes_none told written;
+  wrote = Appends-none written;
 }
 
 pub obeys_long : {D T : Type 0} {d : Ghosts D} (x : T) (old new : Session D d) (written : Option (List ℕ)) → new.store ≡ old.store → new.clock ≡ old.clock → new.counts ≡ overlong old.counts → Obeys (Ok x) old Long written new written
@@ -301,7 +284,7 @@ obeys_long x old new written store clock counts told m means = record {
     counts = counts ∙ ap overlong means.counts;
     whole = means.whole;
   };
-  wrote = writes_none told written;
+  wrote = Appends-none written;
 }
 
 pub obeys_clock : {D T : Type 0} {d : Ghosts D} (x : T) (old new : Session D d) (moment : ℕ) (written : Option (List ℕ)) → new.store ≡ old.store → new.clock ≡ moment → new.counts ≡ old.counts → Obeys (Ok x) old (Clock moment) written new written
@@ -315,13 +298,13 @@ obeys_clock x old new moment written store clock counts told m means = record {
     counts = counts ∙ means.counts;
     whole = means.whole;
   };
-  wrote = writes_none told written;
+  wrote = Appends-none written;
 }
 
 -- memory ran out before a line was read
-pub stops_nothing : {D : Type 0} {d : Ghosts D} (code : Session D d) (line : Line) (written : Option (List ℕ)) → Stops code line written stop.NoMemory code written
-stops_nothing code line written = record {
-  cut = λ told m means. (m, (short_nothing m (command_of line m.clock), means));
+pub stops_nothing : {D : Type 0} {d : Ghosts D} (code : Session D d) (line : Line) (written : Option (List ℕ)) → TakesMemory (command_of line code.clock) → Stops code line written stop.NoMemory code written
+stops_nothing code line written takes = record {
+  cut = λ told m means. (m, (short_nothing m (command_of line m.clock) (subst (λ (now : ℕ). TakesMemory (command_of line now)) means.clock takes), (means, refl)));
   later = later_none code;
   cause = tt;
   some = appends_some_none written;
@@ -339,7 +322,7 @@ serves_line x old new line command before later is obeys goes some = record {
 pub stops_line : {D : Type 0} {d : Ghosts D} (T : Type 0) (reason : Stop) (old new : Session D d) (line : Line) (command : Command) (before later : Option (List ℕ)) → command ≡ command_of line old.clock → Obeys {T = T} (Err reason) old command before new later
     → GoesLater old new → HasCause reason old new → AppendsSome before later → Stops old line before reason new later
 stops_line T reason old new line command before later is obeys goes cause some = record {
-  cut = λ told m means. subst (λ (c : Command). CutShort reason told m c new) (is ∙ ap (command_of line) means.clock) (obeys told m means);
+  cut = λ told m means. subst (λ (c : Command). CutShort its_reply reason told m c before new later) (is ∙ ap (command_of line) means.clock) (obeys told m means);
   later = goes;
   cause = cause;
   some = some;

@@ -12,7 +12,6 @@ use Rattle.carbon_history.specs.declared.entry.PutEnd.{PutEnd}
 use Rattle.carbon_history.specs.declared.entry.PutEnd.TheVariants.{Stored, Replaced, Full}
 use Rattle.carbon_model.specs.State.{State}
 use Rattle.carbon_model.specs.Replay.{DrainsAll, DrainsClass, DrainsClasses, DrainsSome, DrainsUpTo, IsDrainOf, IsLegal, after, replay}
-use Rattle.carbon_model.specs.Series.{series_at}
 use Rattle.carbon_model.specs.declared.series.Series.{Series}
 use Rattle.carbon_model.proofs.HistoryLemmas.{replay-append}
 use Rattle.ring_archive.specs.declared.fault.RingFault.{RingFault}
@@ -22,9 +21,9 @@ use Rattle.shard_core.proofs.ShardsLemmas.{failed_later, fewer_more, fewer_none}
 use Rattle.carbon_script.specs.Answer.{answer_text}
 use Rattle.carbon_script.specs.Faults.{CountsDisks, HasCause}
 use Rattle.carbon_script.specs.PutEnds.{put_of}
-use Rattle.carbon_script.specs.Replies.{reply_of}
+use Rattle.carbon_script.specs.Replies.{IsReply, reply_of}
 use Rattle.carbon_script.specs.Script.{ask_number, fault_entry, greatest_ask, put_entry}
-use Rattle.carbon_script.specs.Stores.{AsksStore, DrainFailed, Drained, DrainsOfAll, DrainsOfClass, DrainsStore, Keeps, PutsStore, StaysStore, next_ask, reply_in}
+use Rattle.carbon_script.specs.Stores.{AsksStore, DrainFailed, Drained, DrainsOfAll, DrainsOfClass, DrainsStore, Keeps, PutsStore, StaysStore, next_ask}
 use Rattle.carbon_script.specs.declared.fault.Fault.{Fault}
 use Rattle.carbon_script.specs.declared.fault.Fault.TheVariants.{Disk, NoMemory}
 use Rattle.carbon_script.specs.declared.question.Question.{Question}
@@ -89,19 +88,15 @@ put_stays old new path time value puts entries asks told s es keeps = record {
 pub asks_store : {D : Type 0} {d : Ghosts D} (old mid new : Store D d) (q : Question) (now number : ℕ) (series : Option Series) → StayAll old.shards.items.items mid.shards.items.items → ShowsAt old.shards.items.items q.path now q.from q.until series
     → number ≡ old.asks + 1 → new.history.entries ≡ old.history.entries ++ entry.Ask 0 number 1 now ∷ [] → new.asks ≡ number → new.shards ≡ mid.shards
     → (told : ℕ → Option Image) (s : State) (es : List Entry) → Keeps told old s es
-    → Keeps told new s (es ++ next_ask es now ∷ []) × IfSome (told (class_of q.path)) (λ opening. reply_of q.path series ≡ reply_in s q now)
+    → Keeps told new s (es ++ next_ask es now ∷ []) × IsReply told s q now (reply_of q.path series)
 asks_store old mid new q now number series stay shows next entered asks same told s es keeps = (
   record {
     shards = rw same (stay told s keeps.shards);
     entries = entered ∙ ap (λ (xs : List Entry). xs ++ entry.Ask 0 number 1 now ∷ []) keeps.entries ∙ ap (λ (n : ℕ). es ++ entry.Ask 0 n 1 now ∷ []) (next ∙ ap (λ (n : ℕ). n + 1) keeps.asks);
     asks = asks ∙ next ∙ ap (λ (n : ℕ). n + 1) keeps.asks ∙ sym (greatest_next es now);
   },
-  replied (told (class_of q.path)) (shows told s keeps.shards),
+  (series, (refl, shows told s keeps.shards)),
 )
-  where
-    replied : (t : Option Image) → IfSome t (λ opening. series ≡ series_at s q.path now q.from q.until) → IfSome t (λ opening. reply_of q.path series ≡ reply_in s q now)
-    replied None shown = tt
-    replied (Some opening) shown = ap (reply_of q.path) shown
 
 pub ask_failed : {D : Type 0} {d : Ghosts D} (old mid new : Store D d) (q : Question) (now number class : ℕ) → StayAll old.shards.items.items mid.shards.items.items
     → number ≡ old.asks + 1 → new.history.entries ≡ (old.history.entries ++ entry.Ask 0 number 1 now ∷ []) ++ fault_entry class ∷ [] → new.asks ≡ number → new.shards ≡ mid.shards

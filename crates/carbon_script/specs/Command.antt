@@ -76,9 +76,8 @@ form_moment text = option_and_then (λ t. if nat_le t greatest_moment then Some 
 unfoldable pub question_of : List ℕ → List ℕ → List ℕ → Option Question
 question_of path from until =
     option_and_then (λ f.
-    option_and_then (λ u.
-    option_and_then (λ p. if nat_le f u then Some (record { path = p; from = f; until = u }) else None)
-    (form_path path)) (form_moment until)) (form_moment from)
+    option_and_then (λ u. if nat_le f u then option_map (λ p. record { path = p; from = f; until = u }) (form_path path) else None)
+    (form_moment until)) (form_moment from)
 
 -- `PATH&from=N&until=N`
 unfoldable pub question_in : List ℕ → Option Question
@@ -126,6 +125,16 @@ is_command line = starts_with nat_eq line (codes "!")
 abbrev pub metric_or_refused : Result Point LineFault → Command
 metric_or_refused (Ok p) = Metric p
 metric_or_refused (Err fault) = Refused fault
+
+-- To read the command takes memory: it holds a path. A line that is refused, or says nothing known, is read without any.
+abbrev pub TakesMemory : Command → Type 0
+TakesMemory (Metric point) = Unit {0}
+TakesMemory (Ask question) = Unit {0}
+TakesMemory (Refused fault) = ⊥
+TakesMemory Long = ⊥
+TakesMemory (Clock moment) = ⊥
+TakesMemory DrainAll = ⊥
+TakesMemory Bad = ⊥
 
 -- what a line says while the clock stands at a moment
 abbrev pub command_of : Line → ℕ → Command

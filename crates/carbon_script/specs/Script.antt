@@ -1,5 +1,7 @@
 -- The run of a script: what a carbon on one thread does with lines and commands.
-use Rattle.std.specs.Prelude.{◌≡◌, ◌⊎◌, ◌≤◌, ℕ, ◌+◌, ◌==◌, Bool, true, false, max, List, [], ◌∷◌, ◌++◌, length, fold, codes, decimal, count_by, if◌then◌else◌}
+use Rattle.std.specs.Prelude.{◌≡◌, ◌⊎◌, ◌≤◌, ◌<◌, ◌^◌, ℕ, ◌+◌, ◌==◌, Bool, true, false, max, List, [], ◌∷◌, ◌++◌, Option, length, take, fold, codes, decimal, count_by, if◌then◌else◌}
+use Rattle.std.specs.Io.KnownBytes.{Appends, IsAtEnd}
+use Rattle.outside_io.specs.Image.{Image}
 use Rattle.line_frame.specs.Lines.{Line, lines}
 use Rattle.line_frame.specs.Machine.{Runs}
 use Rattle.metric_path.specs.Class.{class_of}
@@ -9,8 +11,7 @@ use Rattle.carbon_history.specs.declared.entry.Entry.TheVariants as entry
 use Rattle.carbon_history.specs.declared.entry.PutEnd.{PutEnd}
 use Rattle.carbon_model.specs.State.{State}
 use Rattle.carbon_model.specs.Replay.{DrainsAll, DrainsUpTo, IsLegal, replay}
-use Rattle.carbon_model.specs.Series.{series_at}
-use Rattle.carbon_script.specs.Answer.{answer_text}
+use Rattle.carbon_script.specs.Replies.{IsReply}
 use Rattle.carbon_script.specs.Command.{Command, Metric, Refused, Long, Clock, Ask, DrainAll, Bad, command_of}
 use Rattle.carbon_script.specs.Counts.{no_counts, counted, refused, overlong}
 use Rattle.carbon_script.specs.declared.counts.Counts.{Counts}
@@ -65,10 +66,6 @@ fault_entry class = entry.Fault 0 class
 unfoldable pub bad_command : List ℕ
 bad_command = codes "bad command\n"
 
--- the answer to a question, with a line end
-abbrev pub reply_text : Machine → Question → List ℕ
-reply_text m q = answer_text q.path (series_at m.state q.path m.clock q.from q.until) ++ codes "\n"
-
 -- a number behind a word
 abbrev pub count_text : List ℕ → ℕ → List ℕ
 count_text word n = word ++ decimal n
@@ -82,23 +79,24 @@ drained_text n = count_text drained_word n ++ codes "\n"
 
 -- ---- the steps
 
--- What a script may do at a command, and what it writes. A point is put as the history allows, a line that is refused or too long is
--- counted, a question is one entry and is answered, and all that is pending is drained, class by class, each metric as its class picks it.
-abbrev pub Does : Machine → Command → Machine → List ℕ → Type 0
-Does m (Metric point) next said =
+-- What a script over disks that told these images at the opening may do at a command, and what it writes. A point is put as the history allows, a
+-- line that is refused or too long is counted, a question is one entry and is answered, and all that is pending is drained, class by class, each
+-- metric as its class picks it.
+abbrev pub Does : (ℕ → Option Image) → Machine → Command → Machine → List ℕ → Type 0
+Does told m (Metric point) next said =
     (end : PutEnd) × (IsLegal m.state (put_entry point end)
     × ((next ≡ record (with_entries m (put_entry point end ∷ [])) { counts = counted m.counts end }) × (said ≡ [])))
-Does m (Refused fault) next said = (next ≡ record m { counts = refused m.counts fault }) × (said ≡ [])
-Does m Long next said = (next ≡ record m { counts = overlong m.counts }) × (said ≡ [])
-Does m (Clock t) next said = (next ≡ record m { clock = t }) × (said ≡ [])
-Does m (Ask q) next said = (next ≡ with_entries m (ask_entry m ∷ [])) × (said ≡ reply_text m q)
-Does m DrainAll next said =
+Does told m (Refused fault) next said = (next ≡ record m { counts = refused m.counts fault }) × (said ≡ [])
+Does told m Long next said = (next ≡ record m { counts = overlong m.counts }) × (said ≡ [])
+Does told m (Clock t) next said = (next ≡ record m { clock = t }) × (said ≡ [])
+Does told m (Ask q) next said = (next ≡ with_entries m (ask_entry m ∷ [])) × IsReply told m.state q m.clock said
+Does told m DrainAll next said =
     (drains : List Entry) × (DrainsAll m.state 0 m.clock drains
     × ((next ≡ settled (with_entries m drains)) × (said ≡ drained_text (length drains))))
-Does m Bad next said = (next ≡ m) × (said ≡ bad_command)
+Does told m Bad next said = (next ≡ m) × (said ≡ bad_command)
 
-abbrev pub Steps : Machine → Line → Machine → List ℕ → Type 0
-Steps m line next said = Does m (command_of line m.clock) next said
+abbrev pub Steps : (ℕ → Option Image) → Machine → Line → Machine → List ℕ → Type 0
+Steps told m line next said = Does told m (command_of line m.clock) next said
 
 -- ---- commands that are cut short
 
@@ -114,15 +112,15 @@ FailsAt m Long class next = ⊥
 FailsAt m (Clock t) class next = ⊥
 FailsAt m Bad class next = ⊥
 
--- Memory runs out: nothing was done, or some of the drains.
+-- Memory runs out: a point is not put, or a question not asked, or some of the drains were made. Nothing else takes memory.
 abbrev pub RunsShort : Machine → Command → Machine → Type 0
 RunsShort m DrainAll next = (class : ℕ) × (drains : List Entry) × (DrainsUpTo m.state 0 class m.clock drains × (next ≡ with_entries m drains))
 RunsShort m (Ask q) next = next ≡ m
 RunsShort m (Metric point) next = next ≡ m
-RunsShort m (Refused fault) next = next ≡ m
-RunsShort m Long next = next ≡ m
-RunsShort m (Clock t) next = next ≡ m
-RunsShort m Bad next = next ≡ m
+RunsShort m (Refused fault) next = ⊥
+RunsShort m Long next = ⊥
+RunsShort m (Clock t) next = ⊥
+RunsShort m Bad next = ⊥
 
 abbrev pub is_drain : Entry → Bool
 is_drain (entry.Drain pass path now) = true
@@ -172,21 +170,35 @@ summary_text m = puts_text m.counts ++ (refusals_text m.counts ++ (count_text dr
 
 -- From `start` the script of these bytes comes to the machine `end`, and writes this text: that of its lines in order, and, once all that is
 -- still pending was drained, the summary.
-abbrev pub ScriptRun : Machine → List ℕ → Machine → List ℕ → Type 0
-ScriptRun start input end text =
-    (last : Machine) × (said : List ℕ) × (count : List ℕ) × (Runs Steps start (lines input) last said
-    × (Does last DrainAll end count × (text ≡ said ++ summary_text end)))
+abbrev pub ScriptRun : (ℕ → Option Image) → Machine → List ℕ → Machine → List ℕ → Type 0
+ScriptRun told start input end text =
+    (last : Machine) × (said : List ℕ) × (count : List ℕ) × (Runs (Steps told) start (lines input) last said
+    × (Does told last DrainAll end count × (text ≡ said ++ summary_text end)))
 
--- Of the lines of these bytes the script served the first ones, and came to the machine `last`; the next command was this one, that of the
--- next line or, behind the last line of an input that has come to its end, the drain of all that is still pending.
-abbrev pub IsNext : List Line → ℕ → Command → Type 0
-IsNext [] now command = command ≡ DrainAll
-IsNext (line ∷ others) now command = command ≡ command_of line now
+-- the input came to its end before its limit
+abbrev pub IsReadOut : List ℕ → Option (List ℕ) → Type 0
+IsReadOut taken left = IsAtEnd left × (length taken < 2 ^ 40)
 
-pub record ServesUpTo (start : Machine) (input : List ℕ) (last : Machine) (command : Command) : Type 0 where
+-- The next command is that of the next line or, behind the last line of an input that came to its end, the drain of all that is still pending.
+abbrev pub IsNext : List ℕ → Option (List ℕ) → List Line → ℕ → Command → Type 0
+IsNext taken left [] now command = (command ≡ DrainAll) × IsReadOut taken left
+IsNext taken left (line ∷ others) now command = command ≡ command_of line now
+
+-- what is written of a command that was done: what it says, and behind the last line the summary
+abbrev pub reply_at : List Line → Machine → List ℕ → List ℕ
+reply_at [] next said = summary_text next
+reply_at (line ∷ others) next said = said
+
+-- Of the lines of the bytes `taken`, behind which so much of the input is left, the script served the first ones, came to the machine `last`, and
+-- said this; the next command was this one.
+pub record ServesUpTo (told : ℕ → Option Image) (start : Machine) (taken : List ℕ) (left : Option (List ℕ)) (last : Machine) (command : Command) : Type 0 where
   pub handed : List Line
   pub others : List Line
   pub said : List ℕ
-  pub runs : Runs Steps start handed last said
-  pub split : lines input ≡ handed ++ others
-  pub next : IsNext others last.clock command
+  pub runs : Runs (Steps told) start handed last said
+  pub split : lines taken ≡ handed ++ others
+  pub next : IsNext taken left others last.clock command
+
+-- the whole of a text was written, and a front of another one behind it
+abbrev pub AppendsPart : Option (List ℕ) → Option (List ℕ) → List ℕ → List ℕ → Type 0
+AppendsPart before after whole part = (count : ℕ) × (count ≤ length part) × Appends before after (whole ++ take count part)

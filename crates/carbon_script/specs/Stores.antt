@@ -1,5 +1,5 @@
 -- What a store on one thread stands for, and what its calls make of that.
-use Rattle.std.specs.Prelude.{◌≡◌, ℕ, ◌+◌, true, false, Bool, List, [], ◌∷◌, ◌++◌, Option, Some, IfSome, Result, Ok, Err, codes}
+use Rattle.std.specs.Prelude.{◌≡◌, ℕ, ◌+◌, true, false, Bool, List, [], ◌∷◌, ◌++◌, Option, Some, Result, Ok, Err}
 use Rattle.outside_io.specs.Image.{Image}
 use Rattle.outside_io.specs.declared.disk.Disk.{Ghosts}
 use Rattle.metric_path.specs.Class.{class_of}
@@ -9,9 +9,8 @@ use Rattle.carbon_history.specs.declared.entry.Entry.TheVariants as entry
 use Rattle.carbon_history.specs.declared.entry.PutEnd.{PutEnd}
 use Rattle.carbon_model.specs.State.{State}
 use Rattle.carbon_model.specs.Replay.{DrainsAll, DrainsClass, DrainsSome, DrainsUpTo, IsDrainOf, IsLegal, after, replay}
-use Rattle.carbon_model.specs.Series.{series_at}
 use Rattle.shard_core.specs.Shards.{HoldsAll}
-use Rattle.carbon_script.specs.Answer.{answer_text}
+use Rattle.carbon_script.specs.Replies.{IsReply}
 use Rattle.carbon_script.specs.Script.{fault_entry, greatest_ask, put_entry}
 use Rattle.carbon_script.specs.declared.fault.Fault.{Fault}
 use Rattle.carbon_script.specs.declared.fault.Fault.TheVariants.{Disk, NoMemory}
@@ -45,16 +44,12 @@ PutsStore old point end new =
 abbrev pub next_ask : List Entry → ℕ → Entry
 next_ask entries now = entry.Ask 0 (greatest_ask 0 entries + 1) 1 now
 
--- the answer to a question, with a line end
-abbrev pub reply_in : State → Question → ℕ → List ℕ
-reply_in s q now = answer_text q.path (series_at s q.path now q.from q.until) ++ codes "\n"
-
--- What became of a question at a moment. The text is told of a state whose disk tells what it holds; the question and the fault of a disk
--- are entered; want of memory changes nothing.
+-- What became of a question at a moment. It is answered and entered; the question and the fault of a disk are entered; want of memory changes
+-- nothing.
 abbrev pub AsksStore : {D : Type 0} {d : Ghosts D} {T : Type 0} → (T → List ℕ) → Result T Fault → Store D d → Question → ℕ → Store D d → Type 0
 AsksStore text (Ok said) old q now new =
     (told : ℕ → Option Image) (s : State) (entries : List Entry) → Keeps told old s entries
-    → Keeps told new s (entries ++ next_ask entries now ∷ []) × IfSome (told (class_of q.path)) (λ opening. text said ≡ reply_in s q now)
+    → Keeps told new s (entries ++ next_ask entries now ∷ []) × IsReply told s q now (text said)
 AsksStore text (Err (Disk class)) old q now new =
     (class ≡ class_of q.path) × ((told : ℕ → Option Image) (s : State) (entries : List Entry) → Keeps told old s entries
     → Keeps told new s (entries ++ next_ask entries now ∷ fault_entry class ∷ []))

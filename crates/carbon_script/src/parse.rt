@@ -1,8 +1,8 @@
-ghost use Rattle.std.specs.Prelude.{◌≡◌, ◌≤◌, IfOk, IfSome, true, length, nat_eq, nat_le, option_map, position, Some, None, if◌then◌else◌};
+ghost use Rattle.std.specs.Prelude.{◌≡◌, ◌≤◌, IfOk, IfSome, IsSome, OnErr, true, length, nat_eq, nat_le, option_map, position, Some, None, if◌then◌else◌};
 ghost use Rattle.std.specs.List.{list_any, starts_with};
 ghost use Rattle.fixed_num.specs.Whole.{whole_number};
 ghost use Rattle.line_frame.specs.Lines.{Whole};
-ghost use Rattle.carbon_script.specs.Command.{behind, clock_word, ask_word, from_word, until_word, clock_moment, set_clock, asked, cut_at_ampersand, ten_digits, is_ampersand, is_form_byte, form_path, form_moment, question_of, question_in, command_in, command_of, is_command, is_drain_all};
+ghost use Rattle.carbon_script.specs.Command.{behind, clock_word, ask_word, from_word, until_word, clock_moment, set_clock, asked, cut_at_ampersand, ten_digits, is_ampersand, is_form_byte, form_path, form_moment, question_of, question_in, command_in, command_of, is_command, is_drain_all, TakesMemory};
 ghost use Rattle.metric_line.specs.Moment.{is_moment};
 ghost use Rattle.carbon_script.specs.SeenCommand.{seen_command, IsSound};
 ghost use Rattle.carbon_script.specs.Windows.{IsQuestion};
@@ -14,12 +14,13 @@ use metric_line::{GREATEST_MOMENT, LineFault, legal_moment, read_line};
 use metric_path::{MetricPath, PathFault};
 use std::alloc::{AllocError, Global};
 
-/// Reads a line of a script, while its clock stands at `now`.
+/// Reads a line of a script, while its clock stands at `now`. Memory is taken for the path of a metric line that is accepted or of a
+/// question, and for nothing else.
 pub fn read_command(alloc: Global, line: &[u8], now: u32) -> Result<Command, AllocError>
-    requires moment { is_moment now ≡ true }
-    requires bytes { length line.now ≤ 16384 }
+    requires { is_moment now ≡ true }
     ensures command { IfOk result (λ command. seen_command command ≡ command_of (Whole line.now) now) }
     ensures sound { IfOk result IsSound }
+    ensures memory { OnErr result (TakesMemory (command_of (Whole line.now) now)) }
 {
     if is_command(line) {
         return read_command_in(alloc, line);
@@ -41,6 +42,7 @@ fn is_command(line: &[u8]) -> bool
 fn read_command_in(alloc: Global, line: &[u8]) -> Result<Command, AllocError>
     ensures command { IfOk result (λ command. seen_command command ≡ command_in line.now) }
     ensures sound { IfOk result IsSound }
+    ensures memory { OnErr result (TakesMemory (command_in line.now)) }
 {
     if let Some(moment) = read_set_clock(line) {
         return Ok(Command::Clock(moment));
@@ -89,6 +91,7 @@ fn read_short_number(text: &[u8]) -> Option<u64>
 fn read_asked(alloc: Global, line: &[u8]) -> Result<Option<Question>, AllocError>
     ensures question { IfOk result (λ question. question ≡ asked line.now) }
     ensures sound { IfOk result (λ question. IfSome question IsQuestion) }
+    ensures memory { OnErr result (IsSome (asked line.now)) }
 {
     match behind_ask_word(line) {
         Some(text) => read_question(alloc, text),
@@ -100,6 +103,7 @@ fn read_asked(alloc: Global, line: &[u8]) -> Result<Option<Question>, AllocError
 fn read_question(alloc: Global, text: &[u8]) -> Result<Option<Question>, AllocError>
     ensures question { IfOk result (λ question. question ≡ question_in text.now) }
     ensures sound { IfOk result (λ question. IfSome question IsQuestion) }
+    ensures memory { OnErr result (IsSome (question_in text.now)) }
 {
     let Some((path, ends)) = cut_at_ampersand(text) else {
         return Ok(None);
@@ -125,6 +129,7 @@ fn read_question_of(
 ) -> Result<Option<Question>, AllocError>
     ensures question { IfOk result (λ question. question ≡ question_of path.now from.now until.now) }
     ensures sound { IfOk result (λ question. IfSome question IsQuestion) }
+    ensures memory { OnErr result (IsSome (question_of path.now from.now until.now)) }
 {
     let Some(from) = read_form_moment(from) else {
         return Ok(None);
@@ -132,12 +137,12 @@ fn read_question_of(
     let Some(until) = read_form_moment(until) else {
         return Ok(None);
     };
-    let Some(path) = read_form_path(alloc, path)? else {
-        return Ok(None);
-    };
     if from > until {
         return Ok(None);
     }
+    let Some(path) = read_form_path(alloc, path)? else {
+        return Ok(None);
+    };
     Ok(Some(Question { path, from, until }))
 }
 
@@ -156,7 +161,8 @@ fn read_form_moment(text: &[u8]) -> Option<u32>
 
 #[tactic(auto, unfolding(crate::specs::Command::form_path))]
 fn read_form_path(alloc: Global, text: &[u8]) -> Result<Option<MetricPath>, AllocError>
-    ensures { IfOk result (λ path. path ≡ form_path text.now) }
+    ensures path { IfOk result (λ path. path ≡ form_path text.now) }
+    ensures memory { OnErr result (IsSome (form_path text.now)) }
 {
     if has_form_byte(text) {
         return Ok(None);

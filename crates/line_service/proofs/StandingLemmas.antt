@@ -1,16 +1,15 @@
 -- How a service gets on, line by line and piece by piece.
-use Rattle.std.proofs.Common.{◌≡◌, ℕ, ◌+◌, ◌<◌, ◌^◌, List, [], ◌∷◌, ◌++◌, Option, Some, length, refl, sym, ap, ◌∙◌, subst, append_assoc, append-nil, arith, length-append}
+use Rattle.std.proofs.Common.{◌≡◌, inl, inr, ℕ, ◌+◌, ◌<◌, ◌^◌, List, [], ◌∷◌, ◌++◌, Option, Some, length, refl, sym, ap, ◌∙◌, subst, append_assoc, append-nil, arith, length-append}
 use Rattle.std.specs.Io.KnownBytes.{Consumes, Keeps, IsAtEnd}
-use Rattle.line_frame.specs.Lines.{Line, Whole, TooLong, Framing, lines, open_text}
+use Rattle.line_frame.specs.Lines.{Line, Whole, TooLong, Framing, lines}
 use Rattle.line_frame.specs.Calls.{Feeds, HandsNext}
 use Rattle.line_frame.specs.declared.framer.Framed.{Framed}
 use Rattle.line_frame.specs.declared.framer.Framed.TheVariants as framed
-use Rattle.line_frame.proofs.LineLemmas.{lines-append}
 use Rattle.outside_io.proofs.Known.{Consumes-none, Consumes-more, Consumes-kept}
 use Rattle.line_service.specs.declared.ends.Stop.{Stop}
 use Rattle.line_service.specs.declared.ends.ServiceEnd.TheVariants as end
 use Rattle.line_service.specs.declared.serve.PieceFault.TheVariants as piece
-use Rattle.line_service.specs.Service.{At, Serves, Stops, StepOf, Chain, StopsAt, Service}
+use Rattle.line_service.specs.Service.{At, Serves, Stops, StepOf, Chain, LastPiece, StopsAt, Service}
 use Rattle.line_service.specs.Standing.{ServesFramed, StopsFramed, ServesTo, TakesPiece, BreaksOff, Reached}
 use Rattle.line_service.proofs.ChainLemmas.{chain_append, chain_more}
 
@@ -74,15 +73,6 @@ takes_piece step f f1 f2 p p2 bytes feeds s none from taken served =
       all = none;
     }
 
--- a piece for which there is no memory
-pub breaks_memory : {L : Type 0} (serves : Serves L) (stops : Stops L) (f : Framing) (p : At L) (bytes : List ℕ) → BreaksOff serves stops piece.NoMemory f p bytes p
-breaks_memory serves stops f p bytes from taken served = record {
-  handed = lines taken;
-  rest = lines (open_text taken ++ bytes);
-  split = lines-append bytes taken;
-  chain = served.chain;
-}
-
 -- the server stops at a line that a piece ends
 pub breaks_stop : {L : Type 0} (serves : Serves L) (stops : Stops L) (stop : Stop) (f f1 : Framing) (p p2 : At L) (bytes : List ℕ)
     → Feeds f bytes f1 → StopsAt serves stops stop p f1.waiting p2 → BreaksOff serves stops (piece.Stopped stop) f p bytes p2
@@ -113,7 +103,7 @@ reached_more step left left1 left2 p p1 p2 f1 f2 count n bytes r consumes long t
 
 -- no memory for the room that reads need
 pub ends_at_once : {L : Type 0} (serves : Serves L) (stops : Stops L) (left : Option (List ℕ)) (p : At L) → Service serves stops end.NoMemory left p left p
-ends_at_once serves stops left p = ([], (Consumes-none left, record { handed = []; rest = []; split = refl; chain = refl }))
+ends_at_once serves stops left p = ([], (Consumes-none left, ([], (inl (refl, refl), refl))))
 
 -- the input came to its end
 pub ends_closed : {L : Type 0} (serves : Serves L) (stops : Stops L) (left left1 left2 : Option (List ℕ)) (p p1 : At L) (f1 : Framing) (count : ℕ)
@@ -129,10 +119,16 @@ ends_failed serves stops left left1 left2 p p1 f1 count r keeps =
 
 -- no memory for a piece
 pub ends_memory : {L : Type 0} (serves : Serves L) (stops : Stops L) (left left1 left2 : Option (List ℕ)) (p p1 p2 : At L) (f1 : Framing) (count : ℕ) (bytes : List ℕ)
-    → Reached (StepOf serves) left p count left1 f1 p1 → Consumes left1 left2 bytes → BreaksOff serves stops piece.NoMemory f1 p1 bytes p2
+    → Reached (StepOf serves) left p count left1 f1 p1 → count < 2 ^ 40 → Consumes left1 left2 bytes → 0 < length bytes → p2 ≡ p1
     → Service serves stops end.NoMemory left p left2 p2
-ends_memory serves stops left left1 left2 p p1 p2 f1 count bytes r consumes breaks =
-    (r.taken ++ bytes, (Consumes-more left left1 left2 r.taken bytes r.consumed consumes, breaks p r.taken r.served))
+ends_memory serves stops left left1 left2 p p1 p2 f1 count bytes r few consumes some same =
+    let lost : LastPiece r.taken (r.taken ++ bytes) = record {
+      piece = bytes;
+      some = λ none. absurd (omega (arith, ap (λ (xs : List ℕ). length xs) none, some));
+      split = refl;
+      short = omega (arith, r.counted, few);
+    } in
+    (r.taken ++ bytes, (Consumes-more left left1 left2 r.taken bytes r.consumed consumes, (r.taken, (inr lost, subst (λ q. Chain (StepOf serves) p (lines r.taken) q) (sym same) r.served.chain))))
 
 -- the server stopped at a line of a piece
 pub ends_stopped : {L : Type 0} (serves : Serves L) (stops : Stops L) (stop : Stop) (left left1 left2 : Option (List ℕ)) (p p1 p2 : At L) (f1 : Framing) (count : ℕ) (bytes : List ℕ)

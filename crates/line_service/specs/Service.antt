@@ -1,5 +1,5 @@
 -- What a service of lines made of its input.
-use Rattle.std.specs.Prelude.{◌≡◌, ◌<◌, ◌^◌, ℕ, List, [], ◌∷◌, ◌++◌, Option, length}
+use Rattle.std.specs.Prelude.{◌≡◌, ◌≢◌, ◌⊎◌, ◌<◌, ◌^◌, ℕ, List, [], ◌∷◌, ◌++◌, Option, length}
 use Rattle.std.specs.Io.KnownBytes.{Consumes, IsAtEnd}
 use Rattle.line_frame.specs.Lines.{Line, lines}
 use Rattle.outside_io.specs.declared.sink.Sink.{Ghosts}
@@ -33,12 +33,16 @@ abbrev pub Chain : {P : Type 0} → (P → Line → P → Type 0) → P → List
 Chain step from [] to = to ≡ from
 Chain {P} step from (line ∷ others) to = (next : P) × (step from line next × Chain step next others to)
 
--- the first of the lines are served, and no other
-pub record ServesFirst {P : Type 0} (step : P → Line → P → Type 0) (from : P) (all : List Line) (to : P) : Type 0 where
-  pub handed : List Line
-  pub rest : List Line
-  pub split : all ≡ handed ++ rest
-  pub chain : Chain step from handed to
+-- the piece that was taken last, behind bytes that are no whole limit
+pub record LastPiece (front taken : List ℕ) : Type 0 where
+  pub piece : List ℕ
+  pub some : piece ≢ []
+  pub split : taken ≡ front ++ piece
+  pub short : length front < 2 ^ 40
+
+-- Memory runs out behind these bytes: before any is taken, or for the piece that was taken last.
+abbrev pub RunsOut : List ℕ → List ℕ → Type 0
+RunsOut front taken = ((front ≡ []) × (taken ≡ [])) ⊎ LastPiece front taken
 
 -- the first of the lines are served, and the server stops at the line that follows them
 pub record StopsAt {L : Type 0} (serves : Serves L) (stops : Stops L) (stop : Stop) (from : At L) (all : List Line) (to : At L) : Type 0 where
@@ -56,7 +60,8 @@ EndsAs serves stops end.Closed from taken left to =
     Chain (StepOf serves) from (lines taken) to × (IsAtEnd left × (length taken < 2 ^ 40))
 EndsAs serves stops end.ReadFault from taken left to = Chain (StepOf serves) from (lines taken) to
 EndsAs serves stops end.Limit from taken left to = Chain (StepOf serves) from (lines taken) to × (length taken ≡ 2 ^ 40)
-EndsAs serves stops end.NoMemory from taken left to = ServesFirst (StepOf serves) from (lines taken) to
+EndsAs serves stops end.NoMemory from taken left to =
+    (front : List ℕ) × (RunsOut front taken × Chain (StepOf serves) from (lines front) to)
 EndsAs serves stops (end.Stopped stop) from taken left to = StopsAt serves stops stop from (lines taken) to
 
 -- What a service made of its input, whatever its pieces were: `taken` are the bytes that were read of what was left.

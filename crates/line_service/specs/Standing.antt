@@ -7,7 +7,7 @@ use Rattle.line_frame.specs.declared.framer.Framed.TheVariants as framed
 use Rattle.line_service.specs.declared.ends.Stop.{Stop}
 use Rattle.line_service.specs.declared.serve.PieceFault.{PieceFault}
 use Rattle.line_service.specs.declared.serve.PieceFault.TheVariants as piece
-use Rattle.line_service.specs.Service.{At, Serves, Stops, StepOf, Chain, ServesFirst, StopsAt}
+use Rattle.line_service.specs.Service.{At, Serves, Stops, StepOf, Chain, StopsAt}
 
 -- where a line was handed out, it can be read
 abbrev pub IsHandedOut : Framed → Framing → Type 0
@@ -45,10 +45,9 @@ abbrev pub TakesPiece : {P : Type 0} → (P → Line → P → Type 0) → Frami
 TakesPiece {P} step framing mid piece framing' to =
     (from : P) (taken : List ℕ) → Served step from taken framing mid → Served step from (taken ++ piece) framing' to
 
--- whatever was taken before, the lines that a piece ends are not all served
+-- there is no memory for a piece, and none of the lines that it ends is served; or the server stops at one of them, whatever was taken before
 abbrev pub BreaksOff : {L : Type 0} → Serves L → Stops L → PieceFault → Framing → At L → List ℕ → At L → Type 0
-BreaksOff {L} serves stops piece.NoMemory framing mid piece to =
-    (from : At L) (taken : List ℕ) → Served (StepOf serves) from taken framing mid → ServesFirst (StepOf serves) from (lines (taken ++ piece)) to
+BreaksOff serves stops piece.NoMemory framing mid piece to = to ≡ mid
 BreaksOff {L} serves stops (piece.Stopped stop) framing mid piece to =
     (from : At L) (taken : List ℕ) → Served (StepOf serves) from taken framing mid → StopsAt serves stops stop from (lines (taken ++ piece)) to
 

@@ -22,7 +22,8 @@ pub enum ServiceEnd {
     ReadFault,
     /// As many bytes as are taken at most were taken, and all their lines were served.
     Limit,
-    /// Memory ran out, and not at a line: the first lines of what was taken were served.
+    /// Memory ran out, and not at a line: before a byte was taken, or for the piece that was taken last. All lines of what was
+    /// taken before it were served, and none that it ends.
     NoMemory,
     /// The server stopped at a line.
     Stopped(Stop),

@@ -23,7 +23,8 @@ loop-taken-preserved g c = record {
 pub returns-in-Err-NoMemory-clause-service : goal.returns-in-Err-NoMemory-clause-service
 returns-in-Err-NoMemory-clause-service g c =
     ends_memory g.L.LineServer.serves g.L.LineServer.stops (g.S.Source.left c.args.input.now) (g.S.Source.left c.loop-taken.input) (g.S.Source.left c.read.new.self) _ _ _
-    c.loop-taken.framer c.loop-taken.taken (take c.in-Got.count c.read.new.buf) c.loop-taken.invariant.reached c.in-Got.ensures.bytes
+    c.loop-taken.framer c.loop-taken.taken (take c.in-Got.count c.read.new.buf) c.loop-taken.invariant.reached c.loop-taken-test.true c.in-Got.ensures.bytes
+    (omega (arith, c.in-Got.ensures.count.0, length-take-le c.in-Got.count c.read.new.buf c.in-Got.ensures.count.1))
     (rw c.in-Err-NoMemory.field-0-is at c.in-Err-NoMemory.ensures.breaks)
 
 pub returns-in-Err-Stopped-clause-service : goal.returns-in-Err-Stopped-clause-service
