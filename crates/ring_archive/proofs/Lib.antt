@@ -5,3 +5,4 @@ pub mod RangeLists
 pub mod HeldLemmas
 pub mod PickedLemmas
 pub mod StaleLemmas
+pub mod AlikeLemmas

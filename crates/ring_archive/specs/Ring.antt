@@ -9,7 +9,7 @@ use Rattle.ring_format.specs.Layout.{LayoutValue}
 use Rattle.ring_format.specs.Head.{head_bytes}
 use Rattle.ring_format.specs.Cell.{cell_of}
 use Rattle.ring_format.specs.Slot.{slot_of}
-use Rattle.ring_format.specs.Patch.{PatchValue, cell_at}
+use Rattle.ring_format.specs.Patch.{IsPlace, PatchValue, cell_at}
 
 -- ---- cells
 
@@ -65,6 +65,11 @@ Rings = ℕ → ℕ → Option ℤ
 -- the file with the patch laid over it reads as these archives
 abbrev pub ReadsAs : PatchValue → List ℕ → Rings → Type 0
 ReadsAs patch file rings = (i bucket : ℕ) → value_of patch file i bucket ≡ rings i bucket
+
+-- two files hold the same in every slot that the patch lays no cell in
+abbrev pub AgreeAside : PatchValue → List ℕ → List ℕ → Type 0
+AgreeAside patch file other = (place : ℕ × ℕ) → IsPlace patch.layout place → cell_at patch.cells place ≡ None
+    → stored_cell patch.layout.archives other place ≡ stored_cell patch.layout.archives file place
 
 -- the values of so many buckets of archive `i` from a first one on, a step apart
 unfoldable pub values_from : PatchValue → List ℕ → ℕ → ℕ → ℕ → List (Option ℤ)

@@ -7,11 +7,13 @@
 
 mod cells;
 mod fault;
+mod laws;
 mod round;
 mod stale;
 mod view;
 
 pub use fault::RingFault;
+pub use laws::laid_cells_hide_those_of_the_file;
 pub use view::RingView;
 
 #[cfg(test)]

@@ -23,14 +23,14 @@ length-head layout =
     omega (arith, length-append (front_bytes layout) (rows_bytes (rows_of layout.archives)), length-front_bytes layout, length-rows_bytes (rows_of layout.archives), length-rows_of layout.archives)
 
 -- the cell of a place lies behind the head and within the file
-place_within : (layout : LayoutValue) (place : ℕ × ℕ) → IsPlace layout place
+pub place_within : (layout : LayoutValue) (place : ℕ × ℕ) → IsPlace layout place
     → (head_size (length layout.archives) ≤ cell_offset layout.archives place) × (cell_offset layout.archives place + 12 ≤ file_size_of layout.archives)
 place_within layout place is =
     let bounds = cells_within layout place 1 is.0 (omega (arith, slot_below layout place is)) in
     (bounds.0, omega (arith, bounds.1))
 
 -- a file of zeros
-zero_cell : (layout : LayoutValue) (place : ℕ × ℕ) → IsPlace layout place → stored_cell layout.archives (replicate (file_size_of layout.archives) 0) place ≡ (0, pos 0)
+pub zero_cell : (layout : LayoutValue) (place : ℕ × ℕ) → IsPlace layout place → stored_cell layout.archives (replicate (file_size_of layout.archives) 0) place ≡ (0, pos 0)
 unfolding stored_cell
 zero_cell layout place is =
     let bounds = place_within layout place is in
@@ -69,7 +69,7 @@ file_created layout places bytes piece written new placed head done is =
 
 -- ---- over the calls of a disk
 
-some_more : {X : Type 0} (P Q : X → Type 0) → ((x : X) → P x → Q x) → (held : Option X) → IsSomeAnd held P → IsSomeAnd held Q
+pub some_more : {X : Type 0} (P Q : X → Type 0) → ((x : X) → P x → Q x) → (held : Option X) → IsSomeAnd held P → IsSomeAnd held Q
 some_more P Q more None p = absurd p
 some_more P Q more (Some x) p = more x p
 

@@ -18,7 +18,7 @@ on_err_anyhow P (Err e) p = p
 -- ---- the bytes of a file
 
 -- bytes that were torn behind the head
-torn_framed : (layout : LayoutValue) (old new : List ℕ) (at count : ℕ) → head_size (length layout.archives) ≤ at → IsTorn old new at count → IsFramed layout old new
+pub torn_framed : (layout : LayoutValue) (old new : List ℕ) (at count : ℕ) → head_size (length layout.archives) ≤ at → IsTorn old new at count → IsFramed layout old new
 torn_framed layout old new at count behind torn = record {
   long = torn.0;
   head =
@@ -28,7 +28,7 @@ torn_framed layout old new at count behind torn = record {
 }
 
 -- a ring file stays one
-framed_ring : (layout : LayoutValue) (old new : List ℕ) → IsRingFile layout old → IsFramed layout old new → IsRingFile layout new
+pub framed_ring : (layout : LayoutValue) (old new : List ℕ) → IsRingFile layout old → IsFramed layout old new → IsRingFile layout new
 framed_ring layout old new whole framed =
     let head = length-head layout in (
       ap (λ (n : ℕ). take n new) head ∙ framed.head ∙ sym (ap (λ (n : ℕ). take n old) head) ∙ whole.0,

@@ -7,3 +7,7 @@ pub mod CreatedLemmas
 pub mod FrameLemmas
 pub mod ReadLemmas
 pub mod LaysLemmas
+pub mod RunLemmas
+pub mod TornLemmas
+pub mod PartLemmas
+pub mod NextLemmas

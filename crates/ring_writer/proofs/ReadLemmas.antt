@@ -12,14 +12,11 @@ use Rattle.std.proofs.lemmas.List.Elements.{All-from_recursion}
 use Rattle.std.proofs.lemmas.Map.{none_passes_from_lookup}
 use Rattle.std.proofs.lemmas.Map.Entries.{place_from_lookup}
 use Rattle.std.proofs.lemmas.Option.{get_or_from_slice_get, slice_get_within}
-use Rattle.ring_format.specs.declared.archive.Archive.{Archive}
 use Rattle.ring_format.specs.Layout.{LayoutValue, layout_fault}
 use Rattle.ring_format.specs.Patch.{Cells, IsPlace, PatchValue, cell_at, place_cmp}
-use Rattle.ring_format.specs.Slot.{slot_of}
-use Rattle.ring_format.proofs.LawfulLayouts.{archive_bounds}
-use Rattle.ring_archive.specs.Ring.{ReadsAs, Rings, bare, base_of, is_bucket, ring_cell, stored_cell, value_for, value_from, value_in, value_of}
+use Rattle.ring_archive.specs.Ring.{ReadsAs, Rings, bare, ring_cell, stored_cell, value_of}
 use Rattle.ring_archive.specs.Held.{held_cell}
-use Rattle.ring_archive.proofs.SlotLemmas.{slot_within}
+use Rattle.ring_archive.proofs.AlikeLemmas.{archive_alike}
 use Rattle.ring_writer.specs.Written.{HoldsCells, place_at}
 use Rattle.ring_writer.proofs.PlaceLemmas.{tied}
 
@@ -32,7 +29,7 @@ tied_then Equal Equal e = (refl, refl)
 tied_then Equal Greater e = absurd cc
 tied_then Greater p e = absurd cc
 
-same_place : (place other : ℕ × ℕ) → is_at (place_cmp place) other ≡ true → place ≡ other
+pub same_place : (place other : ℕ × ℕ) → is_at (place_cmp place) other ≡ true → place ≡ other
 same_place place other at =
     let both = tied_then (nat_cmp place.0 other.0) (nat_cmp place.1 other.1) at in
     ap (λ (i : ℕ). (i, place.1)) (nat_cmp-IsAntisymmetric place.0 other.0 both.0) ∙ ap (λ (slot : ℕ). (other.0, slot)) (nat_cmp-IsAntisymmetric place.1 other.1 both.1)
@@ -72,37 +69,10 @@ stands_at layout cells places bytes now old place None e holds stands is =
     let both : true ≡ false = sym passes ∙ fails k ((0, 0), (0, pos 0)) within in
     absurd cc)
 
--- ---- values
-
-value_same : (patch : PatchValue) (old new : List ℕ) (i bucket : ℕ) (archive : Archive) (b : Bool) → is_bucket bucket archive ≡ b → slice_get patch.layout.archives i ≡ Some archive → 0 < archive.step → 0 < archive.points
-    → ((place : ℕ × ℕ) → IsPlace patch.layout place → ring_cell (bare patch.path patch.layout) new place ≡ ring_cell patch old place)
-    → cond b (value_from (bare patch.path patch.layout) new i archive bucket (base_of (bare patch.path patch.layout) new i)) None ≡ cond b (value_from patch old i archive bucket (base_of patch old i)) None
-value_same patch old new i bucket archive false is e step points same = refl
-value_same patch old new i bucket archive true is e step points same =
-    let inside : i < length patch.layout.archives = slice_get_within patch.layout.archives i archive e in
-    let place = λ (slot : ℕ) (below : slot < archive.points). let here : IsPlace patch.layout (i, slot) = (inside, rw e below) in here in
-    let base : base_of (bare patch.path patch.layout) new i ≡ base_of patch old i = ap (λ (cell : ℕ × ℤ). cell.0) (same (i, 0) (place 0 points)) in
-    ap (λ (n : ℕ). value_from (bare patch.path patch.layout) new i archive bucket n) base
-    ∙ ap (λ (cell : ℕ × ℤ). cond (base_of patch old i == 0) None (value_for bucket cell))
-    (same (i, slot_of (base_of patch old i) bucket archive) (place (slot_of (base_of patch old i) bucket archive) (slot_within (base_of patch old i) bucket archive step points)))
-
-archive_same : (patch : PatchValue) (old new : List ℕ) (i bucket : ℕ) (found : Option Archive) → slice_get patch.layout.archives i ≡ found → layout_fault patch.layout.archives patch.layout.factor ≡ None
-    → ((place : ℕ × ℕ) → IsPlace patch.layout place → ring_cell (bare patch.path patch.layout) new place ≡ ring_cell patch old place)
-    → option_and_then (λ archive. value_in (bare patch.path patch.layout) new i archive bucket) found ≡ option_and_then (λ archive. value_in patch old i archive bucket) found
-unfolding value_in
-archive_same patch old new i bucket None e lawful same = refl
-archive_same patch old new i bucket (Some archive) e lawful same =
-    let inside : i < length patch.layout.archives = slice_get_within patch.layout.archives i archive e in
-    let bounds = archive_bounds patch.layout.archives patch.layout.factor i archive lawful inside in
-    let is : get_or patch.layout.archives i archive ≡ archive = get_or_from_slice_get patch.layout.archives i archive archive e in
-    let step : 0 < archive.step = rw is at bounds.0 in
-    let points : 0 < archive.points = rw is at bounds.2 in
-    value_same patch old new i bucket archive _ refl e step points same
-
 -- the new file alone reads as the old one under the patch
 pub reads_same : (patch : PatchValue) (old new : List ℕ) → layout_fault patch.layout.archives patch.layout.factor ≡ None
     → ((place : ℕ × ℕ) → IsPlace patch.layout place → stored_cell patch.layout.archives new place ≡ ring_cell patch old place)
     → (rings : Rings) → ReadsAs patch old rings → ReadsAs (bare patch.path patch.layout) new rings
 unfolding value_of ring_cell
 reads_same patch old new lawful same rings reads = λ i bucket.
-    archive_same patch old new i bucket (slice_get patch.layout.archives i) refl lawful same ∙ reads i bucket
+    archive_alike patch (bare patch.path patch.layout) old new i bucket (slice_get patch.layout.archives i) refl lawful same ∙ reads i bucket

@@ -5,9 +5,13 @@
 #![tactic(auto)]
 
 mod laid_cells;
+mod laws;
+mod run_writing;
 mod stretches;
 mod writing;
 
+pub use laws::{a_file_with_no_run_left_stands_alone, every_drain_may_begin};
+pub use run_writing::write_run;
 pub use writing::write_patch;
 
 #[cfg(test)]

@@ -1,19 +1,21 @@
 -- The bytes of neighbouring cells.
-use Rattle.std.proofs.Common.{◌≡◌, ◌∙◌, ℕ, zero, suc, ℤ, ◌+◌, ◌*◌, ◌<◌, ◌≤◌, List, [], ◌∷◌, ◌++◌, length, take, drop, flat_map, slice_get, get_or, Option, Some, None, IsSome, IfSome, refl, sym, ap, subst, arith, append-nil, length-append}
+use Rattle.std.proofs.Common.{◌≡◌, ◌∙◌, ℕ, zero, suc, ℤ, ◌+◌, ◌*◌, ◌<◌, ◌≤◌, List, [], ◌∷◌, ◌++◌, length, take, drop, flat_map, slice_get, get_or, Option, Some, None, IsSome, IfSome, refl, sym, ap, subst, arith, append-nil, length-append, ◌^◌, inl, inr, rules, FitsSigned, IsSomeAnd}
+use Rattle.std.specs.Int.{w64}
+use Rattle.std.proofs.lemmas.Bool.{cases_lt}
 use Rattle.std.specs.List.{range_with_len}
 use Rattle.std.specs.Option.{option_map_or}
 use Rattle.std.proofs.Math.Seq.{drop-append-add, take-append_seam}
 use Rattle.std.proofs.lemmas.Grind.{flat_map-append}
 use Rattle.std.proofs.lemmas.Option.{slice_get-get_or}
 use Rattle.ring_format.specs.declared.archive.Archive.{Archive}
-use Rattle.ring_format.specs.Cell.{cell_bytes}
+use Rattle.ring_format.specs.Cell.{cell_bytes, cell_of}
 use Rattle.ring_format.specs.Head.{front_bytes, head_bytes, rows_bytes, rows_of}
 use Rattle.ring_format.specs.Layout.{LayoutValue}
 use Rattle.ring_format.specs.LayoutFile.{file_size_of, head_size, offset_of}
 use Rattle.ring_format.specs.Patch.{Cells as Laid, PatchValue, cell_at}
 use Rattle.ring_format.proofs.RowLemmas.{length-rows_of}
 use Rattle.ring_format.proofs.WrittenHeads.{length-front_bytes, length-rows_bytes}
-use Rattle.write_shelf.specs.Shelf.{AreLaid, StandsAt, bytes_at, cells_bytes}
+use Rattle.write_shelf.specs.Shelf.{AreLaid, ReadsBack, StandsAt, bytes_at, cells_bytes}
 use Rattle.write_shelf.specs.declared.run.Run.TheVariants.{Create, Cells, Head}
 
 range_more : (a n : ℕ) → range_with_len a (n + 1) ≡ range_with_len a n ++ (a + n) ∷ []
@@ -82,6 +84,19 @@ written_more cells archive slot k old new cell bucket value before more is laid 
     ap (λ (n : ℕ). take n new) counted ∙ more ∙ ap (λ (xs : List ℕ). xs ++ cell) before
     ∙ ap (λ (xs : List ℕ). cells_bytes cells archive slot k ++ xs) (is ∙ sym here)
     ∙ sym (bytes_more cells archive slot k)
+
+-- a cell is read back from its bytes
+pub cell_read : (bucket : ℕ) (value : ℤ) → bucket < 2 ^ 32 → FitsSigned w64 value → cell_of (cell_bytes bucket value) ≡ (bucket, value)
+cell_read bucket value low fits = search rules
+
+pub read_more : (patch : PatchValue) (archive slot n bucket : ℕ) (value : ℤ) → ReadsBack patch (Cells archive slot n) → cell_at patch.cells (archive, slot + n) ≡ Some (bucket, value)
+    → cell_of (cell_bytes bucket value) ≡ (bucket, value) → ReadsBack patch (Cells archive slot (n + 1))
+read_more patch archive slot n bucket value before laid is = λ k below. elim (cases_lt k n) [
+  | inl less ↦ before k less
+  | inr last ↦
+      let same : n ≡ k = omega arith in
+      subst (λ (j : ℕ). IsSomeAnd (cell_at patch.cells (archive, slot + j)) (λ cell. cell_of (cell_bytes cell.0 cell.1) ≡ cell)) same (rw laid is)
+]
 
 -- ---- inside the file
 

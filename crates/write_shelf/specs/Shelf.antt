@@ -1,8 +1,8 @@
 -- What stands on a shelf: the patch of a drain that was begun, and the runs of it that are left to write.
-use Rattle.std.specs.Prelude.{◌≡◌, ℕ, ◌+◌, ◌*◌, ◌<◌, ◌≤◌, true, ⊤, List, [], ◌∷◌, ◌++◌, length, take, drop, slice_get, Option, None, Some, IfSome, IsSome, option_and_then}
+use Rattle.std.specs.Prelude.{◌≡◌, ℕ, ◌+◌, ◌*◌, ◌<◌, ◌≤◌, true, ⊤, List, [], ◌∷◌, ◌++◌, length, take, drop, slice_get, Option, None, Some, IfSome, IsSome, IsSomeAnd, option_and_then}
 use Rattle.std.specs.List.{flat_map, range_with_len}
 use Rattle.std.specs.Option.{option_map_or}
-use Rattle.ring_format.specs.Cell.{cell_bytes}
+use Rattle.ring_format.specs.Cell.{cell_bytes, cell_of}
 use Rattle.ring_format.specs.Head.{head_bytes}
 use Rattle.ring_format.specs.LayoutFile.{file_size_of, offset_of}
 use Rattle.ring_format.specs.Patch.{Cells as Laid, PatchValue, cell_at}
@@ -81,10 +81,18 @@ run_at patch (Create size) = 0
 run_at patch (Cells archive slot count) = offset_of patch.layout.archives archive + 12 * slot
 run_at patch Head = 0
 
+-- each cell of the run is read back from its bytes
+abbrev pub ReadsBack : PatchValue → Run → Type 0
+ReadsBack patch (Create size) = ⊤
+ReadsBack patch (Cells archive slot count) = (k : ℕ) → k < count
+    → IsSomeAnd (cell_at patch.cells (archive, slot + k)) (λ cell. cell_of (cell_bytes cell.0 cell.1) ≡ cell)
+ReadsBack patch Head = ⊤
+
 -- these first bytes are those of the run
 pub record IsFilled (count : ℕ) (bytes : List ℕ) (patch : PatchValue) (run : Run) : Type 0 where
   pub long : count ≡ length (run_bytes patch run)
   pub front : take count bytes ≡ run_bytes patch run
+  pub read : ReadsBack patch run
 
 -- the bytes of a run stand there, inside the file
 pub record StandsAt (at : ℕ) (patch : PatchValue) (run : Run) : Type 0 where

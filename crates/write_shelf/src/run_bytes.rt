@@ -1,7 +1,8 @@
 //! The bytes of runs.
 ghost use Rattle.std.specs.Prelude.{◌≡◌, ◌+◌, ◌*◌, ◌++◌, ◌<◌, ◌≤◌, ℕ, IsSome, length, take};
 ghost use Rattle.ring_format.specs.Head.{head_bytes};
-ghost use Rattle.write_shelf.specs.Shelf.{AreLaid, IsFilled, IsRunOf, StandsAt, cells_bytes};
+ghost use Rattle.write_shelf.specs.Shelf.{AreLaid, IsFilled, IsRunOf, ReadsBack, StandsAt, cells_bytes};
+ghost use Rattle.write_shelf.specs.declared.run.Run.TheVariants.{Cells};
 
 use crate::run::Run;
 use ring_format::{CELL_BYTES, HEAD_BYTES, Layout, Patch, RUN_BYTES, write_cell, write_head};
@@ -40,6 +41,7 @@ fn put_cells(patch: &Patch, archive: u32, slot: u32, count: u32, out: &mut [u8; 
     requires { AreLaid patch.now archive slot count }
     ensures end { result ≡ 12 * count }
     ensures written { take result out.new ≡ cells_bytes patch.now.cells archive slot count }
+    ensures read { ReadsBack patch.now (Cells archive slot count) }
 {
     for k in 0..count {
         let Some((bucket, value)) = patch.cell(archive, slot + k) else {
