@@ -1,5 +1,5 @@
 -- The queries of a request.
-use Rattle.std.specs.Prelude.{◌≡◌, ℕ, ◌+◌, ◌==◌, Bool, ◌&&◌, not, nat_lt, List, [], ◌∷◌, ◌++◌, length, map, filter, codes, Result, Ok, Err, if◌then◌else◌}
+use Rattle.std.specs.Prelude.{◌≡◌, ℕ, ◌+◌, ◌<◌, ◌≤◌, ◌==◌, Bool, ◌&&◌, not, nat_lt, List, [], ◌∷◌, ◌++◌, length, map, filter, codes, Result, Ok, Err, if◌then◌else◌}
 use Rattle.std.specs.Str.{bytes_eq}
 use Rattle.std.specs.Str.Lossy.{utf8_lossy}
 use Rattle.form_urlencoded.specs.Form.{decode, raw_pairs}
@@ -11,6 +11,10 @@ use Rattle.find_api.specs.declared.fault.FindFault.TheVariants.{NoQuery, TooMany
 -- the most queries of a request
 abbrev pub most_queries : ℕ
 most_queries = 128
+
+-- how many queries a request may have
+abbrev pub IsQueryCount : ℕ → Type 0
+IsQueryCount count = (0 < count) × (count ≤ most_queries)
 
 -- the text of a name or a value of a form
 abbrev pub form_text : List ℕ → List ℕ

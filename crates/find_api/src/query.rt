@@ -2,7 +2,7 @@
 ghost use Rattle.std.specs.Prelude.{◌≡◌, ◌≢◌, ◌≤◌, ◌++◌, ◌∷◌, [], IfErr, IfOk, OnOk, Ok, Err, length, map};
 ghost use Rattle.std.specs.Cow.{cow_str_bytes};
 ghost use Rattle.form_urlencoded.specs.Form.{raw_pairs};
-ghost use Rattle.find_api.specs.Queries.{globs_from, globs_or_fault, is_query_text, most_queries, queries_of, query_key, read_queries};
+ghost use Rattle.find_api.specs.Queries.{IsQueryCount, globs_from, globs_or_fault, is_query_text, most_queries, queries_of, query_key, read_queries};
 ghost use Rattle.find_api.specs.declared.fault.FindFault.TheVariants.{NoMemory};
 
 use crate::fault::FindFault;
@@ -25,6 +25,7 @@ pub fn read_queries(alloc: Global, query: &[u8], body: &[u8]) -> Result<Vec<Glob
     ensures ok { IfOk result (λ globs. read_queries query.now body.now ≡ Ok globs.items) }
     ensures err { IfErr result (λ fault. fault ≢ NoMemory
         → read_queries query.now body.now ≡ Err fault) }
+    ensures count { IfOk result (λ globs. IsQueryCount (length globs.items)) }
 {
     let mut texts = Vec::new(alloc);
     push_queries(alloc, query, &mut texts)?;
@@ -38,6 +39,7 @@ fn globs_or_fault(alloc: Global, texts: &[CowStr<'_>]) -> Result<Vec<Glob>, Find
         globs_or_fault (map cow_str_bytes texts.now) ≡ Ok globs.items) }
     ensures err { IfErr result (λ fault. fault ≢ NoMemory
         → globs_or_fault (map cow_str_bytes texts.now) ≡ Err fault) }
+    ensures count { IfOk result (λ globs. IsQueryCount (length globs.items)) }
 {
     if texts.is_empty() {
         return Err(FindFault::NoQuery);
@@ -54,6 +56,7 @@ fn read_globs(alloc: Global, texts: &[CowStr<'_>]) -> Result<Vec<Glob>, FindFaul
     ensures ok { IfOk result (λ globs. globs_from 1 (map cow_str_bytes texts.now) ≡ Ok globs.items) }
     ensures err { IfErr result (λ fault. fault ≢ NoMemory
         → globs_from 1 (map cow_str_bytes texts.now) ≡ Err fault) }
+    ensures count { IfOk result (λ globs. length globs.items ≡ length texts.now) }
 {
     let mut globs = Vec::new(alloc);
     let mut number: u32 = 1;

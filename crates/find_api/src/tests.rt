@@ -1,3 +1,8 @@
+ghost use Rattle.std.specs.Prelude.{IfOk};
+ghost use Rattle.std.specs.Cmp.Lexicographic.{slice_cmp};
+ghost use Rattle.std.specs.List.Sorted.{IsStrictlySortedBy};
+ghost use Rattle.std.specs.Ordering.{nat_cmp};
+
 use super::*;
 use metric_path::MetricPath;
 use path_glob::Glob;
@@ -10,12 +15,16 @@ const NAMES: [&[u8]; 9] = [
     b"a", b"a-b", b"a-b.c", b"a.b", b"a.b.c", b"a.b-c", b"a.c", b"a_b", b"b.x.y.z",
 ];
 
-fn paths_of(alloc: Global, texts: &[&[u8]]) -> Result<Vec<MetricPath>, Fail> {
+// Names in byte order, each once.
+fn paths_of(alloc: Global, texts: &[&[u8]]) -> Result<Vec<MetricPath>, Fail>
+    ensures { IfOk result (λ paths. IsStrictlySortedBy (slice_cmp nat_cmp) paths.items) }
+{
     let mut paths = Vec::new(alloc);
     for text in texts {
         paths.push(MetricPath::new(alloc, text)?)?;
     }
     paths.sort()?;
+    paths.dedup();
     Ok(paths)
 }
 
@@ -25,7 +34,9 @@ fn assert_found(
     names: &[MetricPath],
     query: &[u8],
     want: &str,
-) -> Result<(), Fail> {
+) -> Result<(), Fail>
+    requires { IsStrictlySortedBy (slice_cmp nat_cmp) names.now }
+{
     let Ok(globs) = read_queries(alloc, query, b"") else {
         assert!(rt; false, "{query:?}");
         return Ok(());
@@ -41,7 +52,9 @@ fn assert_expanded(
     names: &[MetricPath],
     query: &[u8],
     want: &str,
-) -> Result<(), Fail> {
+) -> Result<(), Fail>
+    requires { IsStrictlySortedBy (slice_cmp nat_cmp) names.now }
+{
     let Ok(globs) = read_queries(alloc, query, b"") else {
         assert!(rt; false, "{query:?}");
         return Ok(());
@@ -230,17 +243,23 @@ fn a_request_has_at_most_128_queries(rt: HostRuntime) -> Result<(), Fail> {
 }
 
 // Names in order, all in one branch.
-fn many_names(alloc: Global) -> Result<Vec<MetricPath>, Fail> {
+fn many_names(alloc: Global) -> Result<Vec<MetricPath>, Fail>
+    ensures { IfOk result (λ names. IsStrictlySortedBy (slice_cmp nat_cmp) names.items) }
+{
     let mut names = Vec::new(alloc);
     for n in 0..100_000 {
         let text = format!(in alloc; "a.b.c{n:05}")?;
         names.push(MetricPath::new(alloc, text.as_bytes())?)?;
     }
+    names.sort()?;
+    names.dedup();
     Ok(names)
 }
 
 // The bytes that twenty thousand answers have.
-fn bytes_found(alloc: Global, names: &[MetricPath], query: &[u8]) -> Result<usize, Fail> {
+fn bytes_found(alloc: Global, names: &[MetricPath], query: &[u8]) -> Result<usize, Fail>
+    requires { IsStrictlySortedBy (slice_cmp nat_cmp) names.now }
+{
     let Ok(globs) = read_queries(alloc, query, b"") else {
         return Ok(0);
     };
