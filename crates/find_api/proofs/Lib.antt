@@ -1,0 +1,6 @@
+mod AsciiLemmas
+pub mod NodeLemmas
+pub mod RunLemmas
+mod FindLemmas
+mod OrderLemmas
+mod QueryLemmas

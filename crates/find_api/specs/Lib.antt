@@ -1,0 +1,4 @@
+pub mod Nodes
+pub mod Runs
+pub mod Texts
+pub mod Queries
