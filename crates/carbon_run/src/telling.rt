@@ -72,7 +72,8 @@ pub(crate) fn tell_damaged<K: Sink>(out: &mut K, name: &str) -> u8
 /// Writes the line of a damaged file.
 fn write_damaged<K: Sink>(out: &mut K, name: &str) -> Result<(), WriteFault>
     ensures line { OnOk result (Appends (K.written out.old) (K.written out.new) (damaged_line name.now)) }
-    ensures prefix { OnErr result (AppendsFront (K.written out.old) (K.written out.new) (damaged_line name.now)) }
+    ensures prefix { OnErr result
+        (AppendsFront (K.written out.old) (K.written out.new) (damaged_line name.now)) }
     ensures writes { CountsWrites K.Sink out.old out.new (IsErr result) }
 {
     write_damaged_word(out)?;
@@ -83,7 +84,8 @@ fn write_damaged<K: Sink>(out: &mut K, name: &str) -> Result<(), WriteFault>
 #[tactic(auto, unfolding(crate::specs::Texts::damaged_word))]
 fn write_damaged_word<K: Sink>(out: &mut K) -> Result<(), WriteFault>
     ensures word { OnOk result (Appends (K.written out.old) (K.written out.new) damaged_word) }
-    ensures prefix { OnErr result (AppendsFront (K.written out.old) (K.written out.new) damaged_word) }
+    ensures prefix { OnErr result
+        (AppendsFront (K.written out.old) (K.written out.new) damaged_word) }
     ensures writes { CountsWrites K.Sink out.old out.new (IsErr result) }
 {
     write_all(out, b"carbon: damaged file ")
@@ -103,7 +105,8 @@ pub(crate) fn tell_disk_fault<K: Sink>(out: &mut K, class: u32) -> u8
 /// Writes the line of a failed disk.
 fn write_disk_fault<K: Sink>(out: &mut K, class: u32) -> Result<(), WriteFault>
     ensures line { OnOk result (Appends (K.written out.old) (K.written out.new) (disk_fault_line class)) }
-    ensures prefix { OnErr result (AppendsFront (K.written out.old) (K.written out.new) (disk_fault_line class)) }
+    ensures prefix { OnErr result
+        (AppendsFront (K.written out.old) (K.written out.new) (disk_fault_line class)) }
     ensures writes { CountsWrites K.Sink out.old out.new (IsErr result) }
 {
     let mut buffer = Buffer::new();
@@ -115,7 +118,8 @@ fn write_disk_fault<K: Sink>(out: &mut K, class: u32) -> Result<(), WriteFault>
 #[tactic(auto, unfolding(crate::specs::Texts::disk_fault_word))]
 fn write_disk_fault_word<K: Sink>(out: &mut K) -> Result<(), WriteFault>
     ensures word { OnOk result (Appends (K.written out.old) (K.written out.new) disk_fault_word) }
-    ensures prefix { OnErr result (AppendsFront (K.written out.old) (K.written out.new) disk_fault_word) }
+    ensures prefix { OnErr result
+        (AppendsFront (K.written out.old) (K.written out.new) disk_fault_word) }
     ensures writes { CountsWrites K.Sink out.old out.new (IsErr result) }
 {
     write_all(out, b"carbon: disk fault class ")
