@@ -75,12 +75,12 @@ pick_alike class s t same =
 pub legal_alike : (class : ℕ) (s t : State) (e : Entry) → SamePart class s t → is_about class e ≡ true → IsLegal s e → IsLegal t e
 legal_alike class s t (Put pass path time value Stored) same about legal =
     let there = pending_alike class s t path same (equal_numbers (class_of path) class about) in
-    (subst (λ (ms : Metrics). has_time (points_of ms path) time ≡ false) there legal.0, subst (λ (n : ℕ). points_count (t.pending (class_of path)) < n) same.limit (subst (λ (ms : Metrics). points_count ms < s.limit) there legal.1))
+    (legal.0, (subst (λ (ms : Metrics). has_time (points_of ms path) time ≡ false) there legal.1.0, subst (λ (n : ℕ). points_count (t.pending (class_of path)) < n) same.limit (subst (λ (ms : Metrics). points_count ms < s.limit) there legal.1.1)))
 legal_alike class s t (Put pass path time value Replaced) same about legal =
-    subst (λ (ms : Metrics). has_time (points_of ms path) time ≡ true) (pending_alike class s t path same (equal_numbers (class_of path) class about)) legal
+    (legal.0, subst (λ (ms : Metrics). has_time (points_of ms path) time ≡ true) (pending_alike class s t path same (equal_numbers (class_of path) class about)) legal.1)
 legal_alike class s t (Put pass path time value Full) same about legal =
     let there = pending_alike class s t path same (equal_numbers (class_of path) class about) in
-    (subst (λ (ms : Metrics). has_time (points_of ms path) time ≡ false) there legal.0, subst (λ (n : ℕ). n ≤ points_count (t.pending (class_of path))) same.limit (subst (λ (ms : Metrics). s.limit ≤ points_count ms) there legal.1))
+    (legal.0, (subst (λ (ms : Metrics). has_time (points_of ms path) time ≡ false) there legal.1.0, subst (λ (n : ℕ). n ≤ points_count (t.pending (class_of path))) same.limit (subst (λ (ms : Metrics). s.limit ≤ points_count ms) there legal.1.1)))
 legal_alike class s t (Drain pass path now) same about legal =
     let one = equal_numbers (class_of path) class about in
     sym (pick_alike (class_of path) s t (subst (λ (k : ℕ). SamePart k s t) (sym one) same)) ∙ legal

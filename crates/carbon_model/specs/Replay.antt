@@ -1,7 +1,10 @@
 -- Which entries may come in a state, and the state after them.
-use Rattle.std.specs.Prelude.{◌≡◌, ℕ, ℤ, zero, suc, ◌<◌, ◌≤◌, ◌==◌, Bool, true, false, List, [], ◌∷◌, ◌++◌, filter, Option, Some, if◌then◌else◌}
+use Rattle.std.specs.Prelude.{◌≡◌, ℕ, ℤ, zero, suc, ◌<◌, ◌≤◌, ◌==◌, Bool, true, false, List, [], ◌∷◌, ◌++◌, filter, Option, Some, None, if◌then◌else◌}
 use Rattle.std.specs.Str.{bytes_eq}
 use Rattle.std.specs.Map.{remove_entry}
+use Rattle.fixed_num.specs.Milli.{IsMilli}
+use Rattle.metric_path.specs.Path.{path_fault}
+use Rattle.metric_line.specs.Moment.{is_moment}
 use Rattle.carbon_history.specs.declared.entry.Entry.{Entry}
 use Rattle.carbon_history.specs.declared.entry.Entry.TheVariants.{Put, Drain, Ask, Fault}
 use Rattle.carbon_history.specs.declared.entry.PutEnd.TheVariants.{Stored, Replaced, Full}
@@ -13,14 +16,22 @@ use Rattle.archive_update.specs.Batch.{batch}
 use Rattle.ring_format.specs.Layout.{LayoutValue}
 use Rattle.carbon_model.specs.State.{Kept, State, layout_or, picked, points_in, rings_of, with_pending}
 
+-- a point that may be put: its path is legal, its time a legal moment, and its value a value
+pub record IsPoint (path : List ℕ) (time : ℕ) (value : ℤ) : Type 0 where
+  pub legal : path_fault path ≡ None
+  pub moment : is_moment time ≡ true
+  pub fits : IsMilli value
+
 -- A put replaces exactly where the metric has a pending point of its time. Else it finds its class full exactly where as many points of
 -- it are pending as may be, and is stored where there are fewer. The metric that is drained is the one that its class picks.
 abbrev pub IsLegal : State → Entry → Type 0
 IsLegal s (Put pass path time value Stored) =
-    (has_time (points_in s path) time ≡ false) × (points_count (s.pending (class_of path)) < s.limit)
-IsLegal s (Put pass path time value Replaced) = has_time (points_in s path) time ≡ true
+    IsPoint path time value
+    × ((has_time (points_in s path) time ≡ false) × (points_count (s.pending (class_of path)) < s.limit))
+IsLegal s (Put pass path time value Replaced) = IsPoint path time value × (has_time (points_in s path) time ≡ true)
 IsLegal s (Put pass path time value Full) =
-    (has_time (points_in s path) time ≡ false) × (s.limit ≤ points_count (s.pending (class_of path)))
+    IsPoint path time value
+    × ((has_time (points_in s path) time ≡ false) × (s.limit ≤ points_count (s.pending (class_of path))))
 IsLegal s (Drain pass path now) = picked s (class_of path) ≡ Some path
 IsLegal s (Ask pass number try now) = Unit {0}
 IsLegal s (Fault pass class) = Unit {0}
@@ -91,8 +102,8 @@ DrainsSome s pass class now [] = Unit {0}
 DrainsSome s pass class now (entry ∷ others) =
     IsDrainOf pass class now entry × (IsLegal s entry × DrainsSome (after s entry) pass class now others)
 
--- All of them are: after these drains nothing of the class is pending. Each is of the metric that the class picks, so of two such lists one
--- goes on where the other ends (a law), and none goes on where nothing is picked.
+-- All of them are: after these drains nothing of the class is pending. Each is of the metric that the class picks, so that a sound state
+-- has one such list (a law).
 pub record DrainsClass (s : State) (pass class now : ℕ) (entries : List Entry) : Type 0 where
   pub drains : DrainsSome s pass class now entries
   pub none_pending : (replay s entries).pending class ≡ []

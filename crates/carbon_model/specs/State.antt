@@ -36,7 +36,7 @@ with_pending s class metrics = record s { pending = λ k. if k == class then met
 abbrev pub points_in : State → List ℕ → List (ℕ × ℤ)
 points_in s path = points_of (s.pending (class_of path)) path
 
--- the metric of a class that is drained next: none exactly where nothing of it is pending
+-- the metric of a class that is drained next: in a sound state none exactly where nothing of it is pending (a law)
 abbrev pub picked : State → ℕ → Option (List ℕ)
 picked s class = pick s.strategy (s.queue class) (s.pending class)
 

@@ -1,8 +1,12 @@
-ghost use Rattle.std.specs.Prelude.{◌≡◌, ◌↔◌, ◌⊎◌, ℕ, Bool, true, List, ◌++◌, None};
+ghost use Rattle.std.specs.Prelude.{◌≡◌, ◌↔◌, ◌⊎◌, ℕ, Bool, true, List, [], ◌++◌, Option, None};
+ghost use Rattle.outside_io.specs.Image.{Image};
+ghost use Rattle.metric_path.specs.Path.{path_fault};
 ghost use Rattle.carbon_history.specs.declared.entry.Entry.{Entry as Event};
-ghost use Rattle.carbon_model.specs.Found.{Finds};
+ghost use Rattle.carbon_model.specs.Found.{Finds, IsKnown};
 ghost use Rattle.carbon_model.specs.State.{SamePart, State, picked};
-ghost use Rattle.carbon_model.specs.Replay.{DrainsSome, IsLegalHistory, about_class, replay};
+ghost use Rattle.carbon_model.specs.RingFiles.{Opens, Settings};
+ghost use Rattle.carbon_model.specs.Replay.{DrainsClass, DrainsSome, IsLegal, IsLegalHistory, about_class, after, replay};
+ghost use Rattle.carbon_model.specs.Sound.{IsSound};
 
 /// A front of a legal history is legal, and the rest is legal from the state after it.
 pub fn fronts_are_legal()
@@ -22,13 +26,36 @@ pub fn classes_are_independent()
     ensures part { (s : State) (h : List Event) (class : ℕ) → SamePart class (replay s h) (replay s (about_class class h)) }
 {}
 
-/// What is drained is no choice: of two lists of drains of a class one goes on where the other ends, and two after which the class
-/// picks nothing are one.
+/// Every state in which a run may begin is sound.
+pub fn openings_are_sound()
+    ensures { (settings : Settings) (told : ℕ → Option Image) (s : State) → Opens settings told s → IsSound s }
+{}
+
+/// A legal entry leaves a sound state sound.
+pub fn legal_entries_keep_states_sound()
+    ensures { (s : State) (entry : Event) → IsSound s → IsLegal s entry → IsSound (after s entry) }
+{}
+
+/// Every state that a legal history reaches from an opening is sound, and has pending points and archives of legal paths alone.
+pub fn runs_know_legal_paths_alone()
+    ensures sound { (settings : Settings) (told : ℕ → Option Image) (s : State) (h : List Event) → Opens settings told s
+        → IsLegalHistory s h → IsSound (replay s h) }
+    ensures legal { (settings : Settings) (told : ℕ → Option Image) (s : State) (h : List Event) (path : List ℕ)
+        → Opens settings told s → IsLegalHistory s h → IsKnown (replay s h) path → path_fault path ≡ None }
+{}
+
+/// Of a sound state a class picks nothing exactly where nothing of it is pending.
+pub fn classes_pick_where_something_is_pending()
+    ensures { (s : State) (class : ℕ) → IsSound s → (picked s class ≡ None) ↔ (s.pending class ≡ []) }
+{}
+
+/// What is drained is no choice: of two lists of drains of a class one goes on where the other ends, and two that drain the class of a
+/// sound state are one.
 pub fn drains_follow_from_the_state()
     ensures fronts { (s : State) (pass class now : ℕ) (xs ys : List Event) → DrainsSome s pass class now xs
         → DrainsSome s pass class now ys → (rest : List Event) × ((ys ≡ xs ++ rest) ⊎ (xs ≡ ys ++ rest)) }
-    ensures one { (s : State) (pass class now : ℕ) (xs ys : List Event) → DrainsSome s pass class now xs
-        → DrainsSome s pass class now ys → picked (replay s xs) class ≡ None → picked (replay s ys) class ≡ None → xs ≡ ys }
+    ensures one { (s : State) (pass class now : ℕ) (xs ys : List Event) → IsSound s → DrainsClass s pass class now xs
+        → DrainsClass s pass class now ys → xs ≡ ys }
 {}
 
 /// The metrics that a pattern finds are one list.

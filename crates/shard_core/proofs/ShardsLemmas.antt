@@ -12,7 +12,7 @@ use Rattle.point_cache.specs.declared.put.Put.{Put}
 use Rattle.point_cache.specs.declared.put.Put.TheVariants.{Stored, Replaced, Full, NoMemory}
 use Rattle.carbon_model.specs.State.{Kept, Metrics, SamePart, State, picked, points_in, with_pending}
 use Rattle.carbon_model.specs.RingFiles.{IsOfClass, SameKept, Stands, kept_on}
-use Rattle.carbon_model.specs.Replay.{drained}
+use Rattle.carbon_model.specs.Replay.{IsPoint, drained}
 use Rattle.shard_core.specs.Shard.{Drains, Holds, HoldsKept, Inside, LayoutsByPath, Shows}
 use Rattle.carbon_model.specs.Series.{series_at}
 use Rattle.carbon_model.specs.declared.series.Series.{Series}
@@ -218,29 +218,29 @@ put_goes_in shards told k old new s path t v within order there one class same c
 
 -- a put into the shard of its class
 pub puts_into : {D : Type 0} {d : Ghosts D} (put : Put) (shards : List (Shard D d)) (told : ℕ → Option Image) (k : ℕ) (old new : Shard D d) (s : State) (path : List ℕ) (t : ℕ) (v : ℤ) → k < length shards → AreInOrder shards
-    → slice_get shards k ≡ Some old → class_of path ≡ k → OnlyCache old new → Puts old.cache new.cache path t v put → HoldsAll told shards s → PutsInto put s path t v (HoldsAll told (slice_set shards k new))
-puts_into Stored shards told k old new s path t v within order there one same puts holds = λ pass.
+    → slice_get shards k ≡ Some old → class_of path ≡ k → OnlyCache old new → IsPoint path t v → Puts old.cache new.cache path t v put → HoldsAll told shards s → PutsInto put s path t v (HoldsAll told (slice_set shards k new))
+puts_into Stored shards told k old new s path t v within order there one same point puts holds = λ pass.
     let class = subst (λ o. IfSome o (λ shard. shard.class ≡ k)) there (order k) in
     let sees = seen (told k) old s path t (one ∙ sym class) (shard_at shards told k old s there holds) in (
-      (sees.known ∙ puts.0, omega (arith, sees.count, sees.limit, puts.1.0)),
+      (point, (sees.known ∙ puts.0, omega (arith, sees.count, sees.limit, puts.1.0))),
       put_goes_in shards told k old new s path t v within order there one class same puts.1.1 holds,
     )
-puts_into Replaced shards told k old new s path t v within order there one same puts holds = λ pass.
+puts_into Replaced shards told k old new s path t v within order there one same point puts holds = λ pass.
     let class = subst (λ o. IfSome o (λ shard. shard.class ≡ k)) there (order k) in
     let sees = seen (told k) old s path t (one ∙ sym class) (shard_at shards told k old s there holds) in (
-      sees.known ∙ puts.0,
+      (point, sees.known ∙ puts.0),
       put_goes_in shards told k old new s path t v within order there one class same puts.1 holds,
     )
-puts_into Full shards told k old new s path t v within order there one same puts holds = λ pass.
+puts_into Full shards told k old new s path t v within order there one same point puts holds = λ pass.
     let class = subst (λ o. IfSome o (λ shard. shard.class ≡ k)) there (order k) in
     let sees = seen (told k) old s path t (one ∙ sym class) (shard_at shards told k old s there holds) in (
-      (sees.known ∙ puts.0, omega (arith, sees.count, sees.limit, puts.1.0)),
+      (point, (sees.known ∙ puts.0, omega (arith, sees.count, sees.limit, puts.1.0))),
       stays_with shards k old new within order there (unchanged_stands old new same puts.1.1) told s holds,
     )
-puts_into NoMemory shards told k old new s path t v within order there one same puts holds = λ pass.
+puts_into NoMemory shards told k old new s path t v within order there one same point puts holds = λ pass.
     let class = subst (λ o. IfSome o (λ shard. shard.class ≡ k)) there (order k) in
     let sees = seen (told k) old s path t (one ∙ sym class) (shard_at shards told k old s there holds) in (
-      (sees.known ∙ puts.0, omega (arith, sees.count, sees.limit, puts.1.0)),
+      (point, (sees.known ∙ puts.0, omega (arith, sees.count, sees.limit, puts.1.0))),
       stays_with shards k old new within order there (unchanged_stands old new same puts.1.1) told s holds,
     )
 

@@ -42,6 +42,7 @@ impl<D: Disk> Shard<D> {
     ghost use Rattle.metric_path.specs.Class.{class_of};
     ghost use Rattle.point_cache.specs.Pending.{Puts};
     ghost use Rattle.carbon_model.specs.Series.{EndsInTime};
+    ghost use Rattle.carbon_model.specs.Replay.{IsPoint};
     ghost use Rattle.shard_core.specs.Shard.{Drains, Shows};
     ghost use Rattle.schema_rules.specs.LayoutBy.{layout_by};
     ghost use Rattle.shard_core.specs.Opening.{StartedFrom};
@@ -84,6 +85,7 @@ impl<D: Disk> Shard<D> {
     /// is that of its file, or else what the rules give it. The disk stays as it is.
     pub fn put(&mut self, datum: &Datum) -> Put
         requires { class_of datum.now.path ≡ self.old.class }
+        ensures point { IsPoint datum.now.path datum.now.time datum.now.value }
         ensures put { Puts self.old.cache self.new.cache datum.now.path datum.now.time datum.now.value result }
         ensures others { OnlyCache self.old self.new }
     {

@@ -7,7 +7,7 @@ returns-clause-put g c told s holds =
     let within = below _ _ c.args.self.now.all c.class.ensures.few in
     let there = at_place c.args.self.now.items.items c.class.result c.index_mut.result.now _ within c.index_mut.ensures.value in
     puts_into c.put.result c.args.self.now.items.items told c.class.result c.index_mut.result.now c.put.new.self s c.args.datum.now.path c.args.datum.now.time c.args.datum.now.value
-    within c.args.self.now.classes there (sym c.class.ensures.value) c.put.ensures.others c.put.ensures.put holds
+    within c.args.self.now.classes there (sym c.class.ensures.value) c.put.ensures.others c.put.ensures.point c.put.ensures.put holds
 
 pub returns-clause-later : goal.returns-clause-later
 returns-clause-later g c =
