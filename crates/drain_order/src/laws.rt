@@ -10,13 +10,15 @@ ghost use Rattle.drain_order.specs.declared.strategy.Strategy.TheVariants.{Max, 
 
 /// Under `max` the pick is a pending metric, and none goes before it: none has more points, and none with as many a lesser path.
 pub fn max_picks_most_points()
-    ensures { (queue : List (List ℕ)) (metrics : Metrics) (path : List ℕ) → pick Max queue metrics ≡ Some path → IsFirst by_count metrics path }
+    ensures { (queue : List (List ℕ)) (metrics : Metrics) (path : List ℕ)
+        → pick Max queue metrics ≡ Some path → IsFirst by_count metrics path }
 {}
 
 /// Under `timesorted` the pick is a pending metric, and none goes before it: none has an older point, and none with one as old a
 /// lesser path.
 pub fn timesorted_picks_oldest_point()
-    ensures { (queue : List (List ℕ)) (metrics : Metrics) (path : List ℕ) → pick TimeSorted queue metrics ≡ Some path → IsFirst by_age metrics path }
+    ensures { (queue : List (List ℕ)) (metrics : Metrics) (path : List ℕ)
+        → pick TimeSorted queue metrics ≡ Some path → IsFirst by_age metrics path }
 {}
 
 /// A queue that is made has all pending paths, by falling number of points and then by path.
@@ -28,13 +30,15 @@ pub fn queue_is_made_in_order()
 /// Nothing is picked only where nothing is pending.
 #[tactic(auto, using(crate::proofs::PickLemmas::none_then_empty))]
 pub fn something_pending_is_picked()
-    ensures { (strategy : Strategy) (queue : List (List ℕ)) (metrics : Metrics) → pick strategy queue metrics ≡ None → metrics ≡ [] }
+    ensures { (strategy : Strategy) (queue : List (List ℕ)) (metrics : Metrics)
+        → pick strategy queue metrics ≡ None → metrics ≡ [] }
 {}
 
 /// Where nothing is pending nothing is picked, as the queue has no path that is not pending.
 #[tactic(auto, using(crate::proofs::PickLemmas::empty_then_none))]
 pub fn nothing_pending_is_not_picked()
-    ensures { (strategy : Strategy) (queue : List (List ℕ)) → AllPending queue [] → pick strategy queue [] ≡ None }
+    ensures { (strategy : Strategy) (queue : List (List ℕ)) → AllPending queue []
+        → pick strategy queue [] ≡ None }
 {}
 
 /// A picker that is new follows any metrics.

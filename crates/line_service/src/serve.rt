@@ -32,9 +32,12 @@ pub fn serve_lines<L: LineServer, S: Source, K: Sink>(
     input: &mut S,
     out: &mut K,
 ) -> ServiceEnd
-    ensures service { Service L.serves L.stops result (S.left input.old) (standing K.Sink server.old out.old) (S.left input.new) (standing K.Sink server.new out.new) }
+    ensures service { Service L.serves L.stops result (S.left input.old)
+        (standing K.Sink server.old out.old) (S.left input.new)
+        (standing K.Sink server.new out.new) }
     ensures reads { CountsReads S.Source input.old input.new (result ≡ ServiceEnd.ReadFault) }
-    ensures writes { CountsWrites K.Sink out.old out.new (result ≡ ServiceEnd.Stopped Stop.WriteFault) }
+    ensures writes { CountsWrites K.Sink out.old out.new
+        (result ≡ ServiceEnd.Stopped Stop.WriteFault) }
 {
     match zeros(alloc, PIECE_BYTES) {
         Ok(mut buffer) => serve_input(server, alloc, input, out, &mut buffer),
@@ -59,9 +62,12 @@ fn serve_input<L: LineServer, S: Source, K: Sink>(
     buffer: &mut [u8],
 ) -> ServiceEnd
     requires { 0 < length buffer.old }
-    ensures service { Service L.serves L.stops result (S.left input.old) (standing K.Sink server.old out.old) (S.left input.new) (standing K.Sink server.new out.new) }
+    ensures service { Service L.serves L.stops result (S.left input.old)
+        (standing K.Sink server.old out.old) (S.left input.new)
+        (standing K.Sink server.new out.new) }
     ensures reads { CountsReads S.Source input.old input.new (result ≡ ServiceEnd.ReadFault) }
-    ensures writes { CountsWrites K.Sink out.old out.new (result ≡ ServiceEnd.Stopped Stop.WriteFault) }
+    ensures writes { CountsWrites K.Sink out.old out.new
+        (result ≡ ServiceEnd.Stopped Stop.WriteFault) }
 {
     let mut framer = Framer::new(alloc);
     let mut taken = 0;
@@ -89,9 +95,15 @@ fn serve_piece<L: LineServer, K: Sink>(
     piece: &[u8],
     out: &mut K,
 ) -> Result<(), PieceFault>
-    ensures takes { OnOk result (TakesPiece (StepOf L.serves) framer.old (standing K.Sink server.old out.old) piece.now framer.new (standing K.Sink server.new out.new)) }
-    ensures breaks { IfErr result (λ fault. BreaksOff L.serves L.stops fault framer.old (standing K.Sink server.old out.old) piece.now (standing K.Sink server.new out.new)) }
-    ensures writes { CountsWrites K.Sink out.old out.new (result ≡ Err (PieceFault.Stopped Stop.WriteFault)) }
+    ensures takes { OnOk result
+        (TakesPiece (StepOf L.serves) framer.old
+        (standing K.Sink server.old out.old) piece.now framer.new
+        (standing K.Sink server.new out.new)) }
+    ensures breaks { IfErr result
+        (λ fault. BreaksOff L.serves L.stops fault framer.old
+        (standing K.Sink server.old out.old) piece.now (standing K.Sink server.new out.new)) }
+    ensures writes { CountsWrites K.Sink out.old out.new
+        (result ≡ Err (PieceFault.Stopped Stop.WriteFault)) }
 {
     match framer.feed(piece) {
         Ok(()) => match serve_waiting(server, framer, out) {
@@ -108,9 +120,14 @@ fn serve_waiting<L: LineServer, K: Sink>(
     framer: &mut Framer,
     out: &mut K,
 ) -> Result<(), Stop>
-    ensures serves { OnOk result (ServesTo (StepOf L.serves) framer.old (standing K.Sink server.old out.old) framer.new (standing K.Sink server.new out.new)) }
+    ensures serves { OnOk result
+        (ServesTo (StepOf L.serves) framer.old (standing K.Sink server.old out.old) framer.new
+        (standing K.Sink server.new out.new)) }
     ensures all { OnOk result (framer.new.waiting ≡ []) }
-    ensures stops { IfErr result (λ stop. StopsAt L.serves L.stops stop (standing K.Sink server.old out.old) framer.old.waiting (standing K.Sink server.new out.new)) }
+    ensures stops { IfErr result
+        (λ stop. StopsAt L.serves L.stops stop
+        (standing K.Sink server.old out.old) framer.old.waiting
+        (standing K.Sink server.new out.new)) }
     ensures writes { CountsWrites K.Sink out.old out.new (result ≡ Err Stop.WriteFault) }
 {
     while let Some(framed) = framer.next_line() {
@@ -130,8 +147,12 @@ fn serve_framed<L: LineServer, K: Sink>(
     out: &mut K,
 ) -> Result<(), Stop>
     requires { IsHandedOut framed framer.now }
-    ensures serves { OnOk result (ServesFramed L.serves framed framer.now (standing K.Sink server.old out.old) (standing K.Sink server.new out.new)) }
-    ensures stops { IfErr result (λ stop. StopsFramed L.stops stop framed framer.now (standing K.Sink server.old out.old) (standing K.Sink server.new out.new)) }
+    ensures serves { OnOk result
+        (ServesFramed L.serves framed framer.now (standing K.Sink server.old out.old)
+        (standing K.Sink server.new out.new)) }
+    ensures stops { IfErr result
+        (λ stop. StopsFramed L.stops stop framed framer.now (standing K.Sink server.old out.old)
+        (standing K.Sink server.new out.new)) }
     ensures writes { CountsWrites K.Sink out.old out.new (result ≡ Err Stop.WriteFault) }
 {
     match framed {

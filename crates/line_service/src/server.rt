@@ -18,13 +18,20 @@ pub trait LineServer {
     /// Serves a line.
     fn serve_line<K: Sink>(&mut self, line: &[u8], out: &mut K) -> Result<(), Stop>
         requires { length line.now ≤ most_line_bytes }
-        ensures serves { OnOk result (Self.serves self.old (Whole line.now) (K.written out.old) self.new (K.written out.new)) }
-        ensures stops { IfErr result (λ stop. Self.stops self.old (Whole line.now) (K.written out.old) stop self.new (K.written out.new)) }
+        ensures serves { OnOk result
+            (Self.serves self.old (Whole line.now) (K.written out.old) self.new
+            (K.written out.new)) }
+        ensures stops { IfErr result
+            (λ stop. Self.stops self.old (Whole line.now) (K.written out.old) stop self.new
+            (K.written out.new)) }
         ensures writes { CountsWrites K.Sink out.old out.new (result ≡ Err Stop.WriteFault) };
 
     /// Serves a line of more bytes than a line may have.
     fn serve_long<K: Sink>(&mut self, out: &mut K) -> Result<(), Stop>
-        ensures serves { OnOk result (Self.serves self.old TooLong (K.written out.old) self.new (K.written out.new)) }
-        ensures stops { IfErr result (λ stop. Self.stops self.old TooLong (K.written out.old) stop self.new (K.written out.new)) }
+        ensures serves { OnOk result
+            (Self.serves self.old TooLong (K.written out.old) self.new (K.written out.new)) }
+        ensures stops { IfErr result
+            (λ stop. Self.stops self.old TooLong (K.written out.old) stop self.new
+            (K.written out.new)) }
         ensures writes { CountsWrites K.Sink out.old out.new (result ≡ Err Stop.WriteFault) };
 }

@@ -47,8 +47,7 @@ fn lay_points(
     points: &[(u32, Milli)],
     known: &[Milli],
 )
-    requires some { 0 < step }
-    requires short { step ≤ 31_536_000 }
+    requires step { (0 < step) × (step ≤ 31_536_000) }
     requires whole { first % step ≡ 0 }
     requires fits { first + length values.old * step < 2 ^ 32 }
     requires rising { IsRising points.now }

@@ -15,7 +15,7 @@ loop-k-preserved c =
     let now = c.loop-k.invariant in
     let end : c.loop-k.limit + c.args.step ≡ c.args.first + (c.loop-k.k + 1) * c.args.step = omega (arith, now.place) in
     let whole = whole_more c.args.first c.args.step c.loop-k.k c.requires.whole in
-    let pending = values_of_bucket c.args.points.now c.args.known.now c.args.step c.loop-k.limit c.loop-k.at c.cut_from-end.result now.cut c.cut_from-end.ensures.cut c.cut_from-end.ensures.onward c.requires.some (rw now.place whole) c.requires.known in
+    let pending = values_of_bucket c.args.points.now c.args.known.now c.args.step c.loop-k.limit c.loop-k.at c.cut_from-end.result now.cut c.cut_from-end.ensures.cut c.cut_from-end.ensures.onward c.requires.step.0 (rw now.place whole) c.requires.known in
     let value = value_laid c.args.layout.now c.args.points.now c.args.archive c.args.step c.loop-k.limit c.shown_value.result _ _ _ c.shown_value.ensures (now.rest c.loop-k.k (omega arith)) pending in
     record {
       place = end;
