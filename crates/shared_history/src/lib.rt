@@ -1,0 +1,22 @@
+//! One history that threads share. What it holds stands in the proofs alone: at run time there are
+//! counts, and no entry is kept.
+#![tactic(auto)]
+
+mod entering;
+mod event;
+mod making;
+mod parts;
+mod rights;
+mod rule;
+mod seeing;
+mod settling;
+mod view;
+
+pub use entering::{enter, enter_ask};
+pub use event::Event;
+pub use making::make;
+pub use parts::{MOST_ENTRIES, Note, Order, Pass, Tail};
+pub use rule::Board;
+pub use seeing::{agree, learn, note, see};
+pub use settling::{mark, ran, settle};
+pub use view::Look;
