@@ -1,5 +1,5 @@
 -- Beginnings of lists, filters and the words of the table.
-use Rattle.std.proofs.Common.{◌≡◌, ℕ, zero, suc, ◌+◌, ◌%◌, ◌^◌, ◌≤◌, ◌≢◌, ◌⊎◌, Bool, true, false, cond, List, [], ◌∷◌, ◌++◌, length, get_or, set, refl, ap, sym, subst, ◌∙◌, inl, inr, ⊎_elim, arith, append_assoc, length-append, eq-eqb, ne_eqb, eqb}
+use Rattle.std.proofs.Common.{◌≡◌, ℕ, zero, suc, ◌+◌, ◌%◌, ◌^◌, ◌≤◌, ◌≢◌, ◌⊎◌, Bool, true, false, cond, List, [], ◌∷◌, ◌++◌, length, get_or, set, refl, ap, sym, subst, ◌∙◌, inl, inr, ⊎_elim, arith, append_assoc, length-append, map, eq-eqb, ne_eqb, eqb}
 use Rattle.std.specs.Prelude.{filter, Some, slice_get}
 use Rattle.std.proofs.lemmas.List.Elements.{filter-append}
 use Rattle.std.proofs.lemmas.List.{append-nil}
@@ -39,6 +39,10 @@ prefix_whole (x ∷ xs) (y ∷ ys) p le =
 pub none_owed : {A : Type 0} (xs : List A) (d : List A) → [] ≡ xs ++ d → (xs ≡ []) × (d ≡ [])
 none_owed [] d e = (refl, sym e)
 none_owed (x ∷ xs) d e = absurd cc
+
+pub map_same : {A : Type 0} (xs : List A) → map (λ x. x) xs ≡ xs
+map_same [] = refl
+map_same (x ∷ xs) = ap (λ ys. x ∷ ys) (map_same xs)
 
 -- what a list has none of its front has none of
 pub none_of : {A : Type 0} (f : A → Bool) (xs ys : List A) → filter f (xs ++ ys) ≡ [] → filter f xs ≡ []

@@ -13,7 +13,7 @@ use Rattle.shared_history.specs.declared.view.Branch.{Branch}
 use Rattle.shared_history.specs.declared.view.View.{View}
 use Rattle.shared_history.specs.Entries.{pass_of, is_about, of_pass, about_class, drains}
 use Rattle.shared_history.specs.Views.{view, branch, look, sighted, own_sees, marked, look_at}
-use Rattle.shared_history.specs.Plays.{Sees, Learns, Agrees, Settles, Runs, Marks, HasOwn}
+use Rattle.shared_history.specs.Plays.{Sees, Learns, Agrees, Settles, Runs, Marks, HasOwn, Closes}
 use Rattle.shared_history.specs.Rule.{Book, LookFits, OneOwed, Fits, FitsOwn, FitsBranch, Kept, Known, word_of}
 use Rattle.shared_history.proofs.ListLemmas.{prefix_nil, prefix_self, prefix_shorter, prefix_filter, prefix_whole, prefix_length, words_set, upd, upd_same, upd_else}
 use Rattle.shared_history.proofs.FittingLemmas.{base_no_pass, fit_set}
@@ -67,6 +67,16 @@ agrees slots id seen heard o l k list x y =
       f,
       λ n. (refl, f.branch.2 ∙ ap (about_class k) (sym f.lead.1)),
     ))
+
+pub closes : (slots id : ℕ) (seen heard : List Entry) (o : Option Own) (l : Lead) (t : Option Branch)
+    → Allows Kept slots id (view seen heard o (Some l) t, []) 0 (λ n. n) (Closes (step slots 0 0 0 none) (view seen heard o (Some l) t, []))
+closes slots id seen heard o l t =
+    reads slots id (view seen heard o (Some l) t) [] 0 (Closes (step slots 0 0 0 none) (view seen heard o (Some l) t, []))
+        (λ b known f. (
+          view seen heard o (Some l) t,
+          f,
+          λ n. (refl, record { none_else = λ m h. ap (of_pass m) f.lead.1 ∙ base_no_pass b known m (subst (λ (q : ℕ). q ≤ m) f.lead.2 h) }),
+        ))
 
 look_cases : (b : Book) (k m : ℕ) (l : Look) (ls : List Look) → l.class ≡ k → LookFits b k l → LookFits b m (look_at m ls) → Dec (k ≡ m) → LookFits b m (look_at m (l ∷ ls))
 look_cases b k m l ls is new old (yes same) = subst (λ (x : Bool). LookFits b m (cond x l (look_at m ls))) (sym (eq-eqb l.class m (is ∙ same))) (subst (λ (n : ℕ). LookFits b n l) same new)

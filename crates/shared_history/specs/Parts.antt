@@ -1,5 +1,5 @@
 -- What contracts see of the parts, and the view of each one's seat at rest.
-use Rattle.std.specs.Prelude.{◌≡◌, ℕ, ◌≤◌, ◌+◌, List, [], ◌∷◌, ◌++◌, max, Option, Some, None}
+use Rattle.std.specs.Prelude.{slice_get, ◌≡◌, ℕ, ◌≤◌, ◌+◌, List, [], ◌∷◌, ◌++◌, max, Option, Some, None}
 use mathlib.Core.List.{IsPrefix}
 use Rattle.atomic_table.specs.Seated.{TableId}
 use Rattle.carbon_history.specs.declared.entry.Entry.{Entry}
@@ -7,7 +7,7 @@ use Rattle.shared_history.specs.declared.view.Look.{Look}
 use Rattle.shared_history.specs.declared.view.Own.{Own}
 use Rattle.shared_history.specs.declared.view.Branch.{Branch}
 use Rattle.shared_history.specs.declared.view.View.{View}
-use Rattle.shared_history.specs.Entries.{of_pass, ask_number}
+use Rattle.shared_history.specs.Entries.{about_class, of_pass, ask_number}
 use Rattle.shared_history.specs.Views.{view, own, lead, branch, look, look_at}
 
 -- the table that it is of, the history, and how many passes and classes were made
@@ -108,6 +108,34 @@ pub record IsNewPass (table : TableId) (number : ℕ) (pass : PassValue) : Type 
   pub seen : pass.seen ≡ []
   pub looks : pass.looks ≡ []
   pub sights : pass.sights ≡ 0
+
+-- ---- the end
+
+-- what a pass has seen begins the history, and has all its own entries
+pub record HasSeen (history : List Entry) (pass : PassValue) : Type 0 where
+  pub begins : IsPrefix pass.seen history
+  pub own : of_pass pass.number history ≡ own_entries pass
+
+-- these passes have, each at its place
+abbrev pub AllSeen : List Entry → List PassValue → Type 0
+AllSeen history passes = (k : ℕ) (pass : PassValue) → slice_get passes k ≡ Some pass → HasSeen history pass
+
+-- these tails have the entries about their classes
+abbrev pub AllAgree : List Entry → List TailValue → Type 0
+AllAgree history tails =
+    (k : ℕ) (tail : TailValue) → slice_get tails k ≡ Some tail → tail.list ≡ about_class tail.class history
+
+-- these passes, or tails, are of this table
+abbrev pub AllOfTable : TableId → List PassValue → Type 0
+AllOfTable table passes = (k : ℕ) (pass : PassValue) → slice_get passes k ≡ Some pass → pass.table ≡ table
+
+abbrev pub TailsOfTable : TableId → List TailValue → Type 0
+TailsOfTable table tails = (k : ℕ) (tail : TailValue) → slice_get tails k ≡ Some tail → tail.table ≡ table
+
+-- the history that an order holds, if there is one
+abbrev pub held_list : Option OrderValue → List Entry
+held_list None = []
+held_list (Some order) = order.list
 
 -- ---- the views at rest
 

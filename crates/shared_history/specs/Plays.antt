@@ -69,3 +69,7 @@ Runs s m n w = w ≡ (ran m.0, m.1)
 -- the pass looks at the class
 abbrev pub Marks : Step Entry → Me Entry View → ℕ → Me Entry View → Type 0
 Marks s m n w = (w ≡ (marked m.0, m.1)) × Reaches m.0.own m.0.branch m.0.seen
+
+-- nothing changes; every entry names a pass that was made
+abbrev pub Closes : Step Entry → Me Entry View → ℕ → Me Entry View → Type 0
+Closes s m n w = (w ≡ m) × OfMade m.0.lead

@@ -2,6 +2,7 @@
 //! counts, and no entry is kept.
 #![tactic(auto)]
 
+mod closing;
 mod entering;
 mod event;
 mod making;
@@ -12,6 +13,7 @@ mod seeing;
 mod settling;
 mod view;
 
+pub use closing::{History, close};
 pub use entering::{enter, enter_ask};
 pub use event::Event;
 pub use making::make;

@@ -198,3 +198,12 @@ impl Play<Entry, View> for Mark {
 
     ghost then = { Marks };
 }
+
+/// The history ends.
+pub struct Close;
+
+impl Play<Entry, View> for Close {
+    ghost use Rattle.shared_history.specs.Plays.{Closes};
+
+    ghost then = { Closes };
+}
