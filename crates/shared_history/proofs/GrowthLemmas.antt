@@ -1,7 +1,7 @@
 -- The list grows, and a class's word follows.
 use Rattle.std.proofs.Common.{◌≡◌, ℕ, zero, suc, ◌+◌, ◌%◌, ◌^◌, ◌<◌, ◌≤◌, ◌≢◌, ◌==◌, Bool, true, false, List, [], ◌∷◌, ◌++◌, length, refl, ap, sym, subst, ◌∙◌, arith, eq-eqb, eqb-true, ne_eqb, length-append, le_trans}
 use Rattle.std.specs.Prelude.{Option, Some, None, filter}
-use Rattle.std.proofs.lemmas.List.{append-nil}
+use Rattle.std.proofs.lemmas.List.{append-nil, length-set}
 use Rattle.std.proofs.lemmas.List.Elements.{filter-append}
 use mathlib.Core.List.{IsPrefix}
 use mathlib.Core.Option.{none}
@@ -18,7 +18,8 @@ use Rattle.shared_history.specs.Entries.{pass_of, is_about, is_drain, of_pass, a
 use Rattle.shared_history.specs.Views.{view, lead, branch, awaiting, entered, branch_with, look_at}
 use Rattle.shared_history.specs.Plays.{Awaits, Enters}
 use Rattle.shared_history.specs.Rule.{Book, LookFits, OneOwed, Fits, FitsOwn, FitsLead, FitsBranch, Kept, Known, word_of}
-use Rattle.shared_history.proofs.ListLemmas.{prefix_self, prefix_more, filter_hit, filter_miss, filter_longer, words_set, round_one}
+use Rattle.shared_history.proofs.ListLemmas.{filter_fits, filter_hit, filter_longer, filter_miss, no_round, prefix_more, prefix_self, words_set}
+use Rattle.shared_history.proofs.CountLemmas.{few_entries}
 use Rattle.shared_history.proofs.FittingLemmas.{base_no_class, base_no_pass, fit_set}
 
 pub by_bit : (x : Bool) (P : Type 0) → (x ≡ true → P) → (x ≡ false → P) → P
@@ -37,10 +38,11 @@ word_waits : (b : Book) (e : Entry) (j : ℕ) → j ≢ 0 → word_of (waited b 
 word_waits b e zero apart = absurd (apart refl)
 word_waits b e (suc j) apart = refl
 
-one_longer : (xs : List Entry) (e : Entry) (w : Option Entry) → None ≡ w → length (xs ++ e ∷ []) % 2 ^ 64 ≡ (length (xs ++ listed w) % 2 ^ 64 + 1) % 2 ^ 64
-one_longer xs e w free =
-    ap (λ n. n % 2 ^ 64) (length-append xs (e ∷ []))
-    ∙ (round_one (length xs) ∙ (ap (λ (ys : List Entry). (length ys % 2 ^ 64 + 1) % 2 ^ 64) (sym (append-nil xs)) ∙ ap (λ x. (length (xs ++ listed x) % 2 ^ 64 + 1) % 2 ^ 64) free))
+one_longer : (xs : List Entry) (e : Entry) (w : Option Entry) → None ≡ w → length (xs ++ e ∷ []) < 2 ^ 64
+    → length (xs ++ e ∷ []) ≡ (length (xs ++ listed w) + 1) % 2 ^ 64
+one_longer xs e w free small =
+    no_round (length (xs ++ e ∷ [])) (length (xs ++ listed w))
+        (length-append xs (e ∷ []) ∙ (ap (λ (ys : List Entry). length ys + 1) (sym (append-nil xs)) ∙ ap (λ x. length (xs ++ listed x) + 1) free)) small
 
 -- an entry more in the base, and none waits
 abbrev pub grown : Book → Entry → Book
@@ -228,7 +230,9 @@ awaits slots id seen heard o all p c t e of_it room of turn s k wide at low =
       tt,
       record {
         book = b';
-        words = words_set s.words (word_of b) (word_of b') (λ n. (n + 1) % 2 ^ 64) 0 k.words (one_longer b.base e b.waiting f.lead.4) (word_waits b e);
+        first = subst (λ (n : ℕ). 0 < n) (sym (length-set s.words 0 _)) k.first;
+        words = words_set s.words (word_of b) (word_of b') (λ n. (n + 1) % 2 ^ 64) 0 k.words
+            (one_longer b.base e b.waiting f.lead.4 (few_entries b' (known_waits b id e g k.known))) (word_waits b e);
         known = known_waits b id e g k.known;
         views = fit_set b' s.views id (awaiting e v)
             (λ j u apart h.
@@ -241,7 +245,7 @@ awaits slots id seen heard o all p c t e of_it room of turn s k wide at low =
 
 -- the entry is in the list, whichever word the step is on
 pub enters : (slots id word : ℕ) (seen heard all : List Entry) (o : Own) (p c : ℕ) (w : Option Entry) (e : Entry) (t : Option Branch) → pass_of e ≡ o.number → length o.mine < 2 ^ 48 → IsOf t e → InTurn t e
-    → ((b : Book) → w ≡ b.waiting → (word_of (grown b e) word ≡ (word_of b word + 1) % 2 ^ 64) × ((j : ℕ) → j ≢ word → word_of (grown b e) j ≡ word_of b j))
+    → ((b : Book) → w ≡ b.waiting → length (b.base ++ e ∷ []) < 2 ^ 64 → (word_of (grown b e) word ≡ (word_of b word + 1) % 2 ^ 64) × ((j : ℕ) → j ≢ word → word_of (grown b e) j ≡ word_of b j))
     → Allows Kept slots id (view seen heard (Some o) (Some (lead all p c w)) t, []) word (λ n. (n + 1) % 2 ^ 64)
     (Enters e (step slots word 1 0 none) (view seen heard (Some o) (Some (lead all p c w)) t, []))
 enters slots id word seen heard all o p c w e t of_it room of turn counts s k wide at low =
@@ -253,12 +257,13 @@ enters slots id word seen heard all o p c w e t of_it room of turn counts s k wi
     let whole : of_pass o.number (b.base ++ e ∷ []) ≡ o.mine ++ e ∷ [] = filter_hit (λ x. pass_of x == o.number) b.base e hit ∙ ap (λ xs. xs ++ e ∷ []) f.own.2 in
     let all_is : all ++ e ∷ [] ≡ b.base ++ e ∷ [] = ap (λ xs. xs ++ e ∷ []) f.lead.1 in
     let mine : of_pass o.number (all ++ e ∷ []) ≡ o.mine ++ e ∷ [] = ap (of_pass o.number) all_is ∙ whole in
-    let words = counts b f.lead.4 in (
+    let words = counts b f.lead.4 (few_entries (waited b e) (known_waits b id e g k.known)) in (
       entered e v,
       keeps,
       tt,
       record {
         book = grown b e;
+        first = subst (λ (n : ℕ). 0 < n) (sym (length-set s.words word _)) k.first;
         words = words_set s.words (word_of b) (word_of (grown b e)) (λ n. (n + 1) % 2 ^ 64) word k.words words.0 words.1;
         known = known_grows b id e g k.known;
         views = fit_set (grown b e) s.views id (entered e v) (λ j u apart h. fits_else b id e g j u apart (k.views j u h))
@@ -282,18 +287,26 @@ miss_else : (e : Entry) (k m : ℕ) → is_about k e ≡ true → m ≢ k → is
 miss_else e k m hit ne = by_bit (is_about m e) (is_about m e ≡ false) (λ h. absurd (ne (same_class k m e hit h))) (λ h. h)
 
 class_same : (b : Book) (e : Entry) (m : ℕ) → is_about m e ≡ false → word_of (grown b e) (suc m) ≡ word_of b (suc m)
-class_same b e m miss = ap (λ (xs : List Entry). length xs % 2 ^ 64) (filter_miss (is_about m) b.base e miss)
+class_same b e m miss = ap length (filter_miss (is_about m) b.base e miss)
 
 class_else : (e : Entry) (k : ℕ) → is_about k e ≡ true → (b : Book) → Some e ≡ b.waiting → (j : ℕ) → j ≢ suc k → word_of (grown b e) j ≡ word_of b j
-class_else e k hit b waits zero apart = ap (λ (xs : List Entry). length xs % 2 ^ 64) (append-nil (b.base ++ e ∷ [])) ∙ ap (λ x. length (b.base ++ listed x) % 2 ^ 64) waits
+class_else e k hit b waits zero apart = ap length (append-nil (b.base ++ e ∷ [])) ∙ ap (λ x. length (b.base ++ listed x)) waits
 class_else e k hit b waits (suc m) apart = class_same b e m (miss_else e k m hit (λ same. apart (ap suc same)))
 
+below_all : (m n : ℕ) → m ≤ n → n < 2 ^ 64 → m < 2 ^ 64
+below_all m n le lt = omega (arith, le, lt)
+
+class_longer : (b : Book) (e : Entry) (k : ℕ) → is_about k e ≡ true → length (b.base ++ e ∷ []) < 2 ^ 64 → word_of (grown b e) (suc k) ≡ (word_of b (suc k) + 1) % 2 ^ 64
+class_longer b e k hit small =
+    no_round (length (about_class k (b.base ++ e ∷ []))) (length (about_class k b.base))
+        (ap length (filter_hit (is_about k) b.base e hit) ∙ length-append (about_class k b.base) (e ∷ []))
+        (below_all _ _ (filter_fits (is_about k) (b.base ++ e ∷ [])) small)
+
 -- the word of the class counts the entry that waits
-pub class_counts : (e : Entry) (k word : ℕ) → word ≡ suc k → is_about k e ≡ true → (b : Book) → Some e ≡ b.waiting
+pub class_counts : (e : Entry) (k word : ℕ) → word ≡ suc k → is_about k e ≡ true → (b : Book) → Some e ≡ b.waiting → length (b.base ++ e ∷ []) < 2 ^ 64
     → (word_of (grown b e) word ≡ (word_of b word + 1) % 2 ^ 64) × ((j : ℕ) → j ≢ word → word_of (grown b e) j ≡ word_of b j)
-class_counts e k word is hit b waits = (
-  subst (λ (i : ℕ). word_of (grown b e) i ≡ (word_of b i + 1) % 2 ^ 64) (sym is)
-      (ap (λ (xs : List Entry). length xs % 2 ^ 64) (filter_hit (is_about k) b.base e hit) ∙ (ap (λ n. n % 2 ^ 64) (length-append (about_class k b.base) (e ∷ [])) ∙ round_one (length (about_class k b.base)))),
+class_counts e k word is hit b waits small = (
+  subst (λ (i : ℕ). word_of (grown b e) i ≡ (word_of b i + 1) % 2 ^ 64) (sym is) (class_longer b e k hit small),
   λ j apart. class_else e k hit b waits j (λ same. apart (same ∙ sym is)),
 )
 
@@ -302,6 +315,6 @@ ask_else e away b zero apart = absurd (apart refl)
 ask_else e away b (suc m) apart = class_same b e m (away m)
 
 -- an entry of no class is in the list at once
-pub ask_counts : (e : Entry) → ((k : ℕ) → is_about k e ≡ false) → (b : Book) → None ≡ b.waiting
+pub ask_counts : (e : Entry) → ((k : ℕ) → is_about k e ≡ false) → (b : Book) → None ≡ b.waiting → length (b.base ++ e ∷ []) < 2 ^ 64
     → (word_of (grown b e) 0 ≡ (word_of b 0 + 1) % 2 ^ 64) × ((j : ℕ) → j ≢ 0 → word_of (grown b e) j ≡ word_of b j)
-ask_counts e away b waits = (ap (λ (xs : List Entry). length xs % 2 ^ 64) (append-nil (b.base ++ e ∷ [])) ∙ one_longer b.base e b.waiting waits, ask_else e away b)
+ask_counts e away b waits small = (ap length (append-nil (b.base ++ e ∷ [])) ∙ one_longer b.base e b.waiting waits small, ask_else e away b)

@@ -5,3 +5,4 @@ pub mod GrowthLemmas
 pub mod LookLemmas
 pub mod StartLemmas
 pub mod EventLemmas
+pub mod CountLemmas

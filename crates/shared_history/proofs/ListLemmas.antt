@@ -1,8 +1,9 @@
 -- Beginnings of lists, filters and the words of the table.
-use Rattle.std.proofs.Common.{◌≡◌, ℕ, zero, suc, ◌+◌, ◌%◌, ◌^◌, ◌≤◌, ◌≢◌, ◌⊎◌, Bool, true, false, cond, List, [], ◌∷◌, ◌++◌, length, get_or, set, refl, ap, sym, subst, ◌∙◌, inl, inr, ⊎_elim, arith, append_assoc, length-append, map, eq-eqb, ne_eqb, eqb}
+use Rattle.std.proofs.Common.{◌<◌, not, ◌≡◌, ℕ, zero, suc, ◌+◌, ◌%◌, ◌^◌, ◌≤◌, ◌≢◌, ◌⊎◌, Bool, true, false, cond, List, [], ◌∷◌, ◌++◌, length, get_or, set, refl, ap, sym, subst, ◌∙◌, inl, inr, ⊎_elim, arith, append_assoc, length-append, map, eq-eqb, ne_eqb, eqb}
 use Rattle.std.specs.Prelude.{filter, Some, slice_get}
 use Rattle.std.proofs.lemmas.List.Elements.{filter-append}
 use Rattle.std.proofs.lemmas.List.{append-nil}
+use Rattle.std.proofs.lemmas.List.Filters.{length-filter_both}
 use mathlib.Core.List.{IsPrefix}
 use mathlib.Core.Option.{some, some-injective, some-ne-none}
 use lib.ListN.{get_elem?}
@@ -78,9 +79,18 @@ words_set (x ∷ xs) W W' f (suc i) fit here others zero n e = fit zero n e ∙ 
 words_set (x ∷ xs) W W' f (suc i) fit here others (suc j) n e =
     words_set xs (λ k. W (suc k)) (λ k. W' (suc k)) f i (λ k m h. fit (suc k) m h) here (λ k ne. others (suc k) (λ h. ne (omega arith))) j n e
 
--- one more, round the end of the word
-pub round_one : (n : ℕ) → (n + 1) % 2 ^ 64 ≡ (n % 2 ^ 64 + 1) % 2 ^ 64
-round_one n = omega arith
+-- the first word, where there is one
+pub at_first : (ws : List ℕ) → 0 < length ws → get_elem? ws 0 ≡ some (get_or ws 0 0)
+at_first [] none = absurd (omega (arith, none))
+at_first (w ∷ ws) some_word = refl
+
+-- a part of a list is no longer than the list
+pub filter_fits : {A : Type 0} (f : A → Bool) (xs : List A) → length (filter f xs) ≤ length xs
+filter_fits f xs = let both = length-filter_both f (λ x. not (f x)) (λ x. refl) xs in omega (arith, both)
+
+-- one more, where the word does not come to its end
+pub no_round : (m n : ℕ) → m ≡ n + 1 → m < 2 ^ 64 → m ≡ (n + 1) % 2 ^ 64
+no_round m n e small = omega (arith, e, small)
 
 -- a function changed at one place
 abbrev pub upd : {A : Type 0} → (ℕ → A) → ℕ → A → ℕ → A

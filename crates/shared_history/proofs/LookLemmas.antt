@@ -1,6 +1,7 @@
 -- Steps that read: what they tell, and what they change.
-use Rattle.std.proofs.Common.{◌≡◌, ℕ, zero, suc, ◌+◌, ◌<◌, ◌≤◌, ◌≢◌, ◌==◌, inl, inr, Bool, cond, List, [], ◌∷◌, length, get_or, refl, ap, sym, subst, ◌∙◌, arith, eq-eqb, ne_eqb, le_trans}
+use Rattle.std.proofs.Common.{◌≡◌, ℕ, zero, suc, ◌+◌, ◌<◌, ◌≤◌, ◌≢◌, ◌==◌, inl, inr, Bool, cond, List, [], ◌∷◌, ◌++◌, length, get_or, refl, ap, sym, subst, ◌∙◌, arith, eq-eqb, ne_eqb, le_trans}
 use Rattle.std.specs.Prelude.{Option, Some, None}
+use Rattle.std.proofs.lemmas.List.{append-nil, length-set}
 use mathlib.Core.List.{IsPrefix}
 use mathlib.Core.Option.{none}
 use native.Mathlib.Decide.{ℕ_discrete, dec_le}
@@ -11,29 +12,30 @@ use Rattle.shared_history.specs.declared.view.Own.{Own}
 use Rattle.shared_history.specs.declared.view.Lead.{Lead}
 use Rattle.shared_history.specs.declared.view.Branch.{Branch}
 use Rattle.shared_history.specs.declared.view.View.{View}
-use Rattle.shared_history.specs.Entries.{pass_of, is_about, of_pass, about_class, drains}
+use Rattle.shared_history.specs.Entries.{listed, pass_of, is_about, of_pass, about_class, drains}
 use Rattle.shared_history.specs.Views.{view, branch, look, sighted, own_sees, marked, look_at}
 use Rattle.shared_history.specs.Plays.{Sees, Learns, Agrees, Settles, Runs, Marks, HasOwn, Closes}
-use Rattle.shared_history.specs.Rule.{Book, LookFits, OneOwed, Fits, FitsOwn, FitsBranch, Kept, Known, word_of}
-use Rattle.shared_history.proofs.ListLemmas.{prefix_nil, prefix_self, prefix_shorter, prefix_filter, prefix_whole, prefix_length, words_set, upd, upd_same, upd_else}
+use Rattle.shared_history.specs.Rule.{Book, LookFits, OneOwed, Fits, FitsOwn, FitsBranch, Kept, Known, whole, word_of}
+use Rattle.shared_history.proofs.ListLemmas.{at_first, prefix_nil, prefix_self, prefix_shorter, prefix_filter, prefix_whole, prefix_length, words_set, upd, upd_same, upd_else}
 use Rattle.shared_history.proofs.FittingLemmas.{base_no_pass, fit_set}
 
--- as `stays`, where what is told rests on the class lists too
-pub reads : (slots id : ℕ) (v : View) (c : List (ℕ × Entry)) (i : ℕ) (then : ℕ → Me Entry View → Type 0)
-    → ((b : Book) → Known b → Fits b id v → (w : View) × Fits b id w × ((n : ℕ) → then n (w, c)))
-    → Allows Kept slots id (v, c) i (λ n. n) then
-reads slots id v c i then next s k wide e low =
+-- a load of the first word, which counts the history
+reads : (slots id : ℕ) (v : View) (c : List (ℕ × Entry)) (then : ℕ → Me Entry View → Type 0)
+    → ((b : Book) → Known b → Fits b id v → (w : View) × Fits b id w × ((n : ℕ) → n ≡ length (whole b) → then n (w, c)))
+    → Allows Kept slots id (v, c) 0 (λ n. n) then
+reads slots id v c then next s k wide e low =
     let t = next k.book k.known (k.views id v e) in (
       t.0,
       keeps,
       tt,
       record {
         book = k.book;
-        words = words_set s.words (word_of k.book) (word_of k.book) (λ n. n) i k.words refl (λ j apart. refl);
+        first = subst (λ (n : ℕ). 0 < n) (sym (length-set s.words 0 _)) k.first;
+        words = words_set s.words (word_of k.book) (word_of k.book) (λ n. n) 0 k.words refl (λ j apart. refl);
         known = k.known;
         views = fit_set k.book s.views id t.0 (λ j u apart h. k.views j u h) t.1;
       },
-      t.2 (get_or s.words i 0),
+      t.2 (get_or s.words 0 0) (k.words 0 (get_or s.words 0 0) (at_first s.words k.first)),
     )
 
 own_sees_fits : (b : Book) (id : ℕ) (seen all : List Entry) (o : Option Own) → all ≡ b.base → FitsOwn b seen id o → FitsOwn b all id (own_sees o)
@@ -46,11 +48,11 @@ own_sees_has b id seen all (Some o) e f = ap (of_pass o.number) e ∙ f.2
 
 pub sees : (slots id : ℕ) (seen heard : List Entry) (o : Option Own) (l : Lead) (t : Option Branch)
     → Allows Kept slots id (view seen heard o (Some l) t, []) 0 (λ n. n) (Sees (step slots 0 0 0 none) (view seen heard o (Some l) t, []))
-sees slots id seen heard o l t = reads slots id (view seen heard o (Some l) t) [] 0 (Sees (step slots 0 0 0 none) (view seen heard o (Some l) t, []))
+sees slots id seen heard o l t = reads slots id (view seen heard o (Some l) t) [] (Sees (step slots 0 0 0 none) (view seen heard o (Some l) t, []))
     (λ b known f. (
       sighted (view seen heard o (Some l) t),
       record { seen = subst (λ (xs : List Entry). IsPrefix xs b.base) (sym f.lead.1) (prefix_self b.base); heard = f.heard; own = own_sees_fits b id seen l.all o f.lead.1 f.own; lead = f.lead; branch = f.branch },
-      λ n. (
+      λ n count. (
         refl,
         subst (λ (xs : List Entry). IsPrefix seen xs) (sym f.lead.1) f.seen,
         own_sees_has b id seen l.all o f.lead.1 f.own,
@@ -61,21 +63,25 @@ sees slots id seen heard o l t = reads slots id (view seen heard o (Some l) t) [
 pub agrees : (slots id : ℕ) (seen heard : List Entry) (o : Option Own) (l : Lead) (k : ℕ) (list : List Entry) (x y : ℕ)
     → Allows Kept slots id (view seen heard o (Some l) (Some (branch k list x y)), []) 0 (λ n. n) (Agrees (step slots 0 0 0 none) (view seen heard o (Some l) (Some (branch k list x y)), []))
 agrees slots id seen heard o l k list x y =
-    reads slots id (view seen heard o (Some l) (Some (branch k list x y))) [] 0 (Agrees (step slots 0 0 0 none) (view seen heard o (Some l) (Some (branch k list x y)), []))
+    reads slots id (view seen heard o (Some l) (Some (branch k list x y))) [] (Agrees (step slots 0 0 0 none) (view seen heard o (Some l) (Some (branch k list x y)), []))
     (λ b known f. (
       view seen heard o (Some l) (Some (branch k list x y)),
       f,
-      λ n. (refl, f.branch.2 ∙ ap (about_class k) (sym f.lead.1)),
+      λ n count. (refl, f.branch.2 ∙ ap (about_class k) (sym f.lead.1)),
     ))
 
 pub closes : (slots id : ℕ) (seen heard : List Entry) (o : Option Own) (l : Lead) (t : Option Branch)
     → Allows Kept slots id (view seen heard o (Some l) t, []) 0 (λ n. n) (Closes (step slots 0 0 0 none) (view seen heard o (Some l) t, []))
 closes slots id seen heard o l t =
-    reads slots id (view seen heard o (Some l) t) [] 0 (Closes (step slots 0 0 0 none) (view seen heard o (Some l) t, []))
+    reads slots id (view seen heard o (Some l) t) [] (Closes (step slots 0 0 0 none) (view seen heard o (Some l) t, []))
         (λ b known f. (
           view seen heard o (Some l) t,
           f,
-          λ n. (refl, record { none_else = λ m h. ap (of_pass m) f.lead.1 ∙ base_no_pass b known m (subst (λ (q : ℕ). q ≤ m) f.lead.2 h) }),
+          λ n count. (
+            refl,
+            record { none_else = λ m h. ap (of_pass m) f.lead.1 ∙ base_no_pass b known m (subst (λ (q : ℕ). q ≤ m) f.lead.2 h) },
+            λ free. count ∙ (ap (λ x. length (b.base ++ listed x)) (sym f.lead.4 ∙ free) ∙ ap length (append-nil b.base ∙ sym f.lead.1)),
+          ),
         ))
 
 look_cases : (b : Book) (k m : ℕ) (l : Look) (ls : List Look) → l.class ≡ k → LookFits b k l → LookFits b m (look_at m ls) → Dec (k ≡ m) → LookFits b m (look_at m (l ∷ ls))
@@ -90,14 +96,14 @@ pub marks : (slots id : ℕ) (seen heard : List Entry) (o : Own) (h : Option Lea
 marks slots id seen heard o h k list x y =
     let t : Branch = branch k list x y in
     let v : View = view seen heard (Some o) h (Some t) in
-    reads slots id v [] 0 (Marks (step slots 0 0 0 none) (v, []))
+    reads slots id v [] (Marks (step slots 0 0 0 none) (v, []))
     (λ b known f.
     let whole : list ≡ about_class k b.base = f.branch.2 in
     let before = f.own.4 k in
     let fresh : LookFits b k (look k list x y ((look_at k o.looks).times + 1)) = (subst (λ (xs : List Entry). IsPrefix list xs) whole (prefix_self list), le_is _ _ f.branch.3, le_is _ _ f.branch.4) in (
       marked v,
       record { seen = f.seen; heard = f.heard; own = (f.own.0, f.own.1, f.own.2, f.own.3, λ m. look_cases b k m (look k list x y ((look_at k o.looks).times + 1)) o.looks refl fresh (f.own.4 m) (ℕ_discrete k m)); lead = f.lead; branch = f.branch },
-      λ n. (
+      λ n count. (
         refl,
         (
           subst (λ (xs : List Entry). IsPrefix (look_at k o.looks).list xs) (sym whole) before.0,
@@ -125,23 +131,23 @@ own_has b id seen None f = tt
 own_has b id seen (Some o) f = f.3
 
 learns_at : (b : Book) (id : ℕ) (seen heard : List Entry) (o : Option Own) (l : Option Lead) (t : Option Branch) (m : Step Entry) → Fits b id (view seen heard o l t) → Dec (length seen ≤ length heard)
-    → (w : View) × Fits b id w × ((n : ℕ) → Learns m (view seen heard o l t, []) n (w, []))
+    → (w : View) × Fits b id w × ((n : ℕ) → n ≡ length (whole b) → Learns m (view seen heard o l t, []) n (w, []))
 learns_at b id seen heard o l t m f (yes le) =
     let p : IsPrefix seen heard = prefix_shorter seen heard b.base f.seen f.heard le in
     let own' : FitsOwn b heard id o = own_between b id seen heard o p f.heard f.own in (
       view heard [] o l t,
       record { seen = f.heard; heard = prefix_nil b.base; own = own'; lead = f.lead; branch = f.branch },
-      λ n. (refl, inr refl, p, prefix_self heard, own_has b id heard o own'),
+      λ n count. (refl, inr refl, p, prefix_self heard, own_has b id heard o own'),
     )
 learns_at b id seen heard o l t m f (no lt) =
     let p : IsPrefix heard seen = prefix_shorter heard seen b.base f.heard f.seen (omega arith) in (
       view seen [] o l t,
       record { seen = f.seen; heard = prefix_nil b.base; own = f.own; lead = f.lead; branch = f.branch },
-      λ n. (refl, inl refl, prefix_self seen, p, own_has b id seen o f.own),
+      λ n count. (refl, inl refl, prefix_self seen, p, own_has b id seen o f.own),
     )
 
 pub learns : (slots id : ℕ) (v : View) → Allows Kept slots id (v, []) 0 (λ n. n) (Learns (step slots 0 0 0 none) (v, []))
-learns slots id v = reads slots id v [] 0 (Learns (step slots 0 0 0 none) (v, []))
+learns slots id v = reads slots id v [] (Learns (step slots 0 0 0 none) (v, []))
     (λ b known f. learns_at b id v.seen v.heard v.own v.lead v.branch (step slots 0 0 0 none) f (dec_le (length v.seen) (length v.heard)))
 
 -- the state of a class rises
@@ -187,6 +193,7 @@ raises slots id seen heard o h k list x y x' y' then told up s kept wide at low 
       tt,
       record {
         book = b';
+        first = subst (λ (n : ℕ). 0 < n) (sym (length-set s.words 0 _)) kept.first;
         words = words_set s.words (word_of b) (word_of b') (λ n. n) 0 kept.words refl (raised_words b t.0 t.1);
         known = record {
           few_passes = kept.known.few_passes;

@@ -26,6 +26,7 @@ module _ (s : State Entry View) (k : Kept s) (id : ℕ) (seen heard : List Entry
       let f = k.views id _ e in
       record {
         book = k.book;
+        first = k.first;
         words = k.words;
         known = k.known;
         views = fit_snoc k.book (set s.views id (view seen heard o None t)) (view [] [] None None None)
@@ -39,6 +40,7 @@ module _ (s : State Entry View) (k : Kept s) (id : ℕ) (seen heard : List Entry
       let b : Book = with_leader k.book n in
       record {
         book = b;
+        first = k.first;
         words = k.words;
         known = record { few_passes = k.known.few_passes; no_pass = k.known.no_pass; few = k.known.few; no_class = k.known.no_class; no_state = k.known.no_state; owed = k.known.owed };
         views = fit_snoc b views (view [] [] None (Some l) None)
@@ -52,6 +54,7 @@ module _ (s : State Entry View) (k : Kept s) (id : ℕ) (seen heard : List Entry
       let f = k.views id _ e in
       record {
         book = k.book;
+        first = k.first;
         words = k.words;
         known = k.known;
         views = fit_snoc k.book (set s.views id (view seen heard o l None)) (view [] [] None None None)
@@ -65,6 +68,7 @@ module _ (s : State Entry View) (k : Kept s) (id : ℕ) (seen heard : List Entry
       let b : Book = with_keeper k.book t.class n in
       record {
         book = b;
+        first = k.first;
         words = k.words;
         known = record { few_passes = k.known.few_passes; no_pass = k.known.no_pass; few = k.known.few; no_class = k.known.no_class; no_state = k.known.no_state; owed = k.known.owed };
         views = fit_snoc b views (view [] [] None None (Some t))
@@ -95,6 +99,7 @@ module _ (s : State Entry View) (k : Kept s) (id other : ℕ) (v : View) (mine :
       let f = k.views id v mine in
       record {
         book = k.book;
+        first = k.first;
         words = k.words;
         known = k.known;
         views = fit_two k.book s.views id other (view v.seen v.heard v.own None v.branch) nobody (λ j u apart away h. k.views j u h)
@@ -106,6 +111,7 @@ module _ (s : State Entry View) (k : Kept s) (id other : ℕ) (v : View) (mine :
       let b : Book = with_leader k.book id in
       record {
         book = b;
+        first = k.first;
         words = k.words;
         known = record { few_passes = k.known.few_passes; no_pass = k.known.no_pass; few = k.known.few; no_class = k.known.no_class; no_state = k.known.no_state; owed = k.known.owed };
         views = fit_two b s.views id other (view v.seen v.heard v.own (Some l) v.branch) nobody (λ j u apart away h. relead k.book id j u (λ same. away (same ∙ g.lead.0)) (k.views j u h))
@@ -117,6 +123,7 @@ module _ (s : State Entry View) (k : Kept s) (id other : ℕ) (v : View) (mine :
       let f = k.views id v mine in
       record {
         book = k.book;
+        first = k.first;
         words = k.words;
         known = k.known;
         views = fit_two k.book s.views id other (view v.seen v.heard v.own v.lead None) nobody (λ j u apart away h. k.views j u h)
@@ -128,6 +135,7 @@ module _ (s : State Entry View) (k : Kept s) (id other : ℕ) (v : View) (mine :
       let b : Book = with_keeper k.book t.class id in
       record {
         book = b;
+        first = k.first;
         words = k.words;
         known = record { few_passes = k.known.few_passes; no_pass = k.known.no_pass; few = k.known.few; no_class = k.known.no_class; no_state = k.known.no_state; owed = k.known.owed };
         views = fit_two b s.views id other (view v.seen v.heard v.own v.lead (Some t)) nobody (λ j u apart away h. rekeep k.book t.class id j u (λ same. away (same ∙ g.branch.0)) (k.views j u h))
@@ -140,6 +148,7 @@ module _ (s : State Entry View) (k : Kept s) (id other : ℕ) (v : View) (mine :
       let g = k.views other w e in
       record {
         book = k.book;
+        first = k.first;
         words = k.words;
         known = k.known;
         views = fit_two k.book s.views id other (view v.seen w.seen v.own v.lead v.branch) nobody (λ j u apart away h. k.views j u h)
@@ -160,6 +169,7 @@ notes id v s k e =
     let f = k.views id v e in
     record {
       book = k.book;
+      first = k.first;
       words = k.words;
       known = k.known;
       views = fit_snoc k.book (set s.views id v) (noted v) (fit_set k.book s.views id v (λ j u apart h. k.views j u h) f)

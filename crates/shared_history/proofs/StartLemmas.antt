@@ -1,5 +1,5 @@
 -- The table at the start, and a tail or a pass more.
-use Rattle.std.proofs.Common.{◌≡◌, ℕ, zero, suc, ◌+◌, ◌<◌, ◌≤◌, ◌≢◌, List, [], ◌∷◌, ◌++◌, length, replicate, set, refl, ap, sym, subst, ◌∙◌, arith, zero-le}
+use Rattle.std.proofs.Common.{add-one, ◌≡◌, ℕ, zero, suc, ◌+◌, ◌<◌, ◌≤◌, ◌≢◌, List, [], ◌∷◌, ◌++◌, length, replicate, set, refl, ap, sym, subst, ◌∙◌, arith, zero-le}
 use Rattle.std.specs.Prelude.{Option, Some, None}
 use mathlib.Core.Option.{some, some-injective, some-ne-none}
 use lib.ListN.{get_elem?}
@@ -31,10 +31,14 @@ first_view : (by : ℕ) (v : View) → get_elem? (founder ∷ []) by ≡ some v 
 first_view zero v e = subst (λ (u : View). Fits blank 0 u) (some-injective founder v e) (record { seen = prefix_nil []; heard = prefix_nil []; own = tt; lead = (refl, refl, refl, refl, refl); branch = tt })
 first_view (suc by) v e = absurd (some-ne-none v (sym e))
 
-pub opens : (n : ℕ) → Kept (opening (replicate n 0) [] founder)
+some_words : (n : ℕ) → 0 < length {A = ℕ} (replicate (n + 1) 0)
+some_words n = subst (λ (m : ℕ). 0 < length {A = ℕ} (replicate m 0)) (sym (add-one n)) (omega arith)
+
+pub opens : (n : ℕ) → Kept (opening (replicate (n + 1) 0) [] founder)
 opens n = record {
   book = blank;
-  words = λ i m e. zeros n i m e ∙ blank_words i;
+  first = some_words n;
+  words = λ i m e. zeros (n + 1) i m e ∙ blank_words i;
   known = record {
     few_passes = zero-le;
     no_pass = λ k h. refl;
@@ -74,6 +78,7 @@ module _ (s : State Entry View) (k : Kept s) (id : ℕ) (seen heard : List Entry
       let views = set s.views id (view seen heard o None t) in
       record {
         book = k.book;
+        first = k.first;
         words = k.words;
         known = k.known;
         views = fit_snoc k.book views (view [] [] None None None) (fit_set k.book s.views id (view seen heard o None t) (λ j u apart h. k.views j u h) f) (fit_nobody k.book (length views));
@@ -90,6 +95,7 @@ module _ (s : State Entry View) (k : Kept s) (id : ℕ) (seen heard : List Entry
       let z = k.known.no_state kk (self_le kk) in
       record {
         book = b';
+        first = k.first;
         words = k.words;
         known = record {
           few_passes = k.known.few_passes;
@@ -148,6 +154,7 @@ module _ (s : State Entry View) (k : Kept s) (id : ℕ) (seen heard : List Entry
       let views = set s.views id (view seen heard o None t) in
       record {
         book = k.book;
+        first = k.first;
         words = k.words;
         known = k.known;
         views = fit_snoc k.book views (view [] [] None None None) (fit_set k.book s.views id (view seen heard o None t) (λ j u apart h. k.views j u h) f) (fit_nobody k.book (length views));
@@ -163,6 +170,7 @@ module _ (s : State Entry View) (k : Kept s) (id : ℕ) (seen heard : List Entry
       let at : l.passes ≡ kk = f.lead.2 in
       record {
         book = b';
+        first = k.first;
         words = k.words;
         known = record {
           few_passes = subst (λ (m : ℕ). m + 1 ≤ 65535) at (below_next l.passes room);

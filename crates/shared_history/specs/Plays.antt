@@ -1,5 +1,5 @@
 -- What each step tells.
-use Rattle.std.specs.Prelude.{◌≡◌, ℕ, List, [], ◌⊎◌, Option, Some, None, ◌≤◌}
+use Rattle.std.specs.Prelude.{length, ◌≡◌, ℕ, List, [], ◌⊎◌, Option, Some, None, ◌≤◌}
 use mathlib.Core.List.{IsPrefix}
 use Rattle.atomic_table.specs.Table.{Me, Step}
 use Rattle.carbon_history.specs.declared.entry.Entry.{Entry}
@@ -70,6 +70,11 @@ Runs s m n w = w ≡ (ran m.0, m.1)
 abbrev pub Marks : Step Entry → Me Entry View → ℕ → Me Entry View → Type 0
 Marks s m n w = (w ≡ (marked m.0, m.1)) × Reaches m.0.own m.0.branch m.0.seen
 
--- nothing changes; every entry names a pass that was made
+-- where no entry waits, the number found counts the list
+abbrev pub CountedBy : Option Lead → ℕ → Type 0
+CountedBy None n = Unit {0}
+CountedBy (Some l) n = l.waits ≡ None → n ≡ length l.all
+
+-- nothing changes; every entry names a pass that was made, and the number found counts them
 abbrev pub Closes : Step Entry → Me Entry View → ℕ → Me Entry View → Type 0
-Closes s m n w = (w ≡ m) × OfMade m.0.lead
+Closes s m n w = (w ≡ m) × OfMade m.0.lead × CountedBy m.0.lead n

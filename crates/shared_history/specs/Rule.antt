@@ -32,8 +32,8 @@ whole b = b.base ++ listed b.waiting
 
 -- what the words count: the first one the history, each other the entries about a class
 abbrev pub word_of : Book → ℕ → ℕ
-word_of b zero = length (whole b) % 2 ^ 64
-word_of b (suc class) = length (about_class class b.base) % 2 ^ 64
+word_of b zero = length (whole b)
+word_of b (suc class) = length (about_class class b.base)
 
 -- of some drains all are settled, or all but one
 pub record OneOwed (settled : ℕ) (list : List Entry) : Type 0 where
@@ -79,6 +79,7 @@ pub record Known (b : Book) : Type 0 where
 
 pub record Kept (s : State Entry View) : Type 0 where
   pub book : Book
+  pub first : 0 < length s.words
   pub words : (i n : ℕ) → get_elem? s.words i ≡ some n → n ≡ word_of book i
   pub known : Known book
   pub views : (by : ℕ) (v : View) → get_elem? s.views by ≡ some v → Fits book by v

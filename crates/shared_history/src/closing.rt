@@ -1,5 +1,5 @@
 //! The end of a history.
-ghost use Rattle.std.specs.Prelude.{◌≡◌, ◌<◌, [], Some, slice_get};
+ghost use Rattle.std.specs.Prelude.{◌≡◌, ◌<◌, [], Some, length, slice_get};
 ghost use Rattle.shared_history.specs.Entries.{NamesPasses, about_class};
 ghost use Rattle.shared_history.specs.Parts.{AllAgree, AllOfTable, AllSeen, HasSeen, TailsOfTable};
 
@@ -8,20 +8,23 @@ use crate::rule::{Board, Close};
 use crate::seeing::{agree, see};
 use std::marker::Model;
 
-/// A history that has ended: no entry comes any more.
+/// A history that has ended: no entry comes any more. At run time it is a count.
 #[derive(Drop)]
 pub struct History {
+    count: u64,
     held: Option<Order>,
 }
 
 impl Model for History {
-    ghost use Rattle.std.specs.Prelude.{List};
+    ghost use Rattle.std.specs.Prelude.{◌≡◌, List, length};
     ghost use Rattle.carbon_history.specs.declared.entry.Entry.{Entry};
     ghost use Rattle.shared_history.specs.Parts.{held_list};
 
     ghost Value = { List Entry };
 
     ghost view = { λ h. held_list h.held };
+
+    ghost invariant = { λ h. h.count ≡ length (held_list h.held) };
 }
 
 impl History {
@@ -29,7 +32,17 @@ impl History {
     pub fn empty() -> History
         ensures { result ≡ [] }
     {
-        History { held: None }
+        History {
+            count: 0,
+            held: None,
+        }
+    }
+
+    /// How many entries it has.
+    pub fn len(&self) -> u64
+        ensures { result ≡ length self.now }
+    {
+        self.count
     }
 }
 
@@ -69,12 +82,13 @@ fn agree_all(order: &mut Order, tails: Vec<Tail>)
     }
 }
 
-fn close_order(order: &mut Order)
+fn count_all(order: &mut Order) -> u64
+    ensures count { result ≡ length order.old.list }
     ensures made { NamesPasses order.old.passes order.old.list }
     ensures order { order.new ≡ order.old }
 {
     let board: &Board = &order.board;
-    board.shared.load::<Close>(&mut order.seat, 0);
+    board.shared.load::<Close>(&mut order.seat, 0)
 }
 
 /// Ends the history. What each pass has seen begins it and has all entries of that pass, each tail has
@@ -87,8 +101,11 @@ pub fn close(mut order: Order, tails: Vec<Tail>, passes: Vec<Pass>) -> History
     ensures tails { AllAgree result tails.items }
     ensures made { NamesPasses order.passes result }
 {
-    close_order(&mut order);
+    let count = count_all(&mut order);
     see_all(&mut order, passes);
     agree_all(&mut order, tails);
-    History { held: Some(order) }
+    History {
+        count,
+        held: Some(order),
+    }
 }

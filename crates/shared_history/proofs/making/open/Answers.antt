@@ -9,4 +9,4 @@ use Rattle.shared_history.proofs.making.open.Goals as goal
 pub of_words-requires : goal.of_words-requires
 of_words-requires c =
     let all : c.as_slice.result.now ≡ replicate (c.args.classes + 1) 0 = c.as_slice.ensures.value ∙ c.in_ok-words.ensures.items_if_clones_equal (λ y e. e) in
-    subst (λ (ws : List ℕ). Kept (opening {S = Entry} ws [] founder)) (sym all) (opens (c.args.classes + 1))
+    subst (λ (ws : List ℕ). Kept (opening {S = Entry} ws [] founder)) (sym all) (opens c.args.classes)

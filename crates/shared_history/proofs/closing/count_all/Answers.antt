@@ -7,7 +7,7 @@ use Rattle.shared_history.specs.Views.{all_of, lead}
 use Rattle.shared_history.specs.Plays.{Closes}
 use Rattle.shared_history.specs.Rule.{Kept}
 use Rattle.shared_history.proofs.LookLemmas.{closes}
-use Rattle.shared_history.proofs.closing.close_order.Goals as goal
+use Rattle.shared_history.proofs.closing.count_all.Goals as goal
 
 pub load-requires : goal.load-requires
 load-requires c =
