@@ -4,5 +4,6 @@ pub mod RightLemmas
 pub mod GrowthLemmas
 pub mod LookLemmas
 pub mod StartLemmas
+pub mod PartLemmas
 pub mod EventLemmas
 pub mod CountLemmas

@@ -4,3 +4,4 @@ pub mod Views
 pub mod Rule
 pub mod Plays
 pub mod Parts
+pub mod Laws

@@ -5,6 +5,7 @@
 mod closing;
 mod entering;
 mod event;
+mod laws;
 mod making;
 mod parts;
 mod rights;
@@ -16,6 +17,10 @@ mod view;
 pub use closing::{History, close};
 pub use entering::{enter, enter_ask};
 pub use event::Event;
+pub use laws::{
+    each_entry_is_of_a_pass, looks_are_behind_their_class, one_seat_appends, one_seat_has_a_class,
+    what_is_seen_begins_the_history,
+};
 pub use making::make;
 pub use parts::{MOST_ENTRIES, Note, Order, Pass, Tail};
 pub use rule::Board;
