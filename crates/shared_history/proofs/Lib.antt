@@ -5,5 +5,6 @@ pub mod GrowthLemmas
 pub mod LookLemmas
 pub mod StartLemmas
 pub mod PartLemmas
+pub mod EndLemmas
 pub mod EventLemmas
 pub mod CountLemmas

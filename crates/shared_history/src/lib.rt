@@ -14,6 +14,9 @@ mod seeing;
 mod settling;
 mod view;
 
+#[cfg(test)]
+mod tests;
+
 pub use closing::{History, close};
 pub use entering::{enter, enter_ask};
 pub use event::Event;
