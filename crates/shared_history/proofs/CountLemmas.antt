@@ -65,6 +65,7 @@ module _ (entry : Entry) (entries : List Entry) where
         let less = not_fewer pass in
         no_entries (of_pass pass entries) (omega (arith, none, less));
   }
+
 pub total_whole : (passes : ℕ) (entries : List Entry) → NamesPasses passes entries → length entries ≡ total passes entries
 total_whole passes [] names = total_none passes
 total_whole passes (entry ∷ entries) names =

@@ -1,5 +1,5 @@
 -- The list grows, and a class's word follows.
-use Rattle.std.proofs.Common.{◌≡◌, ℕ, zero, suc, ◌+◌, ◌%◌, ◌^◌, ◌<◌, ◌≤◌, ◌≢◌, ◌==◌, Bool, true, false, List, [], ◌∷◌, ◌++◌, length, refl, ap, sym, subst, ◌∙◌, arith, eq-eqb, eqb-true, ne_eqb, length-append, le_trans}
+use Rattle.std.proofs.Common.{◌≡◌, ℕ, zero, suc, ◌+◌, ◌%◌, ◌^◌, ◌<◌, ◌≤◌, ◌≢◌, ◌==◌, Bool, true, false, List, [], ◌∷◌, ◌++◌, length, refl, set, ap, sym, subst, ◌∙◌, arith, eq-eqb, eqb-true, ne_eqb, length-append, le_trans}
 use Rattle.std.specs.Prelude.{Option, Some, None, filter}
 use Rattle.std.proofs.lemmas.List.{append-nil, length-set}
 use Rattle.std.proofs.lemmas.List.Elements.{filter-append}
@@ -17,9 +17,10 @@ use Rattle.metric_path.specs.Class.{class_of}
 use Rattle.shared_history.specs.Entries.{pass_of, is_about, is_drain, of_pass, about_class, drains, listed}
 use Rattle.shared_history.specs.Views.{view, lead, branch, awaiting, entered, branch_with, look_at}
 use Rattle.shared_history.specs.Plays.{Awaits, Enters}
-use Rattle.shared_history.specs.Rule.{Book, LookFits, OneOwed, Fits, FitsOwn, FitsLead, FitsBranch, Kept, Known, word_of}
+use Rattle.shared_history.specs.Rule.{Book, LookFits, OneOwed, Fits, FitsOwn, FitsLead, FitsBranch, Kept, Known, word_of, IsOfClass}
 use Rattle.shared_history.proofs.ListLemmas.{filter_fits, filter_hit, filter_longer, filter_miss, no_round, prefix_more, prefix_self, words_set}
 use Rattle.shared_history.proofs.CountLemmas.{few_entries}
+use Rattle.shared_history.proofs.HeldLemmas.{held_set, same_held}
 use Rattle.shared_history.proofs.FittingLemmas.{base_no_class, base_no_pass, fit_set}
 
 pub by_bit : (x : Bool) (P : Type 0) → (x ≡ true → P) → (x ≡ false → P) → P
@@ -42,7 +43,7 @@ one_longer : (xs : List Entry) (e : Entry) (w : Option Entry) → None ≡ w →
     → length (xs ++ e ∷ []) ≡ (length (xs ++ listed w) + 1) % 2 ^ 64
 one_longer xs e w free small =
     no_round (length (xs ++ e ∷ [])) (length (xs ++ listed w))
-        (length-append xs (e ∷ []) ∙ (ap (λ (ys : List Entry). length ys + 1) (sym (append-nil xs)) ∙ ap (λ x. length (xs ++ listed x) + 1) free)) small
+    (length-append xs (e ∷ []) ∙ (ap (λ (ys : List Entry). length ys + 1) (sym (append-nil xs)) ∙ ap (λ x. length (xs ++ listed x) + 1) free)) small
 
 -- an entry more in the base, and none waits
 abbrev pub grown : Book → Entry → Book
@@ -215,6 +216,11 @@ grows_own b id e o seen t leads of_it room of turn f branch =
     grows_by b id e leads (ap b.owner of_it ∙ f.0) (subst (λ (m : ℕ). m < b.passes) (sym of_it) f.1)
     (subst (λ (xs : List Entry). length xs < 2 ^ 48) (sym mine) room) t of turn branch
 
+-- a class's right with an entry more
+class_stays : (class : ℕ) (t : Option Branch) (e : Entry) → IsOfClass class t → IsOfClass class (branch_with t e)
+class_stays class None e h = h
+class_stays class (Some t) e h = h
+
 pub awaits : (slots id : ℕ) (seen heard : List Entry) (o : Own) (all : List Entry) (p c : ℕ) (t : Option Branch) (e : Entry)
     → pass_of e ≡ o.number → length o.mine < 2 ^ 48 → IsOf t e → InTurn t e
     → Allows Kept slots id (view seen heard (Some o) (Some (lead all p c None)) t, []) 0 (λ n. (n + 1) % 2 ^ 64)
@@ -239,6 +245,8 @@ awaits slots id seen heard o all p c t e of_it room of turn s k wide at low =
             let g = k.views j u h in
             record { seen = g.seen; heard = g.heard; own = g.own; lead = lead_waits b e id j u.lead f.lead.0 apart g.lead; branch = g.branch })
             (record { seen = f.seen; heard = f.heard; own = f.own; lead = (f.lead.0, f.lead.1, f.lead.2, f.lead.3, refl); branch = f.branch });
+        held = same_held b b' (set s.views id (awaiting e v)) refl refl refl refl refl
+            (held_set b s.views id v (awaiting e v) at (record { lead = λ h. h; branch = λ class h. h; own = λ pass h. h }) k.held);
       },
       refl,
     )
@@ -274,6 +282,8 @@ enters slots id word seen heard all o p c w e t of_it room of turn counts s k wi
               lead = (f.lead.0, all_is, f.lead.2, f.lead.3, refl);
               branch = branch_grows b id e t of f.branch;
             });
+        held = same_held b (grown b e) (set s.views id (entered e v)) refl refl refl refl refl
+            (held_set b s.views id v (entered e v) at (record { lead = λ h. h; branch = λ class h. class_stays class t e h; own = λ pass h. h }) k.held);
       },
       (
         refl,
@@ -299,8 +309,8 @@ below_all m n le lt = omega (arith, le, lt)
 class_longer : (b : Book) (e : Entry) (k : ℕ) → is_about k e ≡ true → length (b.base ++ e ∷ []) < 2 ^ 64 → word_of (grown b e) (suc k) ≡ (word_of b (suc k) + 1) % 2 ^ 64
 class_longer b e k hit small =
     no_round (length (about_class k (b.base ++ e ∷ []))) (length (about_class k b.base))
-        (ap length (filter_hit (is_about k) b.base e hit) ∙ length-append (about_class k b.base) (e ∷ []))
-        (below_all _ _ (filter_fits (is_about k) (b.base ++ e ∷ [])) small)
+    (ap length (filter_hit (is_about k) b.base e hit) ∙ length-append (about_class k b.base) (e ∷ []))
+    (below_all _ _ (filter_fits (is_about k) (b.base ++ e ∷ [])) small)
 
 -- the word of the class counts the entry that waits
 pub class_counts : (e : Entry) (k word : ℕ) → word ≡ suc k → is_about k e ≡ true → (b : Book) → Some e ≡ b.waiting → length (b.base ++ e ∷ []) < 2 ^ 64

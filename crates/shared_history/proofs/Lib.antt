@@ -1,5 +1,6 @@
 pub mod ListLemmas
 pub mod FittingLemmas
+pub mod HeldLemmas
 pub mod RightLemmas
 pub mod GrowthLemmas
 pub mod LookLemmas

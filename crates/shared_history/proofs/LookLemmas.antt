@@ -1,5 +1,5 @@
 -- Steps that read: what they tell, and what they change.
-use Rattle.std.proofs.Common.{◌≡◌, ℕ, zero, suc, ◌+◌, ◌<◌, ◌≤◌, ◌≢◌, ◌==◌, inl, inr, Bool, cond, List, [], ◌∷◌, ◌++◌, length, get_or, refl, ap, sym, subst, ◌∙◌, arith, eq-eqb, ne_eqb, le_trans}
+use Rattle.std.proofs.Common.{◌≡◌, ℕ, zero, suc, ◌+◌, ◌<◌, ◌≤◌, ◌≢◌, ◌==◌, inl, inr, Bool, cond, List, [], ◌∷◌, ◌++◌, length, get_or, refl, set, ap, sym, subst, ◌∙◌, arith, eq-eqb, ne_eqb, le_trans}
 use Rattle.std.specs.Prelude.{Option, Some, None}
 use Rattle.std.proofs.lemmas.List.{append-nil, length-set}
 use mathlib.Core.List.{IsPrefix}
@@ -15,13 +15,14 @@ use Rattle.shared_history.specs.declared.view.View.{View}
 use Rattle.shared_history.specs.Entries.{listed, pass_of, is_about, of_pass, about_class, drains}
 use Rattle.shared_history.specs.Views.{view, branch, look, sighted, own_sees, marked, look_at}
 use Rattle.shared_history.specs.Plays.{Sees, Learns, Agrees, Settles, Runs, Marks, HasOwn, Closes}
-use Rattle.shared_history.specs.Rule.{Book, LookFits, OneOwed, Fits, FitsOwn, FitsBranch, Kept, Known, whole, word_of}
+use Rattle.shared_history.specs.Rule.{IsOfPass, Book, LookFits, OneOwed, Fits, FitsOwn, FitsBranch, Kept, Known, whole, word_of}
 use Rattle.shared_history.proofs.ListLemmas.{at_first, prefix_nil, prefix_self, prefix_shorter, prefix_filter, prefix_whole, prefix_length, words_set, upd, upd_same, upd_else}
+use Rattle.shared_history.proofs.HeldLemmas.{HasAll, held_set, same_held}
 use Rattle.shared_history.proofs.FittingLemmas.{base_no_pass, fit_set}
 
 -- a load of the first word, which counts the history
 reads : (slots id : ℕ) (v : View) (c : List (ℕ × Entry)) (then : ℕ → Me Entry View → Type 0)
-    → ((b : Book) → Known b → Fits b id v → (w : View) × Fits b id w × ((n : ℕ) → n ≡ length (whole b) → then n (w, c)))
+    → ((b : Book) → Known b → Fits b id v → (w : View) × Fits b id w × HasAll v w × ((n : ℕ) → n ≡ length (whole b) → then n (w, c)))
     → Allows Kept slots id (v, c) 0 (λ n. n) then
 reads slots id v c then next s k wide e low =
     let t = next k.book k.known (k.views id v e) in (
@@ -34,9 +35,15 @@ reads slots id v c then next s k wide e low =
         words = words_set s.words (word_of k.book) (word_of k.book) (λ n. n) 0 k.words refl (λ j apart. refl);
         known = k.known;
         views = fit_set k.book s.views id t.0 (λ j u apart h. k.views j u h) t.1;
+        held = held_set k.book s.views id v t.0 e t.2 k.held;
       },
-      t.2 (get_or s.words 0 0) (k.words 0 (get_or s.words 0 0) (at_first s.words k.first)),
+      t.3 (get_or s.words 0 0) (k.words 0 (get_or s.words 0 0) (at_first s.words k.first)),
     )
+
+-- a pass that sees is the pass that it was
+pass_stays : (pass : ℕ) (o : Option Own) → IsOfPass pass o → IsOfPass pass (own_sees o)
+pass_stays pass None h = h
+pass_stays pass (Some o) h = h
 
 own_sees_fits : (b : Book) (id : ℕ) (seen all : List Entry) (o : Option Own) → all ≡ b.base → FitsOwn b seen id o → FitsOwn b all id (own_sees o)
 own_sees_fits b id seen all None e f = tt
@@ -52,6 +59,7 @@ sees slots id seen heard o l t = reads slots id (view seen heard o (Some l) t) [
     (λ b known f. (
       sighted (view seen heard o (Some l) t),
       record { seen = subst (λ (xs : List Entry). IsPrefix xs b.base) (sym f.lead.1) (prefix_self b.base); heard = f.heard; own = own_sees_fits b id seen l.all o f.lead.1 f.own; lead = f.lead; branch = f.branch },
+      record { lead = λ h. h; branch = λ class h. h; own = λ pass h. pass_stays pass o h },
       λ n count. (
         refl,
         subst (λ (xs : List Entry). IsPrefix seen xs) (sym f.lead.1) f.seen,
@@ -67,6 +75,7 @@ agrees slots id seen heard o l k list x y =
     (λ b known f. (
       view seen heard o (Some l) (Some (branch k list x y)),
       f,
+      record { lead = λ h. h; branch = λ class h. h; own = λ pass h. h },
       λ n count. (refl, f.branch.2 ∙ ap (about_class k) (sym f.lead.1)),
     ))
 
@@ -74,15 +83,16 @@ pub closes : (slots id : ℕ) (seen heard : List Entry) (o : Option Own) (l : Le
     → Allows Kept slots id (view seen heard o (Some l) t, []) 0 (λ n. n) (Closes (step slots 0 0 0 none) (view seen heard o (Some l) t, []))
 closes slots id seen heard o l t =
     reads slots id (view seen heard o (Some l) t) [] (Closes (step slots 0 0 0 none) (view seen heard o (Some l) t, []))
-        (λ b known f. (
-          view seen heard o (Some l) t,
-          f,
-          λ n count. (
-            refl,
-            record { none_else = λ m h. ap (of_pass m) f.lead.1 ∙ base_no_pass b known m (subst (λ (q : ℕ). q ≤ m) f.lead.2 h) },
-            λ free. count ∙ (ap (λ x. length (b.base ++ listed x)) (sym f.lead.4 ∙ free) ∙ ap length (append-nil b.base ∙ sym f.lead.1)),
-          ),
-        ))
+    (λ b known f. (
+      view seen heard o (Some l) t,
+      f,
+      record { lead = λ h. h; branch = λ class h. h; own = λ pass h. h },
+      λ n count. (
+        refl,
+        record { none_else = λ m h. ap (of_pass m) f.lead.1 ∙ base_no_pass b known m (subst (λ (q : ℕ). q ≤ m) f.lead.2 h) },
+        λ free. count ∙ (ap (λ x. length (b.base ++ listed x)) (sym f.lead.4 ∙ free) ∙ ap length (append-nil b.base ∙ sym f.lead.1)),
+      ),
+    ))
 
 look_cases : (b : Book) (k m : ℕ) (l : Look) (ls : List Look) → l.class ≡ k → LookFits b k l → LookFits b m (look_at m ls) → Dec (k ≡ m) → LookFits b m (look_at m (l ∷ ls))
 look_cases b k m l ls is new old (yes same) = subst (λ (x : Bool). LookFits b m (cond x l (look_at m ls))) (sym (eq-eqb l.class m (is ∙ same))) (subst (λ (n : ℕ). LookFits b n l) same new)
@@ -103,6 +113,7 @@ marks slots id seen heard o h k list x y =
     let fresh : LookFits b k (look k list x y ((look_at k o.looks).times + 1)) = (subst (λ (xs : List Entry). IsPrefix list xs) whole (prefix_self list), le_is _ _ f.branch.3, le_is _ _ f.branch.4) in (
       marked v,
       record { seen = f.seen; heard = f.heard; own = (f.own.0, f.own.1, f.own.2, f.own.3, λ m. look_cases b k m (look k list x y ((look_at k o.looks).times + 1)) o.looks refl fresh (f.own.4 m) (ℕ_discrete k m)); lead = f.lead; branch = f.branch },
+      record { lead = λ h. h; branch = λ class h. h; own = λ pass h. h },
       λ n count. (
         refl,
         (
@@ -131,18 +142,20 @@ own_has b id seen None f = tt
 own_has b id seen (Some o) f = f.3
 
 learns_at : (b : Book) (id : ℕ) (seen heard : List Entry) (o : Option Own) (l : Option Lead) (t : Option Branch) (m : Step Entry) → Fits b id (view seen heard o l t) → Dec (length seen ≤ length heard)
-    → (w : View) × Fits b id w × ((n : ℕ) → n ≡ length (whole b) → Learns m (view seen heard o l t, []) n (w, []))
+    → (w : View) × Fits b id w × HasAll (view seen heard o l t) w × ((n : ℕ) → n ≡ length (whole b) → Learns m (view seen heard o l t, []) n (w, []))
 learns_at b id seen heard o l t m f (yes le) =
     let p : IsPrefix seen heard = prefix_shorter seen heard b.base f.seen f.heard le in
     let own' : FitsOwn b heard id o = own_between b id seen heard o p f.heard f.own in (
       view heard [] o l t,
       record { seen = f.heard; heard = prefix_nil b.base; own = own'; lead = f.lead; branch = f.branch },
+      record { lead = λ h. h; branch = λ class h. h; own = λ pass h. h },
       λ n count. (refl, inr refl, p, prefix_self heard, own_has b id heard o own'),
     )
 learns_at b id seen heard o l t m f (no lt) =
     let p : IsPrefix heard seen = prefix_shorter heard seen b.base f.heard f.seen (omega arith) in (
       view seen [] o l t,
       record { seen = f.seen; heard = prefix_nil b.base; own = f.own; lead = f.lead; branch = f.branch },
+      record { lead = λ h. h; branch = λ class h. h; own = λ pass h. h },
       λ n count. (refl, inl refl, prefix_self seen, p, own_has b id seen o f.own),
     )
 
@@ -208,6 +221,8 @@ raises slots id seen heard o h k list x y x' y' then told up s kept wide at low 
             let g = kept.views j u there in
             record { seen = g.seen; heard = g.heard; own = raise_own b t.0 t.1 j u.seen u.own t.2 t.3 g.own; lead = g.lead; branch = raise_branch b t.0 t.1 id k j u.branch f.branch.0 apart t.4 g.branch })
             (record { seen = f.seen; heard = f.heard; own = raise_own b t.0 t.1 id seen o t.2 t.3 f.own; lead = f.lead; branch = (f.branch.0, f.branch.1, f.branch.2, t.5, t.6) });
+        held = same_held b b' (set s.views id w) refl refl refl refl refl
+            (held_set b s.views id v w at (record { lead = λ h. h; branch = λ class h. h; own = λ pass h. h }) kept.held);
       },
       told (get_or s.words 0 0),
     )

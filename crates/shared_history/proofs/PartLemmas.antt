@@ -40,6 +40,7 @@ module _ (s : State Entry View) (k : Kept s) where
   one_order = record {
     word = at_first s.words k.first ∙ ap some (k.words 0 (get_or s.words 0 0) (at_first s.words k.first));
     small = few_entries k.book k.known;
+    some_seat = (k.book.leader, k.held.leader.0, k.held.leader.1, k.held.leader.2);
     one = λ i j v w l m at there is also. sym (lead_fits i v l at is).0 ∙ (lead_fits j w m there also).0;
     list = λ i v l at is.
         let f = lead_fits i v l at is in
@@ -50,6 +51,7 @@ module _ (s : State Entry View) (k : Kept s) where
   one_tail = record {
     one = λ i j v w t u at there is also same.
         sym (branch_fits i v t at is).0 ∙ (ap k.book.keeper same ∙ (branch_fits j w u there also).0);
+    some_seat = λ class made. let h = k.held.keepers class made in (k.book.keeper class, h.0, h.1, h.2);
     made = λ i v t at is. (branch_fits i v t at is).1;
     part = λ i v t at is.
         subst (λ (xs : List Entry). IsPart (is_about t.class) (whole k.book) xs) (sym (branch_fits i v t at is).2)
@@ -87,6 +89,7 @@ module _ (s : State Entry View) (k : Kept s) where
   passes_count = record {
     few = k.known.few_passes;
     one = λ i j v w o p at there is also same. sym (own_fits i v o at is).0 ∙ (ap k.book.owner same ∙ (own_fits j w p there also).0);
+    some_seat = λ pass made. let h = k.held.owners pass made in (k.book.owner pass, h.0, h.1, h.2);
     below = λ i v o at is. (own_fits i v o at is).1;
     names = record { none_else = k.known.no_pass };
     about = k.known.no_class;

@@ -9,9 +9,10 @@ use Rattle.shared_history.specs.declared.view.Own.{Own}
 use Rattle.shared_history.specs.declared.view.Lead.{Lead}
 use Rattle.shared_history.specs.declared.view.Branch.{Branch}
 use Rattle.shared_history.specs.declared.view.View.{View}
-use Rattle.shared_history.specs.Views.{view, own, branch, founder, with_class, new_tail, with_pass, new_pass, one_class, new_branch, one_pass, new_own}
-use Rattle.shared_history.specs.Rule.{Book, Fits, FitsOwn, FitsLead, FitsBranch, Kept, word_of}
+use Rattle.shared_history.specs.Views.{view, own, branch, founder, with_class, new_tail, with_pass, new_pass, one_class, new_branch, one_pass, new_own, nobody}
+use Rattle.shared_history.specs.Rule.{Book, Fits, FitsOwn, FitsLead, FitsBranch, Kept, word_of, KeepsClass, Leads, OwnsPass}
 use Rattle.shared_history.proofs.ListLemmas.{prefix_nil, upd, upd_same, upd_else}
+use Rattle.shared_history.proofs.HeldLemmas.{before_next, held_longer, held_set, keeper_moves, owner_moves, same_rights, view_last, view_longer, view_set}
 use Rattle.shared_history.proofs.FittingLemmas.{base_no_class, base_no_pass, fit_set, fit_snoc, fit_nobody}
 use Rattle.shared_history.proofs.RightLemmas.{seats}
 
@@ -31,6 +32,9 @@ first_view : (by : ℕ) (v : View) → get_elem? (founder ∷ []) by ≡ some v 
 first_view zero v e = subst (λ (u : View). Fits blank 0 u) (some-injective founder v e) (record { seen = prefix_nil []; heard = prefix_nil []; own = tt; lead = (refl, refl, refl, refl, refl); branch = tt })
 first_view (suc by) v e = absurd (some-ne-none v (sym e))
 
+none_below : (n : ℕ) → n < 0 → ⊥
+none_below n h = omega (arith, h)
+
 some_words : (n : ℕ) → 0 < length {A = ℕ} (replicate (n + 1) 0)
 some_words n = subst (λ (m : ℕ). 0 < length {A = ℕ} (replicate m 0)) (sym (add-one n)) (omega arith)
 
@@ -48,6 +52,7 @@ opens n = record {
     owed = λ k. record { low = zero-le; high = zero-le };
   };
   views = first_view;
+  held = record { leader = (founder, refl, refl); keepers = λ class made. absurd (none_below class made); owners = λ pass made. absurd (none_below pass made) };
 }
 
 self_le : (n : ℕ) → n ≤ n
@@ -82,10 +87,13 @@ module _ (s : State Entry View) (k : Kept s) (id : ℕ) (seen heard : List Entry
         words = k.words;
         known = k.known;
         views = fit_snoc k.book views (view [] [] None None None) (fit_set k.book s.views id (view seen heard o None t) (λ j u apart h. k.views j u h) f) (fit_nobody k.book (length views));
+        held = held_longer k.book views nobody (held_set k.book s.views id (view seen heard o None t) (view seen heard o None t) e (same_rights (view seen heard o None t)) k.held);
       }
   tails_at (Some l) e =
       let f = k.views id _ e in
       let w : View = view seen heard o (one_class (Some l)) t in
+      let old : View = view seen heard o (Some l) t in
+      let new : View = view [] [] None None (new_branch (Some l)) in
       let views = set s.views id w in
       let n : ℕ = length views in
       let b = k.book in
@@ -119,6 +127,13 @@ module _ (s : State Entry View) (k : Kept s) (id : ℕ) (seen heard : List Entry
               branch = subst (λ (m : ℕ). FitsBranch b' n (Some (branch m [] 0 0))) (sym at)
                   (upd_same b.keeper kk kk n refl, one_below kk, sym (base_no_class b k.known kk (self_le kk)), sym z.0, sym z.1);
             });
+        held = record {
+          leader = view_longer Leads views new b.leader (view_set Leads s.views id old w e (λ h. h) b.leader k.held.leader);
+          keepers = λ class made. keeper_moves (views ++ new ∷ []) b.keeper kk n (view_last (KeepsClass kk) views new at) class
+              (λ apart. view_longer (KeepsClass class) views new (b.keeper class)
+              (view_set (KeepsClass class) s.views id old w e (λ h. h) (b.keeper class) (k.held.keepers class (before_next class kk made apart))));
+          owners = λ pass made. view_longer (OwnsPass pass) views new (b.owner pass) (view_set (OwnsPass pass) s.views id old w e (λ h. h) (b.owner pass) (k.held.owners pass made));
+        };
       }
 
 pub tails : (id : ℕ) (v : View) → Splits Kept id v (with_class v) (new_tail v)
@@ -158,10 +173,13 @@ module _ (s : State Entry View) (k : Kept s) (id : ℕ) (seen heard : List Entry
         words = k.words;
         known = k.known;
         views = fit_snoc k.book views (view [] [] None None None) (fit_set k.book s.views id (view seen heard o None t) (λ j u apart h. k.views j u h) f) (fit_nobody k.book (length views));
+        held = held_longer k.book views nobody (held_set k.book s.views id (view seen heard o None t) (view seen heard o None t) e (same_rights (view seen heard o None t)) k.held);
       }
   passes_at (Some l) room e =
       let f = k.views id _ e in
       let w : View = view seen heard o (one_pass (Some l)) t in
+      let old : View = view seen heard o (Some l) t in
+      let new : View = view [] [] (new_own (Some l)) None None in
       let views = set s.views id w in
       let n : ℕ = length views in
       let b = k.book in
@@ -194,6 +212,13 @@ module _ (s : State Entry View) (k : Kept s) (id : ℕ) (seen heard : List Entry
               lead = tt;
               branch = tt;
             });
+        held = record {
+          leader = view_longer Leads views new b.leader (view_set Leads s.views id old w e (λ h. h) b.leader k.held.leader);
+          keepers = λ class made. view_longer (KeepsClass class) views new (b.keeper class) (view_set (KeepsClass class) s.views id old w e (λ h. h) (b.keeper class) (k.held.keepers class made));
+          owners = λ pass made. owner_moves (views ++ new ∷ []) b.owner kk n (view_last (OwnsPass kk) views new at) pass
+              (λ apart. view_longer (OwnsPass pass) views new (b.owner pass)
+              (view_set (OwnsPass pass) s.views id old w e (λ h. h) (b.owner pass) (k.held.owners pass (before_next pass kk made apart))));
+        };
       }
 
 pub passes : (id : ℕ) (v : View) → HasRoom v.lead → Splits Kept id v (with_pass v) (new_pass v)

@@ -1,5 +1,5 @@
 -- The rule: what holds of the words and of what all seats know, between any two steps.
-use Rattle.std.specs.Prelude.{◌≡◌, ℕ, zero, suc, ◌<◌, ◌≤◌, ◌+◌, ◌%◌, ◌^◌, List, [], ◌++◌, length, Option, Some, None}
+use Rattle.std.specs.Prelude.{◌≡◌, ℕ, zero, suc, ◌<◌, ◌≤◌, ◌+◌, ◌%◌, ◌^◌, Bool, true, false, List, [], ◌++◌, length, Option, Some, None}
 use mathlib.Core.List.{IsPrefix}
 use mathlib.Core.Option.{some}
 use lib.ListN.{get_elem?}
@@ -77,9 +77,54 @@ pub record Known (b : Book) : Type 0 where
   pub no_state : (class : ℕ) → b.classes ≤ class → (b.settled class ≡ 0) × (b.runs class ≡ 0)
   pub owed : (class : ℕ) → OneOwed (b.settled class) (about_class class b.base)
 
+-- ---- the rights are there
+
+abbrev pub has_lead : Option Lead → Bool
+has_lead None = false
+has_lead (Some l) = true
+
+abbrev pub has_branch : Option Branch → Bool
+has_branch None = false
+has_branch (Some t) = true
+
+abbrev pub IsOfClass : ℕ → Option Branch → Type 0
+IsOfClass class None = ⊥
+IsOfClass class (Some t) = t.class ≡ class
+
+abbrev pub IsOfPass : ℕ → Option Own → Type 0
+IsOfPass pass None = ⊥
+IsOfPass pass (Some o) = o.number ≡ pass
+
+abbrev pub Leads : View → Type 0
+Leads v = has_lead v.lead ≡ true
+
+abbrev pub KeepsClass : ℕ → View → Type 0
+KeepsClass class v = IsOfClass class v.branch
+
+abbrev pub OwnsPass : ℕ → View → Type 0
+OwnsPass pass v = IsOfPass pass v.own
+
+-- a view with the right to append alone, or with the right of a class alone
+abbrev pub IsLeadAlone : View → Type 0
+IsLeadAlone v = (has_lead v.lead ≡ true) × (v.own ≡ None) × (v.branch ≡ None)
+
+abbrev pub IsBranchAlone : View → Type 0
+IsBranchAlone v = (has_branch v.branch ≡ true) × (v.own ≡ None) × (v.lead ≡ None)
+
+-- the seat of this number has such a view
+abbrev pub HasView : List View → ℕ → (View → Type 0) → Type 0
+HasView views seat P = (v : View) × (get_elem? views seat ≡ some v) × P v
+
+-- the leader has the right to append, each keeper that of its class, and each owner its pass
+pub record Held (b : Book) (views : List View) : Type 0 where
+  pub leader : HasView views b.leader Leads
+  pub keepers : (class : ℕ) → class < b.classes → HasView views (b.keeper class) (KeepsClass class)
+  pub owners : (pass : ℕ) → pass < b.passes → HasView views (b.owner pass) (OwnsPass pass)
+
 pub record Kept (s : State Entry View) : Type 0 where
   pub book : Book
   pub first : 0 < length s.words
   pub words : (i n : ℕ) → get_elem? s.words i ≡ some n → n ≡ word_of book i
   pub known : Known book
   pub views : (by : ℕ) (v : View) → get_elem? s.views by ≡ some v → Fits book by v
+  pub held : Held book s.views

@@ -12,10 +12,9 @@ mod rights;
 mod rule;
 mod seeing;
 mod settling;
-mod view;
-
 #[cfg(test)]
 mod tests;
+mod view;
 
 pub use closing::{History, close};
 pub use entering::{enter, enter_ask};

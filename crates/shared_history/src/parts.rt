@@ -125,12 +125,13 @@ pub struct Note {
 impl Model for Note {
     ghost use Rattle.std.specs.Prelude.{◌≡◌, []};
     ghost use Rattle.shared_history.specs.Parts.{NoteValue};
+    ghost use Rattle.shared_history.specs.Views.{noted};
 
     ghost Value = { NoteValue };
 
     ghost view = { λ n. record { table = n.seat.table_id; list = n.seat.me.0.seen } };
 
-    ghost invariant = { λ n. n.seat.me.1 ≡ [] };
+    ghost invariant = { λ n. n.seat.me ≡ (noted n.seat.me.0, []) };
 }
 
 impl Tail {

@@ -1,5 +1,6 @@
 //! The rights travel: from one seat to another, and back.
-ghost use Rattle.std.specs.Prelude.{◌≡◌, ◌<◌, []};
+ghost use Rattle.std.specs.Prelude.{◌≡◌, ◌<◌, [], None};
+ghost use Rattle.shared_history.specs.Rule.{IsBranchAlone, IsLeadAlone};
 ghost use Rattle.shared_history.specs.Views.{lent, lead_of, led, pruned, branch_of, grafted};
 
 use crate::rule::{Board, Branching, Leading};
@@ -22,6 +23,7 @@ pub fn lend(board: &Board, seat: &mut Seat<Entry, View>) -> Seat<Entry, View>
 pub fn take(board: &Board, seat: &mut Seat<Entry, View>, right: Seat<Entry, View>)
     requires one { seat.old.table_id ≡ board.now.shared.table_id }
     requires right { (right.table_id ≡ board.now.shared.table_id) × (right.me.1 ≡ []) }
+    requires alone { IsLeadAlone right.me.0 }
     requires words { 0 < board.now.shared.table_id.words }
     ensures { (seat.new.table_id ≡ seat.old.table_id)
         × (seat.new.me ≡ (led seat.old.me.0 right.me.0, seat.old.me.1)) }
@@ -45,6 +47,8 @@ pub fn prune(board: &Board, seat: &mut Seat<Entry, View>) -> Seat<Entry, View>
 pub fn graft(board: &Board, seat: &mut Seat<Entry, View>, right: Seat<Entry, View>)
     requires one { seat.old.table_id ≡ board.now.shared.table_id }
     requires right { (right.table_id ≡ board.now.shared.table_id) × (right.me.1 ≡ []) }
+    requires alone { IsBranchAlone right.me.0 }
+    requires free { seat.old.me.0.branch ≡ None }
     requires words { 0 < board.now.shared.table_id.words }
     ensures { (seat.new.table_id ≡ seat.old.table_id)
         × (seat.new.me ≡ (grafted seat.old.me.0 right.me.0, seat.old.me.1)) }

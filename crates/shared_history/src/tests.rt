@@ -14,7 +14,9 @@ use std::thread;
 use std::thread::Threads;
 
 const CLASSES: u32 = 16;
+
 const PASSES: u32 = 4;
+
 const ROUNDS: u32 = 20;
 
 /// Which history it is.
@@ -80,7 +82,13 @@ impl<N: Named> Model for Worker<N> {
 }
 
 impl<N: Named> Worker<N> {
-    fn put(&mut self, desk: &mut ClassDesk<N>, order: &mut OrderDesk<N>, path: &MetricPath, time: u32) {
+    fn put(
+        &mut self,
+        desk: &mut ClassDesk<N>,
+        order: &mut OrderDesk<N>,
+        path: &MetricPath,
+        time: u32,
+    ) {
         if path.class() == desk.tail.class() && self.pass.left() > 0 {
             let event = Event::Put(path, time, 5, PutEnd::Stored);
             enter(&mut order.order, &mut self.pass, &mut desk.tail, &event);
@@ -133,7 +141,10 @@ impl<N: Named> Store<N> {
     }
 }
 
-fn open_classes<N: Named>(alloc: Global, tails: Vec<Tail>) -> Result<Vec<Mutex<ClassDesk<N>>>, AllocError>
+fn open_classes<N: Named>(
+    alloc: Global,
+    tails: Vec<Tail>,
+) -> Result<Vec<Mutex<ClassDesk<N>>>, AllocError>
     requires { (k : _) (t : _) → slice_get tails.items k ≡ Some t → IsNewTail N.table k t }
 {
     let mut classes = Vec::new(alloc);
@@ -160,7 +171,10 @@ fn open_workers<N: Named>(alloc: Global, passes: Vec<Pass>) -> Result<Vec<Worker
 }
 
 #[tactic(auto, using(crate::proofs::EndLemmas::tails_more))]
-fn tails_of<N: Named>(alloc: Global, classes: Vec<Mutex<ClassDesk<N>>>) -> Result<Vec<Tail>, AllocError>
+fn tails_of<N: Named>(
+    alloc: Global,
+    classes: Vec<Mutex<ClassDesk<N>>>,
+) -> Result<Vec<Tail>, AllocError>
     ensures { IfOk result (λ tails. TailsOfTable N.table tails.items) }
 {
     let mut tails = Vec::new(alloc);
@@ -213,7 +227,12 @@ fn run_all<N: Named + Send + Sync, R: Threads + Wait + Sync>(
         paths,
     };
     let mut workers = open_workers::<N>(alloc, passes)?;
-    thread::for_each_mut(rt, workers.as_mut_slice(), 4, &|_, worker| store.serve_all(rt, worker));
+    thread::for_each_mut(
+        rt,
+        workers.as_mut_slice(),
+        4,
+        &|_, worker| store.serve_all(rt, worker),
+    );
     close_all(alloc, store, workers)
 }
 
@@ -222,7 +241,11 @@ fn close_all<N: Named>(
     store: Store<N>,
     workers: Vec<Worker<N>>,
 ) -> Result<Counts, AllocError> {
-    let Store { order, classes, paths: _ } = store;
+    let Store {
+        order,
+        classes,
+        paths: _,
+    } = store;
     let OrderDesk { order, of: _ } = order.into_inner();
     let tails = tails_of(alloc, classes)?;
     let passes = passes_of(alloc, workers)?;
@@ -240,7 +263,11 @@ fn close_all<N: Named>(
     })
 }
 
-fn run_new<R: Threads + Wait + Sync>(rt: &R, alloc: Global, paths: Vec<MetricPath>) -> Result<Counts, AllocError> {
+fn run_new<R: Threads + Wait + Sync>(
+    rt: &R,
+    alloc: Global,
+    paths: Vec<MetricPath>,
+) -> Result<Counts, AllocError> {
     let (order, tails, passes) = make(alloc, CLASSES, PASSES)?;
     run_all::<Brand, R>(rt, alloc, order, tails, passes, paths)
 }

@@ -12,7 +12,9 @@ use Rattle.shared_history.proofs.closing.count_all.Goals as goal
 pub load-requires : goal.load-requires
 load-requires c =
     let o = c.order.inside in
-    let slots : ℕ = c.deref-board.result.now.shared.table_id.slots in
-    (search rules, search rules,
-        subst (λ (m : Me Entry View). Allows Kept slots o.seat.id m 0 (λ n. n) (Closes (step slots 0 0 0 none) m)) (sym c.order.invariant.2)
-        (closes slots o.seat.id [] [] None (lead (all_of o.seat.me.0.lead) o.passes o.classes None) None))
+    let slots : ℕ = c.deref-board.result.now.shared.table_id.slots in (
+      search rules,
+      search rules,
+      subst (λ (m : Me Entry View). Allows Kept slots o.seat.id m 0 (λ n. n) (Closes (step slots 0 0 0 none) m)) (sym c.order.invariant.2)
+          (closes slots o.seat.id [] [] None (lead (all_of o.seat.me.0.lead) o.passes o.classes None) None),
+    )

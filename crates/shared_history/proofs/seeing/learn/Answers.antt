@@ -1,4 +1,4 @@
-use Rattle.std.proofs.Common.{rules, ℕ, ◌∙◌, sym, subst}
+use Rattle.std.proofs.Common.{ap, rules, ℕ, ◌∙◌, sym, subst}
 use mathlib.Core.Option.{none}
 use Rattle.atomic_table.specs.Table.{Me, Allows, step}
 use Rattle.carbon_history.specs.declared.entry.Entry.{Entry}
@@ -12,7 +12,14 @@ use Rattle.shared_history.proofs.LookLemmas.{learns}
 use Rattle.shared_history.proofs.seeing.learn.Goals as goal
 
 pub join_seat-requires : goal.join_seat-requires
-join_seat-requires c = (search rules, search rules, search rules, search rules, hears c.pass.inside.seat.id c.pass.inside.seat.me.0 c.note.inside.seat.id c.note.inside.seat.me.0)
+join_seat-requires c = (
+  search rules,
+  search rules,
+  search rules,
+  search rules,
+  hears c.pass.inside.seat.id c.pass.inside.seat.me.0 c.note.inside.seat.id c.note.inside.seat.me.0
+      (ap (λ (m : Me Entry View). m.0.own) c.note.invariant) (ap (λ (m : Me Entry View). m.0.lead) c.note.invariant) (ap (λ (m : Me Entry View). m.0.branch) c.note.invariant),
+)
 
 pub load-requires : goal.load-requires
 load-requires c =
