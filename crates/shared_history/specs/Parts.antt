@@ -125,9 +125,16 @@ abbrev pub AllAgree : List Entry → List TailValue → Type 0
 AllAgree history tails =
     (k : ℕ) (tail : TailValue) → slice_get tails k ≡ Some tail → tail.list ≡ about_class tail.class history
 
+-- these are the tails of the first classes, or the first passes, and new
+abbrev pub AreNewTails : TableId → List TailValue → Type 0
+AreNewTails table tails = (k : ℕ) (tail : TailValue) → slice_get tails k ≡ Some tail → IsNewTail table k tail
+
+abbrev pub AreNewPasses : TableId → List PassValue → Type 0
+AreNewPasses table passes = (k : ℕ) (pass : PassValue) → slice_get passes k ≡ Some pass → IsNewPass table k pass
+
 -- these passes, or tails, are of this table
-abbrev pub AllOfTable : TableId → List PassValue → Type 0
-AllOfTable table passes = (k : ℕ) (pass : PassValue) → slice_get passes k ≡ Some pass → pass.table ≡ table
+abbrev pub PassesOfTable : TableId → List PassValue → Type 0
+PassesOfTable table passes = (k : ℕ) (pass : PassValue) → slice_get passes k ≡ Some pass → pass.table ≡ table
 
 abbrev pub TailsOfTable : TableId → List TailValue → Type 0
 TailsOfTable table tails = (k : ℕ) (tail : TailValue) → slice_get tails k ≡ Some tail → tail.table ≡ table

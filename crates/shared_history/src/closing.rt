@@ -1,7 +1,7 @@
 //! The end of a history.
 ghost use Rattle.std.specs.Prelude.{◌≡◌, ◌<◌, [], Some, length, slice_get};
 ghost use Rattle.shared_history.specs.Entries.{NamesPasses, about_class};
-ghost use Rattle.shared_history.specs.Parts.{AllAgree, AllOfTable, AllSeen, HasSeen, TailsOfTable};
+ghost use Rattle.shared_history.specs.Parts.{AllAgree, PassesOfTable, AllSeen, HasSeen, TailsOfTable};
 
 use crate::parts::{Order, Pass, Tail};
 use crate::rule::{Board, Close};
@@ -55,7 +55,7 @@ fn see_last(order: &mut Order, mut pass: Pass)
 }
 
 fn see_all(order: &mut Order, passes: Vec<Pass>)
-    requires one { AllOfTable order.old.table passes.items }
+    requires one { PassesOfTable order.old.table passes.items }
     ensures seen { AllSeen order.old.list passes.items }
     ensures order { order.new ≡ order.old }
 {
@@ -91,11 +91,11 @@ fn count_all(order: &mut Order) -> u64
     board.shared.load::<Close>(&mut order.seat, 0)
 }
 
-/// Ends the history. What each pass has seen begins it and has all entries of that pass, each tail has
-/// the entries about its class, and every entry names a pass that was made.
+/// Ends the history. What each pass has seen begins it and has all entries of that pass, each tail
+/// has the entries about its class, and every entry names a pass that was made.
 pub fn close(mut order: Order, tails: Vec<Tail>, passes: Vec<Pass>) -> History
     requires tails { TailsOfTable order.table tails.items }
-    requires passes { AllOfTable order.table passes.items }
+    requires passes { PassesOfTable order.table passes.items }
     ensures list { result ≡ order.list }
     ensures seen { AllSeen result passes.items }
     ensures tails { AllAgree result tails.items }

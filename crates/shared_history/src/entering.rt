@@ -39,8 +39,8 @@ fn enter_named<E: Named>(order: &mut Order, pass: &mut Pass, tail: &mut Tail, ev
     pass.left -= 1;
 }
 
-/// Enters what the pass did in the class of the tail. The history and the tail's list grow by the entry, and
-/// the pass has seen all of it.
+/// Enters what the pass did in the class of the tail. The history and the tail's list grow by the
+/// entry, and the pass has seen all of it.
 pub fn enter(order: &mut Order, pass: &mut Pass, tail: &mut Tail, event: &Event<'_>)
     requires one { (pass.old.table ≡ order.old.table) × (tail.old.table ≡ order.old.table) }
     requires may { MayEnter pass.old tail.old (entry_by pass.old tail.old event.now) }
@@ -78,15 +78,16 @@ fn enter_ask_named<E: Named>(order: &mut Order, pass: &mut Pass, attempt: u32, n
     }
 }
 
-/// Enters a try of a question of the pass, at this moment. A first try has a number of its own, one more
-/// than the pass's questions before; a second and a third try have the number of the last question. The
-/// history grows by the entry, and the pass has seen all of it.
+/// Enters a try of a question of the pass, at this moment. A first try has a number of its own, one
+/// more than the pass's questions before; a second and a third try have the number of the last
+/// question. The history grows by the entry, and the pass has seen all of it.
 pub fn enter_ask(order: &mut Order, pass: &mut Pass, attempt: u32, now: u64)
     requires one { pass.old.table ≡ order.old.table }
     requires may { MayAsk pass.old attempt }
     ensures order { order.new ≡ order_with order.old (ask_by pass.old attempt now) }
     ensures pass { pass.new ≡ pass_seeing pass.old order.new.list }
-    ensures once { own_entries pass.new ≡ own_entries pass.old ++ ask_by pass.old attempt now ∷ [] }
+    ensures once { own_entries pass.new
+        ≡ own_entries pass.old ++ ask_by pass.old attempt now ∷ [] }
     ensures begins { IsPrefix pass.old.seen order.old.list }
     ensures made { NamesPasses order.new.passes order.new.list }
 {

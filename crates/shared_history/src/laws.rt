@@ -1,5 +1,5 @@
-//! What the rule says, part by part, of any state that meets it. These functions do nothing: what each one
-//! ensures is a law.
+//! What the rule says, part by part, of any state that meets it. These functions do nothing: what
+//! each one ensures is a law.
 ghost use Rattle.atomic_table.specs.Table.{State};
 ghost use Rattle.carbon_history.specs.declared.entry.Entry.{Entry as EntryValue};
 ghost use Rattle.shared_history.specs.declared.view.View.{View as ViewValue};
@@ -13,7 +13,8 @@ pub fn one_seat_appends()
 
 /// Each class has just one seat, with the entries about it, which the class's word counts.
 pub fn one_seat_has_a_class()
-    ensures { (s : State EntryValue ViewValue) (k : Kept s) → OneTail s (whole k.book) k.book.classes }
+    ensures { (s : State EntryValue ViewValue) (k : Kept s)
+        → OneTail s (whole k.book) k.book.classes }
 {}
 
 /// All that was seen begins the history.
@@ -26,7 +27,8 @@ pub fn looks_are_behind_their_class()
     ensures { (s : State EntryValue ViewValue) (k : Kept s) → LooksBehind s }
 {}
 
-/// Each pass has just one seat and has seen its own entries, and each entry is of a pass that was made.
+/// Each pass has just one seat and has seen its own entries, and each entry is of a pass that was
+/// made.
 pub fn each_entry_is_of_a_pass()
     ensures { (s : State EntryValue ViewValue) (k : Kept s)
         → PassesCount s (whole k.book) k.book.passes k.book.classes }

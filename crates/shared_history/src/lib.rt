@@ -25,7 +25,5 @@ pub use laws::{
 };
 pub use making::make;
 pub use parts::{MOST_ENTRIES, Note, Order, Pass, Tail};
-pub use rule::Board;
 pub use seeing::{agree, learn, note, see};
 pub use settling::{mark, ran, settle};
-pub use view::Look;

@@ -1,6 +1,8 @@
 //! A new history.
-ghost use Rattle.std.specs.Prelude.{◌≡◌, ◌+◌, ◌<◌, ◌≤◌, ◌^◌, [], Some, IfOk, OnOk, length, vec_len, slice_get};
-ghost use Rattle.shared_history.specs.Parts.{IsNewOrder, IsNewPass, IsNewTail, more_passes, more_tails};
+ghost use Rattle.std.specs.Prelude.{◌≡◌, ◌+◌, ◌-◌, ◌<◌, ◌≤◌, ◌^◌, IfOk, OnOk, vec_len};
+ghost use Rattle.shared_history.specs.Parts.{
+    AreNewPasses, AreNewTails, IsNewOrder, IsNewPass, IsNewTail, more_passes, more_tails,
+};
 
 use crate::parts::{MOST_ENTRIES, Order, Pass, Tail};
 use crate::rule::{Board, NewPass, NewTail};
@@ -8,7 +10,6 @@ use std::alloc::{AllocError, Global};
 use std::sync::Arc;
 
 fn open(alloc: Global, classes: u32) -> Result<Order, AllocError>
-    requires { classes < 2 ^ 31 }
     ensures { IfOk result (λ o. IsNewOrder 0 0 o × (o.table.words ≡ classes + 1)) }
 {
     let words = vec![in alloc; 0u64; classes as usize + 1]?;
@@ -23,7 +24,7 @@ fn open(alloc: Global, classes: u32) -> Result<Order, AllocError>
 
 fn add_tail(order: &mut Order) -> Result<Tail, AllocError>
     requires words { order.old.classes + 1 < order.old.table.words }
-    requires few { order.old.classes < 2 ^ 31 }
+    requires few { order.old.classes < 2 ^ 32 - 1 }
     ensures ok { IfOk result (λ t. IsNewTail order.old.table order.old.classes t) }
     ensures order { OnOk result (order.new ≡ more_tails order.old) }
 {
@@ -54,19 +55,17 @@ fn add_pass(order: &mut Order) -> Result<Pass, AllocError>
     })
 }
 
-/// An empty history, with a tail for each class and a pass for each caller, of which there may be at most
-/// 65,535.
+/// An empty history, with a tail for each class and a pass for each caller, of which there may be at
+/// most 65,535.
 pub fn make(
     alloc: Global,
     classes: u32,
     passes: u32,
 ) -> Result<(Order, Vec<Tail>, Vec<Pass>), AllocError>
-    requires { (classes < 2 ^ 31) × (passes ≤ 65535) }
+    requires { passes ≤ 65535 }
     ensures order { IfOk result (λ r. IsNewOrder passes classes r.0) }
-    ensures tails { IfOk result (λ r. (vec_len r.1 ≡ classes)
-        × ((k : _) (t : _) → slice_get r.1.items k ≡ Some t → IsNewTail r.0.table k t)) }
-    ensures passes { IfOk result (λ r. (vec_len r.2 ≡ passes)
-        × ((n : _) (p : _) → slice_get r.2.items n ≡ Some p → IsNewPass r.0.table n p)) }
+    ensures tails { IfOk result (λ r. (vec_len r.1 ≡ classes) × AreNewTails r.0.table r.1.items) }
+    ensures passes { IfOk result (λ r. (vec_len r.2 ≡ passes) × AreNewPasses r.0.table r.2.items) }
 {
     let mut order = open(alloc, classes)?;
     let mut tails = Vec::new(alloc);

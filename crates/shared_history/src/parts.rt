@@ -76,8 +76,8 @@ impl Model for Tail {
         × OneOwed (settled_of t.seat.me.0.branch) (list_of t.seat.me.0.branch) };
 }
 
-/// A caller: its number, what it has seen of the history, its own entries and its looks at classes. At
-/// run time it counts its entries and its questions.
+/// A caller: its number, what it has seen of the history, its own entries and its looks at classes.
+/// At run time it counts its entries and its questions.
 #[derive(Drop)]
 pub struct Pass {
     pub(crate) board: Arc<Board, Global>,

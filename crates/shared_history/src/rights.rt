@@ -14,7 +14,8 @@ pub fn lend(board: &Board, seat: &mut Seat<Entry, View>) -> Seat<Entry, View>
     requires words { 0 < board.now.shared.table_id.words }
     ensures left { (seat.new.table_id ≡ seat.old.table_id)
         × (seat.new.me ≡ (lent seat.old.me.0, seat.old.me.1)) }
-    ensures right { (result.table_id ≡ seat.old.table_id) × (result.me ≡ (lead_of seat.old.me.0, [])) }
+    ensures right { (result.table_id ≡ seat.old.table_id)
+        × (result.me ≡ (lead_of seat.old.me.0, [])) }
 {
     board.shared.split_seat::<Leading>(seat)
 }

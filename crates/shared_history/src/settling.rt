@@ -29,9 +29,9 @@ pub fn ran(tail: &mut Tail)
     board.shared.load::<Ran>(&mut tail.seat, 0);
 }
 
-/// The pass looks at the class. Its look is the state of the class, of whose drains all are settled or all
-/// but one, and is no less than its look before. The entries about the class that it has seen begin the
-/// tail's list.
+/// The pass looks at the class. Its look is the state of the class, of whose drains all are settled
+/// or all but one, and is no less than its look before. The entries about the class that it has seen
+/// begin the tail's list.
 pub fn mark(tail: &mut Tail, pass: &mut Pass)
     requires one { pass.old.table ≡ tail.old.table }
     ensures pass { pass.new ≡ pass_looking pass.old (look_now tail.old pass.old) }

@@ -1,6 +1,6 @@
 // Four threads in one history.
-ghost use Rattle.std.specs.Prelude.{◌≡◌, IfOk, Some, slice_get};
-ghost use Rattle.shared_history.specs.Parts.{AllOfTable, IsNewTail, TailsOfTable};
+ghost use Rattle.std.specs.Prelude.{◌≡◌, IfOk};
+ghost use Rattle.shared_history.specs.Parts.{PassesOfTable, AreNewTails, TailsOfTable};
 
 use super::*;
 use carbon_history::PutEnd;
@@ -29,7 +29,9 @@ trait Named {
 impl Named for Brand {
     ghost use Rattle.std.specs.Prelude.{[]};
 
-    ghost table = { record { words = 0; slots = 0; views_name = 0; atom = 0; block = 0; offset = 0; slot_names = [] } };
+    ghost table = { record {
+        words = 0; slots = 0; views_name = 0; atom = 0; block = 0; offset = 0; slot_names = []
+    } };
 }
 
 #[derive(Drop)]
@@ -145,7 +147,7 @@ fn open_classes<N: Named>(
     alloc: Global,
     tails: Vec<Tail>,
 ) -> Result<Vec<Mutex<ClassDesk<N>>>, AllocError>
-    requires { (k : _) (t : _) → slice_get tails.items k ≡ Some t → IsNewTail N.table k t }
+    requires { AreNewTails N.table tails.items }
 {
     let mut classes = Vec::new(alloc);
     for tail in tails {
@@ -158,7 +160,7 @@ fn open_classes<N: Named>(
 }
 
 fn open_workers<N: Named>(alloc: Global, passes: Vec<Pass>) -> Result<Vec<Worker<N>>, AllocError>
-    requires { AllOfTable N.table passes.items }
+    requires { PassesOfTable N.table passes.items }
 {
     let mut workers = Vec::new(alloc);
     for pass in passes {
@@ -187,7 +189,7 @@ fn tails_of<N: Named>(
 
 #[tactic(auto, using(crate::proofs::EndLemmas::passes_more))]
 fn passes_of<N: Named>(alloc: Global, workers: Vec<Worker<N>>) -> Result<Vec<Pass>, AllocError>
-    ensures { IfOk result (λ passes. AllOfTable N.table passes.items) }
+    ensures { IfOk result (λ passes. PassesOfTable N.table passes.items) }
 {
     let mut passes = Vec::new(alloc);
     for worker in workers {
@@ -197,7 +199,8 @@ fn passes_of<N: Named>(alloc: Global, workers: Vec<Worker<N>>) -> Result<Vec<Pas
     Ok(passes)
 }
 
-// What a run of all threads leaves: how many entries the history has, and how many more a pass may have.
+// What a run of all threads leaves: how many entries the history has, how many more the passes may
+// have, and how many questions they asked.
 #[derive(Drop)]
 struct Counts {
     entries: u64,
@@ -214,8 +217,8 @@ fn run_all<N: Named + Send + Sync, R: Threads + Wait + Sync>(
     paths: Vec<MetricPath>,
 ) -> Result<Counts, AllocError>
     requires order { order.table ≡ N.table }
-    requires tails { (k : _) (t : _) → slice_get tails.items k ≡ Some t → IsNewTail N.table k t }
-    requires passes { AllOfTable N.table passes.items }
+    requires tails { AreNewTails N.table tails.items }
+    requires passes { PassesOfTable N.table passes.items }
 {
     let order = Mutex::new(OrderDesk::<N> {
         order,

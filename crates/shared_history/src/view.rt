@@ -21,8 +21,8 @@ pub struct Own {
     pub sights: u64,
 }
 
-/// The right to append: the history, how many passes and classes were made, and the entry that waits
-/// for its class to count it.
+/// The right to append: the history, how many passes and classes were made, and the entry that
+/// waits for its class to count it.
 pub struct Lead {
     pub all: LinkedList<Entry>,
     pub passes: u32,
@@ -39,7 +39,8 @@ pub struct Branch {
     pub runs: u64,
 }
 
-/// What a seat knows: the list that it has seen, a list that it was told, and the rights that it has.
+/// What a seat knows: the list that it has seen, a list that it was told, and the rights that it
+/// has.
 pub struct View {
     pub seen: LinkedList<Entry>,
     pub heard: LinkedList<Entry>,
