@@ -1,5 +1,5 @@
 -- A list has as many entries as its passes have together.
-use Rattle.std.proofs.Common.{◌≡◌, ◌≢◌, ◌==◌, ◌∙◌, ℕ, zero, suc, ◌+◌, ◌*◌, ◌%◌, ◌^◌, ◌<◌, ◌≤◌, Bool, cond, List, [], ◌∷◌, length, refl, ap, sym, subst, arith, eq-eqb, ne_eqb}
+use Rattle.std.proofs.Common.{◌≡◌, ◌≢◌, ℕ, zero, suc, ◌+◌, ◌*◌, ◌%◌, ◌^◌, ◌<◌, ◌≤◌, Bool, cond, List, [], ◌∷◌, length, refl, ap, arith, eq-eqb, ne_eqb}
 use native.Mathlib.Decide.{ℕ_discrete, dec_le}
 use Rattle.carbon_history.specs.declared.entry.Entry.{Entry}
 use Rattle.shared_history.specs.Entries.{NamesPasses, of_pass, pass_of}

@@ -1,18 +1,17 @@
 -- What the rule says, part by part.
-use Rattle.std.proofs.Common.{◌≡◌, ◌==◌, ◌∙◌, ℕ, suc, ◌<◌, ◌≤◌, inl, inr, Bool, true, false, List, [], ◌∷◌, ◌++◌, length, get_or, refl, ap, sym, subst}
+use Rattle.std.proofs.Common.{◌≡◌, ◌==◌, ◌∙◌, ℕ, suc, ◌≤◌, inl, inr, Bool, List, [], ◌∷◌, ◌++◌, length, get_or, refl, ap, sym, subst}
 use Rattle.std.specs.Prelude.{Option, Some, None, filter}
 use Rattle.std.proofs.lemmas.List.{append-nil}
 use mathlib.Core.List.{IsPrefix}
 use mathlib.Core.Option.{some}
-use lib.ListN.{get_elem?}
 use Rattle.atomic_table.specs.Table.{State}
 use Rattle.carbon_history.specs.declared.entry.Entry.{Entry}
 use Rattle.shared_history.specs.declared.view.Own.{Own}
 use Rattle.shared_history.specs.declared.view.Lead.{Lead}
 use Rattle.shared_history.specs.declared.view.Branch.{Branch}
 use Rattle.shared_history.specs.declared.view.View.{View}
-use Rattle.shared_history.specs.Entries.{about_class, is_about, listed, of_pass, pass_of}
-use Rattle.shared_history.specs.Laws.{AllBegin, IsBehind, IsPart, Knows, LooksBehind, OneOrder, OneTail, PassesCount}
+use Rattle.shared_history.specs.Entries.{about_class, is_about, listed, pass_of}
+use Rattle.shared_history.specs.Laws.{AllBegin, IsPart, Knows, LooksBehind, OneOrder, OneTail, PassesCount}
 use Rattle.shared_history.specs.Rule.{FitsBranch, FitsLead, FitsOwn, Kept, OneOwed, whole}
 use Rattle.shared_history.specs.Views.{look_at}
 use Rattle.shared_history.proofs.CountLemmas.{few_entries}

@@ -1,7 +1,13 @@
 //! A new history.
 ghost use Rattle.std.specs.Prelude.{◌≡◌, ◌+◌, ◌-◌, ◌<◌, ◌≤◌, ◌^◌, IfOk, OnOk, vec_len};
 ghost use Rattle.shared_history.specs.Parts.{
-    AreNewPasses, AreNewTails, IsNewOrder, IsNewPass, IsNewTail, more_passes, more_tails,
+  AreNewPasses,
+  AreNewTails,
+  IsNewOrder,
+  IsNewPass,
+  IsNewTail,
+  more_passes,
+  more_tails,
 };
 
 use crate::parts::{MOST_ENTRIES, Order, Pass, Tail};

@@ -1,4 +1,4 @@
-use Rattle.std.proofs.Common.{rules, ◌≡◌, ap, ◌∙◌, sym, subst, List}
+use Rattle.std.proofs.Common.{rules, ◌≡◌, ◌∙◌, sym, subst, List}
 use Rattle.std.proofs.lemmas.Iterator.Adapters.{YieldsList-from_vec}
 use Rattle.std.proofs.lemmas.Iterator.Consumers.{YieldsList-end}
 use Rattle.carbon_history.specs.declared.entry.Entry.{Entry}

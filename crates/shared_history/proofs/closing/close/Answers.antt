@@ -1,4 +1,4 @@
-use Rattle.std.proofs.Common.{ap, ◌∙◌, sym, subst}
+use Rattle.std.proofs.Common.{◌∙◌, sym, subst}
 use Rattle.shared_history.specs.Parts.{AllSeen, OrderValue}
 use Rattle.shared_history.proofs.closing.close.Goals as goal
 

@@ -1,4 +1,4 @@
-use Rattle.std.proofs.Common.{rules, ◌≡◌, ℕ, sym, subst, [], None}
+use Rattle.std.proofs.Common.{rules, ℕ, sym, subst, [], None}
 use mathlib.Core.Option.{none}
 use Rattle.atomic_table.specs.Table.{Me, Allows, step}
 use Rattle.carbon_history.specs.declared.entry.Entry.{Entry}
