@@ -41,6 +41,27 @@ with_leader b n = record b { leader = n }
 abbrev pub with_keeper : Book → ℕ → ℕ → Book
 with_keeper b k n = record b { keeper = upd b.keeper k n }
 
+-- what is known of a book does not hang on where the rights are
+pub known_led : (b : Book) (n : ℕ) → Known b → Known (with_leader b n)
+known_led b n known = record {
+  few_passes = known.few_passes;
+  no_pass = known.no_pass;
+  few = known.few;
+  no_class = known.no_class;
+  no_state = known.no_state;
+  owed = known.owed;
+}
+
+pub known_kept : (b : Book) (k n : ℕ) → Known b → Known (with_keeper b k n)
+known_kept b k n known = record {
+  few_passes = known.few_passes;
+  no_pass = known.no_pass;
+  few = known.few;
+  no_class = known.no_class;
+  no_state = known.no_state;
+  owed = known.owed;
+}
+
 releads : (b : Book) (n j : ℕ) (o : Option Lead) → j ≢ b.leader → FitsLead b j o → FitsLead (with_leader b n) j o
 releads b n j None apart f = tt
 releads b n j (Some l) apart f = absurd (apart (sym f.0))

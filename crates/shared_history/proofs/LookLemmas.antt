@@ -189,10 +189,21 @@ raised_words b s r (suc j) apart = refl
 apart_from : (n m k : ℕ) → n ≤ m → k < n → m ≢ k
 apart_from n m k h lt e = omega arith
 
+-- new states of the classes, of which class k's has these numbers and each other's is as it was
+record Raise (b : Book) (k settled_now runs_now : ℕ) : Type 0 where
+  settled : ℕ → ℕ
+  runs : ℕ → ℕ
+  more_settled : (m : ℕ) → b.settled m ≤ settled m
+  more_runs : (m : ℕ) → b.runs m ≤ runs m
+  others : (m : ℕ) → m ≢ k → (settled m ≡ b.settled m) × (runs m ≡ b.runs m)
+  settled_is : settled_now ≡ settled k
+  runs_is : runs_now ≡ runs k
+  owed : (m : ℕ) → OneOwed (settled m) (about_class m b.base)
+
 -- the seat of a class raises its state
 raises : (slots id : ℕ) (seen heard : List Entry) (o : Option Own) (h : Option Lead) (k : ℕ) (list : List Entry) (x y x' y' : ℕ) (then : ℕ → Me Entry View → Type 0)
     → ((n : ℕ) → then n (view seen heard o h (Some (branch k list x' y')), []))
-    → ((b : Book) → list ≡ about_class k b.base → ((m : ℕ) → OneOwed (b.settled m) (about_class m b.base)) → x ≡ b.settled k → y ≡ b.runs k → (s : ℕ → ℕ) × (r : ℕ → ℕ) × ((m : ℕ) → b.settled m ≤ s m) × ((m : ℕ) → b.runs m ≤ r m) × ((m : ℕ) → m ≢ k → (s m ≡ b.settled m) × (r m ≡ b.runs m)) × (x' ≡ s k) × (y' ≡ r k) × ((m : ℕ) → OneOwed (s m) (about_class m b.base)))
+    → ((b : Book) → list ≡ about_class k b.base → ((m : ℕ) → OneOwed (b.settled m) (about_class m b.base)) → x ≡ b.settled k → y ≡ b.runs k → Raise b k x' y')
     → Allows Kept slots id (view seen heard o h (Some (branch k list x y)), []) 0 (λ n. n) then
 raises slots id seen heard o h k list x y x' y' then told up s kept wide at low =
     let b = kept.book in
@@ -200,27 +211,42 @@ raises slots id seen heard o h k list x y x' y' then told up s kept wide at low 
     let w : View = view seen heard o h (Some (branch k list x' y')) in
     let f = kept.views id v at in
     let t = up b f.branch.2 kept.known.owed f.branch.3 f.branch.4 in
-    let b' : Book = raised b t.0 t.1 in (
+    let b' : Book = raised b t.settled t.runs in (
       w,
       keeps,
       tt,
       record {
         book = b';
         first = subst (λ (n : ℕ). 0 < n) (sym (length-set s.words 0 _)) kept.first;
-        words = words_set s.words (word_of b) (word_of b') (λ n. n) 0 kept.words refl (raised_words b t.0 t.1);
+        words = words_set s.words (word_of b) (word_of b') (λ n. n) 0 kept.words refl (raised_words b t.settled t.runs);
         known = record {
           few_passes = kept.known.few_passes;
           no_pass = kept.known.no_pass;
           few = kept.known.few;
           no_class = kept.known.no_class;
-          no_state = λ m h. let ne : m ≢ k = apart_from b.classes m k h f.branch.1 in let z = kept.known.no_state m h in ((t.4 m ne).0 ∙ z.0, (t.4 m ne).1 ∙ z.1);
-          owed = t.7;
+          no_state = λ m h.
+              let ne : m ≢ k = apart_from b.classes m k h f.branch.1 in
+              let z = kept.known.no_state m h in
+              ((t.others m ne).0 ∙ z.0, (t.others m ne).1 ∙ z.1);
+          owed = t.owed;
         };
         views = fit_set b' s.views id w
             (λ j u apart there.
             let g = kept.views j u there in
-            record { seen = g.seen; heard = g.heard; own = raise_own b t.0 t.1 j u.seen u.own t.2 t.3 g.own; lead = g.lead; branch = raise_branch b t.0 t.1 id k j u.branch f.branch.0 apart t.4 g.branch })
-            (record { seen = f.seen; heard = f.heard; own = raise_own b t.0 t.1 id seen o t.2 t.3 f.own; lead = f.lead; branch = (f.branch.0, f.branch.1, f.branch.2, t.5, t.6) });
+            record {
+              seen = g.seen;
+              heard = g.heard;
+              own = raise_own b t.settled t.runs j u.seen u.own t.more_settled t.more_runs g.own;
+              lead = g.lead;
+              branch = raise_branch b t.settled t.runs id k j u.branch f.branch.0 apart t.others g.branch;
+            })
+            (record {
+              seen = f.seen;
+              heard = f.heard;
+              own = raise_own b t.settled t.runs id seen o t.more_settled t.more_runs f.own;
+              lead = f.lead;
+              branch = (f.branch.0, f.branch.1, f.branch.2, t.settled_is, t.runs_is);
+            });
         held = same_held b b' (set s.views id w) refl refl refl refl refl
             (held_set b s.views id v w at (record { lead = λ h. h; branch = λ class h. h; own = λ pass h. h }) kept.held);
       },
@@ -247,30 +273,34 @@ owed_raised b k m list x is e owes before (yes same) =
 owed_raised b k m list x is e owes before (no ne) =
     subst (λ (n : ℕ). OneOwed n (about_class m b.base)) (sym (upd_else b.settled k m (b.settled k + 1) ne)) before
 
-pub settles : (slots id : ℕ) (seen heard : List Entry) (o : Option Own) (h : Option Lead) (k : ℕ) (list : List Entry) (x y : ℕ)
-    → x < drains list → Allows Kept slots id (view seen heard o h (Some (branch k list x y)), []) 0 (λ n. n) (Settles (step slots 0 0 0 none) (view seen heard o h (Some (branch k list x y)), []))
-settles slots id seen heard o h k list x y owes = raises slots id seen heard o h k list x y (x + 1) y (Settles (step slots 0 0 0 none) (view seen heard o h (Some (branch k list x y)), [])) (λ n. refl)
-    (λ b is owed e e'. (
-      upd b.settled k (b.settled k + 1),
-      b.runs,
-      λ m. upd_up b.settled k m (ℕ_discrete m k),
-      λ m. le_is (b.runs m) (b.runs m) refl,
-      λ m ne. (upd_else b.settled k m (b.settled k + 1) ne, refl),
-      ap (λ n. n + 1) e ∙ sym (upd_same b.settled k k (b.settled k + 1) refl),
-      e',
-      λ m. owed_raised b k m list x is e owes (owed m) (ℕ_discrete m k),
-    ))
+pub settles : (slots id : ℕ) (seen heard : List Entry) (o : Option Own) (h : Option Lead) (k : ℕ) (list : List Entry) (x y : ℕ) → x < drains list
+    → Allows Kept slots id (view seen heard o h (Some (branch k list x y)), []) 0 (λ n. n)
+        (Settles (step slots 0 0 0 none) (view seen heard o h (Some (branch k list x y)), []))
+settles slots id seen heard o h k list x y owes =
+    raises slots id seen heard o h k list x y (x + 1) y (Settles (step slots 0 0 0 none) (view seen heard o h (Some (branch k list x y)), [])) (λ n. refl)
+    (λ b is owed e e'. record {
+      settled = upd b.settled k (b.settled k + 1);
+      runs = b.runs;
+      more_settled = λ m. upd_up b.settled k m (ℕ_discrete m k);
+      more_runs = λ m. le_is (b.runs m) (b.runs m) refl;
+      others = λ m ne. (upd_else b.settled k m (b.settled k + 1) ne, refl);
+      settled_is = ap (λ n. n + 1) e ∙ sym (upd_same b.settled k k (b.settled k + 1) refl);
+      runs_is = e';
+      owed = λ m. owed_raised b k m list x is e owes (owed m) (ℕ_discrete m k);
+    })
 
 pub runs : (slots id : ℕ) (seen heard : List Entry) (o : Option Own) (h : Option Lead) (k : ℕ) (list : List Entry) (x y : ℕ)
-    → Allows Kept slots id (view seen heard o h (Some (branch k list x y)), []) 0 (λ n. n) (Runs (step slots 0 0 0 none) (view seen heard o h (Some (branch k list x y)), []))
-runs slots id seen heard o h k list x y = raises slots id seen heard o h k list x y x (y + 1) (Runs (step slots 0 0 0 none) (view seen heard o h (Some (branch k list x y)), [])) (λ n. refl)
-    (λ b is owed e e'. (
-      b.settled,
-      upd b.runs k (b.runs k + 1),
-      λ m. le_is (b.settled m) (b.settled m) refl,
-      λ m. upd_up b.runs k m (ℕ_discrete m k),
-      λ m ne. (refl, upd_else b.runs k m (b.runs k + 1) ne),
-      e,
-      ap (λ n. n + 1) e' ∙ sym (upd_same b.runs k k (b.runs k + 1) refl),
-      owed,
-    ))
+    → Allows Kept slots id (view seen heard o h (Some (branch k list x y)), []) 0 (λ n. n)
+        (Runs (step slots 0 0 0 none) (view seen heard o h (Some (branch k list x y)), []))
+runs slots id seen heard o h k list x y =
+    raises slots id seen heard o h k list x y x (y + 1) (Runs (step slots 0 0 0 none) (view seen heard o h (Some (branch k list x y)), [])) (λ n. refl)
+    (λ b is owed e e'. record {
+      settled = b.settled;
+      runs = upd b.runs k (b.runs k + 1);
+      more_settled = λ m. le_is (b.settled m) (b.settled m) refl;
+      more_runs = λ m. upd_up b.runs k m (ℕ_discrete m k);
+      others = λ m ne. (refl, upd_else b.runs k m (b.runs k + 1) ne);
+      settled_is = e;
+      runs_is = ap (λ n. n + 1) e' ∙ sym (upd_same b.runs k k (b.runs k + 1) refl);
+      owed = owed;
+    })

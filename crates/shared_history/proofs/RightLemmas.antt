@@ -15,7 +15,7 @@ use Rattle.shared_history.specs.Rule.{Book, Fits, IsBranchAlone, IsLeadAlone, Is
 use Rattle.shared_history.proofs.ListLemmas.{prefix_nil, upd_same}
 use Rattle.shared_history.proofs.HeldLemmas.{held_longer, held_set, keeper_moves, same_rights, view_else, view_join, view_last, view_longer, view_new, view_set}
 use Rattle.std.proofs.lemmas.Bool.{false≢true}
-use Rattle.shared_history.proofs.FittingLemmas.{fit_at, fit_set, fit_snoc, fit_nobody, with_leader, with_keeper, relead, rekeep}
+use Rattle.shared_history.proofs.FittingLemmas.{known_kept, known_led, fit_at, fit_set, fit_snoc, fit_nobody, with_leader, with_keeper, relead, rekeep}
 
 -- a state of the same words, with other views
 abbrev pub seats : State Entry View → List View → State Entry View
@@ -46,7 +46,7 @@ module _ (s : State Entry View) (k : Kept s) (id : ℕ) (seen heard : List Entry
         book = b;
         first = k.first;
         words = k.words;
-        known = record { few_passes = k.known.few_passes; no_pass = k.known.no_pass; few = k.known.few; no_class = k.known.no_class; no_state = k.known.no_state; owed = k.known.owed };
+        known = known_led k.book n k.known;
         views = fit_snoc b views (view [] [] None (Some l) None)
             (fit_set b s.views id (view seen heard o None t) (λ j u apart h. relead k.book n j u (λ same. apart (same ∙ f.lead.0)) (k.views j u h))
             (record { seen = f.seen; heard = f.heard; own = f.own; lead = tt; branch = f.branch }))
@@ -83,7 +83,7 @@ module _ (s : State Entry View) (k : Kept s) (id : ℕ) (seen heard : List Entry
         book = b;
         first = k.first;
         words = k.words;
-        known = record { few_passes = k.known.few_passes; no_pass = k.known.no_pass; few = k.known.few; no_class = k.known.no_class; no_state = k.known.no_state; owed = k.known.owed };
+        known = known_kept k.book t.class n k.known;
         views = fit_snoc b views (view [] [] None None (Some t))
             (fit_set b s.views id (view seen heard o l None) (λ j u apart h. rekeep k.book t.class n j u (λ same. apart (same ∙ f.branch.0)) (k.views j u h))
             (record { seen = f.seen; heard = f.heard; own = f.own; lead = f.lead; branch = tt }))
@@ -140,7 +140,7 @@ module _ (s : State Entry View) (k : Kept s) (id other : ℕ) (v : View) (mine :
         book = b;
         first = k.first;
         words = k.words;
-        known = record { few_passes = k.known.few_passes; no_pass = k.known.no_pass; few = k.known.few; no_class = k.known.no_class; no_state = k.known.no_state; owed = k.known.owed };
+        known = known_led k.book id k.known;
         views = fit_two b s.views id other x nobody (λ j u apart away h. relead k.book id j u (λ same. away (same ∙ g.lead.0)) (k.views j u h))
             (record { seen = f.seen; heard = f.heard; own = f.own; lead = (refl, g.lead.1, g.lead.2, g.lead.3, g.lead.4); branch = f.branch }) (fit_nobody b other);
         held = record {
@@ -164,7 +164,7 @@ module _ (s : State Entry View) (k : Kept s) (id other : ℕ) (v : View) (mine :
         book = b;
         first = k.first;
         words = k.words;
-        known = record { few_passes = k.known.few_passes; no_pass = k.known.no_pass; few = k.known.few; no_class = k.known.no_class; no_state = k.known.no_state; owed = k.known.owed };
+        known = known_kept k.book t.class id k.known;
         views = fit_two b s.views id other x nobody (λ j u apart away h. rekeep k.book t.class id j u (λ same. away (same ∙ g.branch.0)) (k.views j u h))
             (record { seen = f.seen; heard = f.heard; own = f.own; lead = f.lead; branch = (upd_same k.book.keeper t.class t.class id refl, g.branch.1, g.branch.2, g.branch.3, g.branch.4) }) (fit_nobody b other);
         held = record {
