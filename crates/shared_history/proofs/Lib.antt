@@ -1,0 +1,11 @@
+pub mod ListLemmas
+pub mod FittingLemmas
+pub mod HeldLemmas
+pub mod RightLemmas
+pub mod GrowthLemmas
+pub mod LookLemmas
+pub mod StartLemmas
+pub mod PartLemmas
+pub mod EndLemmas
+pub mod EventLemmas
+pub mod CountLemmas

@@ -1,0 +1,7 @@
+pub mod Entries
+pub mod Events
+pub mod Views
+pub mod Rule
+pub mod Plays
+pub mod Parts
+pub mod Laws
