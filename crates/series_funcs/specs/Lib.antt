@@ -1,0 +1,5 @@
+pub mod Quotients
+pub mod Combined
+pub mod Each
+pub mod Named
+pub mod Divided
