@@ -3,3 +3,5 @@ pub mod Combined
 pub mod Each
 pub mod Named
 pub mod Divided
+pub mod Shaped
+pub mod Moved

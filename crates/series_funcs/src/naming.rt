@@ -4,6 +4,15 @@ ghost use Rattle.series_funcs.specs.Named.{call_text};
 
 use std::alloc::{AllocError, Global};
 
+/// How what a call of one series gives is named: `function(NAME)`, or with a tail behind the series' name.
+#[derive(Clone, Copy)]
+pub struct CallName<'a> {
+    /// The function's name as it was written, as `scale`.
+    pub function: &'a str,
+    /// What stands between the series and the closing bracket: nothing, or a comma and the further arguments, as `,0.001`.
+    pub tail: &'a str,
+}
+
 /// The text of a call: `function(NAME)`, or with the tail behind the name, as in `scale(a.b,0.001)`.
 #[tactic(auto, unfolding(crate::specs::Named::call_text))]
 pub(crate) fn call_text(

@@ -43,7 +43,9 @@ fn are_short(series: &[Series]) -> bool
 fn are_early(series: &[Series]) -> bool
     ensures { IsTrue result → All (λ s. end_of s ≤ latest_end - widest_step) series.now }
 {
-    series.iter().all(|one| one.end() <= LATEST_END - WIDEST_STEP)
+    series
+        .iter()
+        .all(|one| one.end() <= LATEST_END - WIDEST_STEP)
 }
 
 fn are_combinable(series: &[Series]) -> bool
@@ -61,12 +63,19 @@ fn combined(alloc: Global, kind: Combine, rows: &[Row]) -> Result<Option<Series>
     Ok(found.into_vec().pop())
 }
 
-fn assert_is(rt: &impl Abort, found: Result<Option<Series>, EvalFault>, name: &str, want: &Row) {
+fn assert_is(
+    rt: &impl Abort,
+    found: Result<Option<Series>, EvalFault>,
+    name: &str,
+    start: u64,
+    step: u64,
+    values: &[Option<Milli>],
+) {
     let found = found.expect(rt, "no fault").expect(rt, "a series");
     assert_eq!(rt; found.name(), name);
     assert_eq!(rt; found.path(), A);
-    assert_eq!(rt; (found.start(), found.step()), (want.0, want.1));
-    assert_eq!(rt; found.values(), want.2);
+    assert_eq!(rt; (found.start(), found.step()), (start, step));
+    assert_eq!(rt; found.values(), values);
 }
 
 fn assert_fault(rt: &impl Abort, found: Result<Option<Series>, EvalFault>, want: EvalFault) {
@@ -82,17 +91,38 @@ fn series_are_combined_at_each_moment(rt: HostRuntime) -> Result<(), Fail> {
         (60, 60, &[Some(2000), Some(5000), Some(4000), None]),
     ];
     let table: [(Combine, Row); 7] = [
-        (Combine::Sum, (60, 60, &[Some(3000), Some(5000), Some(1000), None])),
-        (Combine::Average, (60, 60, &[Some(1500), Some(5000), Some(500), None])),
-        (Combine::Min, (60, 60, &[Some(1000), Some(5000), Some(-3000), None])),
-        (Combine::Max, (60, 60, &[Some(2000), Some(5000), Some(4000), None])),
-        (Combine::Range, (60, 60, &[Some(1000), Some(0), Some(7000), None])),
-        (Combine::Diff, (60, 60, &[Some(-1000), Some(5000), Some(-7000), None])),
-        (Combine::Multiply, (60, 60, &[Some(2000), None, Some(-12_000), None])),
+        (
+            Combine::Sum,
+            (60, 60, &[Some(3000), Some(5000), Some(1000), None]),
+        ),
+        (
+            Combine::Average,
+            (60, 60, &[Some(1500), Some(5000), Some(500), None]),
+        ),
+        (
+            Combine::Min,
+            (60, 60, &[Some(1000), Some(5000), Some(-3000), None]),
+        ),
+        (
+            Combine::Max,
+            (60, 60, &[Some(2000), Some(5000), Some(4000), None]),
+        ),
+        (
+            Combine::Range,
+            (60, 60, &[Some(1000), Some(0), Some(7000), None]),
+        ),
+        (
+            Combine::Diff,
+            (60, 60, &[Some(-1000), Some(5000), Some(-7000), None]),
+        ),
+        (
+            Combine::Multiply,
+            (60, 60, &[Some(2000), None, Some(-12_000), None]),
+        ),
     ];
-    for (kind, want) in table {
+    for (kind, (start, step, values)) in table {
         let found = combined(alloc, kind, &rows);
-        assert_is(&rt, found, "sum(a.*)", &want);
+        assert_is(&rt, found, "sum(a.*)", start, step, values);
     }
     Ok(())
 }
@@ -159,13 +189,16 @@ fn series_are_brought_to_their_common_grid(rt: HostRuntime) -> Result<(), Fail> 
             ],
             (0, 180, &[Some(17_000)]),
         ),
-        (&[(0, 7, &[Some(5)]), (0, 11, &[Some(7)])], (0, 77, &[Some(12)])),
+        (
+            &[(0, 7, &[Some(5)]), (0, 11, &[Some(7)])],
+            (0, 77, &[Some(12)]),
+        ),
         (&[(61, 60, &[Some(5), None])], (61, 60, &[Some(5), None])),
         (&[(60, 60, &[])], (60, 60, &[])),
     ];
-    for (rows, want) in table {
+    for (rows, (start, step, values)) in table {
         let found = combined(alloc, Combine::Sum, rows);
-        assert_is(&rt, found, "sum(a.*)", &want);
+        assert_is(&rt, found, "sum(a.*)", start, step, values);
     }
     let wide: [Row; 2] = [(0, 31_536_000, &[Some(5)]), (0, 7, &[Some(7)])];
     let found = combined(alloc, Combine::Sum, &wide);
@@ -194,7 +227,11 @@ fn series_are_divided(rt: HostRuntime) -> Result<(), Fail> {
             (60, 60, &[Some(1000), Some(1000), Some(-1000), None]),
             &[(60, 60, &[Some(-3), Some(3), Some(-3), Some(1)])],
             "divideSeries(x,y)",
-            (60, 60, &[Some(-333_334), Some(333_333), Some(333_333), None]),
+            (
+                60,
+                60,
+                &[Some(-333_334), Some(333_333), Some(333_333), None],
+            ),
         ),
         (
             (60, 60, &[Some(-1), Some(7), Some(i64::MIN), Some(i64::MAX)]),
@@ -220,11 +257,16 @@ fn series_are_divided(rt: HostRuntime) -> Result<(), Fail> {
             "divideSeries(x)",
             (60, 60, &[None, None]),
         ),
-        ((60, 60, &[]), &[(60, 60, &[])], "divideSeries(x,y)", (60, 60, &[])),
+        (
+            (60, 60, &[]),
+            &[(60, 60, &[])],
+            "divideSeries(x,y)",
+            (60, 60, &[]),
+        ),
     ];
-    for (row, rows, name, want) in table {
+    for (row, rows, name, (start, step, values)) in table {
         let found = quotient(alloc, row, rows);
-        assert_is(&rt, found, name, &want);
+        assert_is(&rt, found, name, start, step, values);
     }
     Ok(())
 }
