@@ -1,7 +1,8 @@
 // Series that are combined, divided, shaped and grouped. Values are in thousandths, worked by hand.
-ghost use Rattle.std.specs.Prelude.{◌≤◌, ◌-◌, All, IsTrue};
+ghost use Rattle.std.specs.Prelude.{◌≤◌, ◌+◌, ◌-◌, All, IsTrue};
 ghost use Rattle.series_set.specs.Series.{end_of, latest_end, widest_step};
 ghost use Rattle.series_funcs.specs.Combined.{AreCombinable};
+ghost use Rattle.series_funcs.specs.Moved.{HasStep, lateness};
 
 use super::*;
 use fixed_num::Milli;
@@ -268,5 +269,341 @@ fn series_are_divided(rt: HostRuntime) -> Result<(), Fail> {
         let found = quotient(alloc, row, rows);
         assert_is(&rt, found, name, start, step, values);
     }
+    Ok(())
+}
+
+fn are_early_for(kind: &Shape, series: &[Series]) -> bool
+    ensures { IsTrue result → All (λ s. end_of s + lateness kind.now ≤ latest_end) series.now }
+{
+    let late = match *kind {
+        Shape::Summarize { step, .. } => u64::from(step),
+        Shape::TimeShift {
+            past: true,
+            seconds,
+        } => seconds,
+        _ => 0,
+    };
+    late <= LATEST_END && series.iter().all(|one| one.end() <= LATEST_END - late)
+}
+
+// The series of one row, shaped; nothing where it is left out.
+fn shaped(alloc: Global, kind: &Shape, row: Row) -> Result<Option<Series>, EvalFault> {
+    let set = set_of(alloc, "x", &[row])?;
+    if !are_early_for(kind, set.as_slice()) || !has_step(kind) {
+        return Ok(None);
+    }
+    let call = CallName {
+        function: "f",
+        tail: ",1",
+    };
+    let found = shape(alloc, kind, set, &call)?;
+    Ok(found.into_vec().pop())
+}
+
+fn has_step(kind: &Shape) -> bool
+    ensures { IsTrue result → HasStep kind.now }
+{
+    match *kind {
+        Shape::Summarize { step, .. } => step >= 1 && u64::from(step) <= WIDEST_STEP,
+        _ => true,
+    }
+}
+
+fn assert_shaped(
+    rt: &impl Abort,
+    alloc: Global,
+    kind: Shape,
+    values: &'static [Option<Milli>],
+    want: &[Option<Milli>],
+) {
+    let found = shaped(alloc, &kind, (70, 60, values));
+    assert_is(rt, found, "f(x,1)", 70, 60, want);
+}
+
+const MOST: Milli = i64::MAX;
+
+const LEAST: Milli = i64::MIN;
+
+#[test]
+fn each_value_is_shaped_by_itself(rt: HostRuntime) -> Result<(), Fail> {
+    let alloc = rt.alloc();
+    let table: [(Shape, &'static [Option<Milli>], &[Option<Milli>]); 15] = [
+        (
+            Shape::Absolute,
+            &[Some(-5), None, Some(5), Some(LEAST)],
+            &[Some(5), None, Some(5), None],
+        ),
+        // a thousandth of the values
+        (
+            Shape::Scale {
+                billionths: 1_000_000,
+            },
+            &[Some(1500), Some(-1500), Some(-1), None],
+            &[Some(1), Some(-2), Some(-1), None],
+        ),
+        (
+            Shape::Scale { billionths: MOST },
+            &[Some(MOST), Some(1_000_000_000), Some(LEAST)],
+            &[None, Some(MOST), None],
+        ),
+        (
+            Shape::Scale {
+                billionths: -1_500_000_000,
+            },
+            &[Some(1), Some(-1)],
+            &[Some(-2), Some(1)],
+        ),
+        (
+            Shape::Offset { by: -1 },
+            &[Some(5), None, Some(LEAST)],
+            &[Some(4), None, None],
+        ),
+        (
+            Shape::OffsetToZero,
+            &[Some(5), None, Some(-3)],
+            &[Some(8), None, Some(0)],
+        ),
+        (
+            Shape::OffsetToZero,
+            &[Some(MOST), Some(-1)],
+            &[None, Some(0)],
+        ),
+        (Shape::OffsetToZero, &[None, None], &[None, None]),
+        (Shape::OffsetToZero, &[], &[]),
+        (
+            Shape::TransformNull { value: 7 },
+            &[Some(5), None],
+            &[Some(5), Some(7)],
+        ),
+        (Shape::IsNonNull, &[Some(0), None], &[Some(1000), Some(0)]),
+        (
+            Shape::RemoveAboveValue { most: 5 },
+            &[Some(5), Some(6), None],
+            &[Some(5), None, None],
+        ),
+        (
+            Shape::RemoveBelowValue { least: 5 },
+            &[Some(5), Some(4), None],
+            &[Some(5), None, None],
+        ),
+        // a third of the values
+        (
+            Shape::ScaleToSeconds { seconds: 20 },
+            &[Some(100), Some(-100), None],
+            &[Some(33), Some(-34), None],
+        ),
+        (
+            Shape::ScaleToSeconds { seconds: 0 },
+            &[Some(-100)],
+            &[Some(0)],
+        ),
+    ];
+    for (kind, values, want) in table {
+        assert_shaped(&rt, alloc, kind, values, want);
+    }
+    Ok(())
+}
+
+#[test]
+fn values_are_shaped_with_those_before(rt: HostRuntime) -> Result<(), Fail> {
+    let alloc = rt.alloc();
+    let table: [(Shape, &'static [Option<Milli>], &[Option<Milli>]); 17] = [
+        (
+            Shape::Derivative,
+            &[
+                Some(1),
+                Some(4),
+                Some(2),
+                None,
+                Some(3),
+                Some(MOST),
+                Some(-2),
+            ],
+            &[None, Some(3), Some(-2), None, None, Some(MOST - 3), None],
+        ),
+        (Shape::Derivative, &[Some(1)], &[None]),
+        (
+            Shape::NonNegativeDerivative,
+            &[Some(1), Some(4), Some(2), Some(2)],
+            &[None, Some(3), None, Some(0)],
+        ),
+        (
+            Shape::PerSecond,
+            &[Some(0), Some(119), Some(100), Some(160)],
+            &[None, Some(1), None, Some(1)],
+        ),
+        (
+            Shape::Integral,
+            &[Some(1), None, Some(2), Some(-5)],
+            &[Some(1), None, Some(3), Some(-2)],
+        ),
+        (
+            Shape::Integral,
+            &[Some(MOST), Some(1), Some(-1)],
+            &[Some(MOST), None, Some(MOST)],
+        ),
+        (
+            Shape::Delay { places: 2 },
+            &[Some(1), None, Some(3), Some(4)],
+            &[None, None, Some(1), None],
+        ),
+        (
+            Shape::Delay { places: 0 },
+            &[Some(1), None],
+            &[Some(1), None],
+        ),
+        (
+            Shape::Delay { places: 9 },
+            &[Some(1), Some(2)],
+            &[None, None],
+        ),
+        // a gap at the beginning, one of two values, one of three
+        (
+            Shape::KeepLastValue { most: Some(2) },
+            &[
+                None,
+                Some(1),
+                None,
+                None,
+                Some(2),
+                None,
+                None,
+                None,
+                Some(3),
+            ],
+            &[
+                None,
+                Some(1),
+                Some(1),
+                Some(1),
+                Some(2),
+                None,
+                None,
+                None,
+                Some(3),
+            ],
+        ),
+        (
+            Shape::KeepLastValue { most: Some(2) },
+            &[Some(1), None, None],
+            &[Some(1), Some(1), Some(1)],
+        ),
+        (
+            Shape::KeepLastValue { most: Some(2) },
+            &[Some(1), None, None, None],
+            &[Some(1), None, None, None],
+        ),
+        (
+            Shape::KeepLastValue { most: None },
+            &[None, Some(1), None, None, None],
+            &[None, Some(1), Some(1), Some(1), Some(1)],
+        ),
+        (
+            Shape::KeepLastValue { most: None },
+            &[None, None],
+            &[None, None],
+        ),
+        (
+            Shape::KeepLastValue { most: Some(0) },
+            &[Some(1), None],
+            &[Some(1), None],
+        ),
+        (
+            Shape::Changed,
+            &[
+                None,
+                Some(1),
+                Some(1),
+                None,
+                Some(1),
+                Some(2),
+                None,
+                Some(1),
+            ],
+            &[
+                Some(0),
+                Some(0),
+                Some(0),
+                Some(0),
+                Some(0),
+                Some(1000),
+                Some(0),
+                Some(1000),
+            ],
+        ),
+        (Shape::Changed, &[], &[]),
+    ];
+    for (kind, values, want) in table {
+        assert_shaped(&rt, alloc, kind, values, want);
+    }
+    Ok(())
+}
+
+#[test]
+fn series_are_summarized(rt: HostRuntime) -> Result<(), Fail> {
+    let alloc = rt.alloc();
+    let minutes: Row = (1_700_000_100, 60, &[Some(1000), Some(2000), Some(4000)]);
+    // moments 70, 130, 190 and 250 in buckets from 0, 120 and 240
+    let odd: Row = (70, 60, &[Some(-1), Some(4), Some(-9), None]);
+    let large: Row = (0, 60, &[Some(MOST), Some(1)]);
+    let table: [(Row, u32, Gather, Row); 8] = [
+        (
+            minutes,
+            300,
+            Gather::Sum,
+            (1_700_000_100, 300, &[Some(7000)]),
+        ),
+        (odd, 120, Gather::Sum, (0, 120, &[Some(-1), Some(-5), None])),
+        (
+            odd,
+            120,
+            Gather::Average,
+            (0, 120, &[Some(-1), Some(-3), None]),
+        ),
+        (odd, 120, Gather::Max, (0, 120, &[Some(-1), Some(4), None])),
+        (odd, 120, Gather::Min, (0, 120, &[Some(-1), Some(-9), None])),
+        (
+            odd,
+            120,
+            Gather::Last,
+            (0, 120, &[Some(-1), Some(-9), None]),
+        ),
+        (large, 120, Gather::Sum, (0, 120, &[None])),
+        // finer than the series
+        (
+            large,
+            40,
+            Gather::Sum,
+            (0, 40, &[Some(MOST), Some(1), None]),
+        ),
+    ];
+    for (row, step, gather, (start, on_step, values)) in table {
+        let found = shaped(alloc, &Shape::Summarize { step, gather }, row);
+        assert_is(&rt, found, "f(x,1)", start, on_step, values);
+    }
+    let year: Row = (1_700_000_000, 31_536_000, &[Some(1)]);
+    let gather = Gather::Sum;
+    let found = shaped(alloc, &Shape::Summarize { step: 1, gather }, year);
+    assert_fault(&rt, found, EvalFault::TooLong(31_536_000));
+    Ok(())
+}
+
+#[test]
+fn series_are_moved_back(rt: HostRuntime) -> Result<(), Fail> {
+    let alloc = rt.alloc();
+    let row: Row = (120, 60, &[Some(1), None]);
+    let table: [(bool, u64, u64); 4] = [
+        (true, 3600, 3720),
+        (true, 4_000_000_000, 4_000_000_120),
+        (false, 100, 20),
+        (false, 120, 0),
+    ];
+    for (past, seconds, start) in table {
+        let found = shaped(alloc, &Shape::TimeShift { past, seconds }, row);
+        assert_is(&rt, found, "f(x,1)", start, 60, &[Some(1), None]);
+    }
+    let past = false;
+    let found = shaped(alloc, &Shape::TimeShift { past, seconds: 121 }, row);
+    assert_eq!(rt; found.ok().map(|none| none.is_none()), Some(true));
     Ok(())
 }
