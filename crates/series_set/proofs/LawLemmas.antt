@@ -77,7 +77,7 @@ answered : (grid found : Grid) (wide : Option ℕ) → option_map_or (λ m. Err 
 answered grid found None is = short_answered grid found (nat_le (value_count found) most_values) is
 answered grid found (Some m) is = absurd (false≢true (ap is_ok is))
 
-grid_found : (set : List SeriesValue) (grid : Grid) → common_grid set ≡ Ok grid → grid ≡ grid_of set
+pub grid_found : (set : List SeriesValue) (grid : Grid) → common_grid set ≡ Ok grid → grid ≡ grid_of set
 unfolding common_grid
 grid_found set grid is = answered grid (grid_of set) (wide_multiple (steps_of set)) is
 
@@ -85,7 +85,7 @@ same_step : (hull : Grid) (own : Bool) → (cond own hull (widened hull)).step �
 same_step hull true = refl
 same_step hull false = refl
 
-step_found : (set : List SeriesValue) → (grid_of set).step ≡ lcm_of (steps_of set)
+pub step_found : (set : List SeriesValue) → (grid_of set).step ≡ lcm_of (steps_of set)
 unfolding grid_of
 step_found set = same_step (hull set) (list_all (has_grid (hull set)) set)
 

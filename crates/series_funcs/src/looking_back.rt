@@ -1,0 +1,134 @@
+//! What is made of each value and those before it.
+ghost use Rattle.std.specs.Prelude.{◌≡◌, ◌≤◌, IfOk, None, if◌then◌else◌, is_none, length};
+ghost use Rattle.std.specs.List.{prefix_len};
+ghost use Rattle.series_set.specs.Series.{most_values};
+ghost use Rattle.series_funcs.specs.Shaped.{at_places, change_at, delayed_at, derivative_at, differs, integral_at, is_short, kept_at, minus};
+
+use crate::changing::one_where;
+use crate::quotients::fitting;
+use fixed_num::{Milli, wide};
+use std::alloc::{AllocError, Global};
+
+/// Takes from each value the one before: the first, and each beside a missing one, becomes missing.
+pub(crate) fn differ(values: &mut Vec<Option<Milli>>)
+    ensures { values.new.items ≡ at_places derivative_at values.old.items }
+{
+    let mut before = None;
+    for place in 0..values.len() {
+        let value = values[place];
+        values[place] = minus(value, before);
+        before = value;
+    }
+}
+
+#[tactic(auto, unfolding(crate::specs::Shaped::minus))]
+fn minus(value: Option<Milli>, other: Option<Milli>) -> Option<Milli>
+    ensures { result ≡ minus value other }
+{
+    fitting(wide(value?) - wide(other?))
+}
+
+/// Makes of each known value the sum of the known up to it.
+#[tactic(auto, unfolding(crate::specs::Shaped::integral_at))]
+pub(crate) fn add_up(values: &mut Vec<Option<Milli>>)
+    requires { length values.old.items ≤ most_values }
+    ensures { values.new.items ≡ at_places integral_at values.old.items }
+{
+    let mut sum = 0;
+    for place in 0..values.len() {
+        let Some(value) = values[place] else { continue };
+        sum += wide(value);
+        values[place] = fitting(sum);
+    }
+}
+
+/// The values so many places later.
+pub(crate) fn delayed(
+    alloc: Global,
+    values: &[Option<Milli>],
+    places: usize,
+) -> Result<Vec<Option<Milli>>, AllocError>
+    ensures { IfOk result (λ later. later.items ≡ at_places (delayed_at places) values.now) }
+{
+    let mut later = Vec::with_capacity(alloc, values.len())?;
+    for place in 0..values.len() {
+        later.push(delayed_at(values, places, place))?;
+    }
+    Ok(later)
+}
+
+fn delayed_at(values: &[Option<Milli>], places: usize, place: usize) -> Option<Milli>
+    ensures { result ≡ delayed_at places values.now place }
+{
+    if place < places {
+        return None;
+    }
+    values.get(place - places).copied().flatten()
+}
+
+/// Makes of each value 1 where it differs from the last known before, and else 0.
+#[tactic(auto, unfolding(crate::specs::Shaped::change_at))]
+pub(crate) fn tell_changes(values: &mut Vec<Option<Milli>>)
+    ensures { values.new.items ≡ at_places change_at values.old.items }
+{
+    let mut last = None;
+    for place in 0..values.len() {
+        let value = values[place];
+        values[place] = Some(one_where(differs(value, last)));
+        last = value.or(last);
+    }
+}
+
+fn differs(value: Option<Milli>, other: Option<Milli>) -> bool
+    ensures { result ≡ differs value other }
+{
+    match (value, other) {
+        (Some(value), Some(other)) => value != other,
+        _ => false,
+    }
+}
+
+/// Puts into each gap of at most so many values, or into any, the known value before it.
+pub(crate) fn keep_last(values: &mut Vec<Option<Milli>>, most: Option<u32>)
+    ensures { values.new.items ≡ at_places (kept_at most) values.old.items }
+{
+    let mut last = None;
+    let mut in_gap = false;
+    let mut fill = None;
+    for place in 0..values.len() {
+        if let Some(value) = values[place] {
+            last = Some(value);
+            in_gap = false;
+            continue;
+        }
+        // The whole gap is looked at once, at its first place.
+        if !in_gap {
+            fill = fill_for(last, most, &values[place..]);
+            in_gap = true;
+        }
+        values[place] = fill;
+    }
+}
+
+// What a gap takes with which the rest of the values begins.
+fn fill_for(last: Option<Milli>, most: Option<u32>, rest: &[Option<Milli>]) -> Option<Milli>
+    ensures { result ≡ (if is_short most (prefix_len is_none rest.now) then last else None) }
+{
+    if is_short(most, gap_length(rest)) {
+        return last;
+    }
+    None
+}
+
+fn is_short(most: Option<u32>, gap: usize) -> bool
+    ensures { result ≡ is_short most gap }
+{
+    most.is_none_or(|most| gap <= most as usize)
+}
+
+// How many missing values the rest begins with.
+fn gap_length(rest: &[Option<Milli>]) -> usize
+    ensures { result ≡ prefix_len is_none rest.now }
+{
+    rest.iter().take_while(|value| value.is_none()).count()
+}
