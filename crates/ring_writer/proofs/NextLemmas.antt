@@ -5,15 +5,15 @@ use Rattle.outside_io.specs.Image.{Image, ChangesOnly, Creates, IsTorn, IsWithin
 use Rattle.ring_format.specs.Layout.{layout_fault}
 use Rattle.ring_format.specs.LayoutFile.{file_size_of}
 use Rattle.ring_format.specs.Patch.{PatchValue}
-use Rattle.ring_archive.specs.Ring.{AgreeAside, IsRingFile, ReadsAs, Rings, UnderPatch}
+use Rattle.ring_archive.specs.Ring.{AgreeAside, IsRingFile, OnFile, ReadsAs, Rings, UnderPatch}
 use Rattle.ring_archive.proofs.AlikeLemmas.{aside_alike}
 use Rattle.write_shelf.specs.Runs.{runs_of}
-use Rattle.write_shelf.specs.Shelf.{ComesInTurn, DrainValue, IsBegun, IsFilled, IsRunOf, OfNext, StandsAt, drain_with, next_run, run_at, run_bytes}
+use Rattle.write_shelf.specs.Shelf.{ComesInTurn, DrainValue, IsBegun, IsFilled, IsRunOf, OfNext, StandsAt, drain_with, marked, next_run}
 use Rattle.write_shelf.specs.declared.run.Run.{Run}
 use Rattle.write_shelf.specs.declared.run.Run.TheVariants.{Create, Cells, Head}
 use Rattle.write_shelf.proofs.BytesLemmas.{length-cells_bytes}
 use Rattle.ring_writer.specs.PartWritten.{Awaits, AwaitsNext, ComesTo, FailsNext, IsPartWritten, WritesNext}
-use Rattle.ring_writer.proofs.KnownLemmas.{known_more}
+use Rattle.ring_writer.proofs.KnownLemmas.{known_more, known_then}
 use Rattle.ring_writer.proofs.PartLemmas.{FollowsOn, cells_failed, cells_written, file_made, head_failed, head_written, ring_file_begun}
 
 -- what follows from an error, where there is one
@@ -226,3 +226,27 @@ next_not_created None size name a b tells awaits only = absurd (tells.some refl)
 next_not_created (Some drain) size name a b tells awaits only =
     known_more (λ image. Awaits drain.patch drain.left (image name)) (λ x y. ChangesOnly x y name) (ComesTo drain.patch drain.left name)
     (λ x y here others. create_fails drain drain.left size name x y (first_of drain (Create size) tells) (sym tells.is) others) a b awaits only
+
+-- ---- over several runs
+
+-- where a run was written the next one is awaited
+pub written_awaits : (shelf : Option DrainValue) (name : List ℕ) (a b : Option Image) → WhereKnown a b (WritesNext shelf name) → IfSome b (λ image. AwaitsNext (marked shelf) (image name))
+written_awaits None name a b written = known_then (λ image. AwaitsNext (marked None) (image name)) (WritesNext None name) (λ x y _. tt) a b written
+written_awaits (Some drain) name a b written =
+    known_then (λ image. AwaitsNext (marked (Some drain)) (image name)) (WritesNext (Some drain) name)
+    (λ x y comes. drain_awaits drain.patch (drop 1 drain.left) (y name) comes.far) a b written
+
+-- where it was not, it is awaited still
+pub failed_awaits : (shelf : Option DrainValue) (name : List ℕ) (a b : Option Image) → WhereKnown a b (FailsNext shelf name) → IfSome b (λ image. AwaitsNext shelf (image name))
+failed_awaits None name a b failed = known_then (λ image. AwaitsNext None (image name)) (FailsNext None name) (λ x y _. tt) a b failed
+failed_awaits (Some drain) name a b failed =
+    known_then (λ image. AwaitsNext (Some drain) (image name)) (FailsNext (Some drain) name) (λ x y comes. comes.far) a b failed
+
+-- what is awaited of the file of a patch that was just put on a shelf
+begins_by : (fresh : Bool) (patch : PatchValue) (held : Option (List ℕ)) → patch.fresh ≡ fresh → (fresh ≡ false → IsSomeAnd held (IsRingFile patch.layout)) → Awaits patch (runs_of patch) held
+begins_by true patch held is whole = new_awaits patch held is
+begins_by false patch held is whole = ring_awaits patch held is (whole refl)
+
+pub put_awaits : (patch : PatchValue) (name : List ℕ) (known : Option Image) → (patch.fresh ≡ false → OnFile known name (IsRingFile patch.layout)) → IfSome known (λ image. AwaitsNext (drain_with patch (runs_of patch)) (image name))
+put_awaits patch name None whole = tt
+put_awaits patch name (Some image) whole = drain_awaits patch (runs_of patch) (image name) (begins_by patch.fresh patch (image name) refl whole)

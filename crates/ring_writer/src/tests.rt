@@ -1,15 +1,19 @@
 // Patches written to a disk in memory.
-ghost use Rattle.std.specs.Prelude.{◌≡◌, false, IfOk, OnOk};
+ghost use Rattle.std.specs.Prelude.{◌≡◌, ◌≢◌, false, IfOk, IfSome, None, OnOk};
+ghost use Rattle.outside_io.specs.MemDisk.{disk_image};
 ghost use Rattle.ring_archive.specs.Ring.{IsRingFile, OnFile};
+ghost use Rattle.ring_writer.specs.PartWritten.{AwaitsNext};
 
 use super::*;
 use fixed_num::Milli;
 use metric_path::MetricPath;
-use outside_io::{Disk, MemDisk};
+use outside_io::{Disk, DiskFailed, MemDisk};
 use ring_archive::{RingFault, RingView};
 use ring_format::{Archive, CellWrite, Layout, Method, Patch};
 use std::alloc::Global;
+use std::process::Abort;
 use std::test::Fail;
+use write_shelf::Shelf;
 
 // A cell: its archive, its slot, its bucket and its value.
 type Laid = (u32, u32, u32, Milli);
@@ -233,6 +237,180 @@ fn neighbours_are_written_in_one_piece(rt: HostRuntime) -> Result<(), Fail> {
             };
             assert_eq!(rt; other.as_slice(), b"other".as_slice());
         }
+    }
+    Ok(())
+}
+
+// Writes the runs of a shelf in at most 100 calls, and a run again where it failed.
+fn drain<D: Disk>(disk: &mut D, name: &str, shelf: &mut Shelf)
+    requires { IfSome (D.image disk.old) (λ image. AwaitsNext shelf.old (image name.now)) }
+{
+    for _ in 0..100 {
+        let Some(_run) = shelf.next_run() else {
+            return;
+        };
+        try_next(disk, name, shelf);
+    }
+}
+
+// Writes the next run, and marks it where it is written.
+fn try_next<D: Disk>(disk: &mut D, name: &str, shelf: &mut Shelf)
+    requires some { shelf.old ≢ None }
+    requires file { IfSome (D.image disk.old) (λ image. AwaitsNext shelf.old (image name.now)) }
+    ensures { IfSome (D.image disk.new) (λ image. AwaitsNext shelf.new (image name.now)) }
+{
+    match write_run(disk, name, shelf) {
+        Ok(()) => shelf.mark_written(),
+        Err(DiskFailed) => {}
+    }
+}
+
+// Writes a patch run by run.
+fn drain_patch<D: Disk>(disk: &mut D, name: &str, patch: Patch)
+    requires { patch.fresh ≡ false → OnFile (D.image disk.old) name.now (IsRingFile patch.layout) }
+{
+    let mut shelf = Shelf::empty();
+    shelf.put(patch);
+    drain(disk, name, &mut shelf);
+}
+
+// A disk with the file of these cells, or, where it is to be created, without it.
+fn disk_with(
+    alloc: Global,
+    name: &str,
+    layout: Layout,
+    fresh: bool,
+    before: &[Laid],
+) -> Result<MemDisk, Fail>
+    ensures { IfOk result (λ disk. fresh ≡ false → OnFile (⟦<MemDisk as Disk>⟧.image disk) name.now (IsRingFile layout)) }
+{
+    let mut disk = MemDisk::new(alloc, 1_000);
+    if !fresh {
+        write(alloc, &mut disk, name, layout, true, before)??;
+    }
+    Ok(disk)
+}
+
+// The disk with one call that is to fail.
+fn failing_once(alloc: Global, disk: MemDisk, call: u64, tears: bool) -> Result<MemDisk, Fail>
+    ensures { IfOk result (λ failing. disk_image failing ≡ disk_image disk) }
+{
+    let disk = disk.failing(Vec::from_slice(alloc, &[call])?);
+    if tears {
+        return Ok(disk.tearing());
+    }
+    Ok(disk)
+}
+
+// Two layouts, whose files are of 148 and of 604 bytes.
+const ONE: [Archive; 1] = [Archive {
+    step: 60,
+    points: 10,
+}];
+
+const THREE: [Archive; 3] = [
+    Archive {
+        step: 60,
+        points: 10,
+    },
+    Archive {
+        step: 300,
+        points: 12,
+    },
+    Archive {
+        step: 3600,
+        points: 24,
+    },
+];
+
+// A drain: the cells that the file has before, unless it is created, and those that are drained.
+#[derive(Drop)]
+struct Drained<'a> {
+    layout: Layout,
+    fresh: bool,
+    before: &'a [Laid],
+    cells: &'a [Laid],
+}
+
+// The file when the patch is written at once.
+fn at_once(alloc: Global, drained: &Drained<'_>) -> Result<Option<Vec<u8>>, Fail> {
+    let mut disk = disk_with(alloc, "a", drained.layout, drained.fresh, drained.before)?;
+    write(
+        alloc,
+        &mut disk,
+        "a",
+        drained.layout,
+        drained.fresh,
+        drained.cells,
+    )??;
+    bytes_of(alloc, &mut disk, "a")
+}
+
+// The file when the patch is written run by run, where one call fails, and the calls that wrote.
+fn by_runs(
+    alloc: Global,
+    drained: &Drained<'_>,
+    call: u64,
+    tears: bool,
+) -> Result<(Option<Vec<u8>>, u64), Fail> {
+    let patch = patch_with(alloc, drained.layout, drained.fresh, drained.cells)?;
+    let disk = disk_with(alloc, "a", drained.layout, drained.fresh, drained.before)?;
+    let mut disk = failing_once(alloc, disk, call, tears)?;
+    let others = disk.calls().writing();
+    drain_patch(&mut disk, "a", patch);
+    let calls = disk.calls().writing().saturating_sub(others);
+    Ok((bytes_of(alloc, &mut disk, "a")?, calls))
+}
+
+fn assert_drained(
+    rt: &impl Abort,
+    alloc: Global,
+    drained: &Drained<'_>,
+    runs: u64,
+) -> Result<(), Fail> {
+    let wanted = at_once(alloc, drained)?;
+    for call in 1..=runs.saturating_add(1) {
+        for tears in [false, true] {
+            let (held, calls) = by_runs(alloc, drained, call, tears)?;
+            let again = u64::from(call <= runs);
+            assert!(rt;
+                calls.saturating_sub(again) == runs,
+                "call {call} of {runs}"
+            );
+            assert!(rt; held.is_some() && held == wanted, "call {call} of {runs}");
+        }
+    }
+    Ok(())
+}
+
+// Each run fails once, whole or torn, and is written again.
+#[test]
+fn a_patch_is_written_run_by_run(rt: HostRuntime) -> Result<(), Fail> {
+    let three = [
+        (0, 3, 1380, -1),
+        (0, 4, 840, 256),
+        (1, 11, 3600, 5),
+        (2, 0, 3600, 6),
+    ];
+    let table: [(&[Archive], bool, &[Laid], u64); 6] = [
+        (&ONE, true, &[], 2),
+        (&ONE, true, &[(0, 4, 840, 1), (0, 5, 900, 2)], 3),
+        (&ONE, false, &[(0, 4, 840, 1), (0, 5, 900, 2)], 1),
+        (&ONE, false, &[(0, 0, 600, 1), (0, 9, 1140, 2)], 2),
+        (&THREE, true, &three, 5),
+        (&THREE, false, &three, 3),
+    ];
+    for (archives, fresh, cells, runs) in table {
+        let Ok(layout) = Layout::new(archives, Method::Last, 0) else {
+            panic!(rt; "the layout is lawful")
+        };
+        let drained = Drained {
+            layout,
+            fresh,
+            before: &[(0, 0, 600, 1), (0, 3, 780, 2)],
+            cells,
+        };
+        assert_drained(&rt, rt.alloc(), &drained, runs)?;
     }
     Ok(())
 }
