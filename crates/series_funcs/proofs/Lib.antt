@@ -6,3 +6,5 @@ pub mod BackLemmas
 pub mod GapLemmas
 pub mod ShapeLemmas
 pub mod SummaryLemmas
+pub mod SoonLemmas
+pub mod QuotientLemmas

@@ -5,3 +5,4 @@ pub mod Named
 pub mod Divided
 pub mod Shaped
 pub mod Moved
+pub mod FuncLaws

@@ -1,5 +1,5 @@
 -- The functions that move a series to other moments, and all functions of each series by itself.
-use Rattle.std.specs.Prelude.{ℕ, ◌+◌, ◌-◌, ◌*◌, ◌≤◌, ℤ, Bool, ◌||◌, nat_le, List, filter, map, Option, Result, Ok, Err, if◌then◌else◌, ⊤}
+use Rattle.std.specs.Prelude.{ℕ, ◌+◌, ◌-◌, ◌*◌, ◌≤◌, ℤ, Bool, ◌||◌, nat_le, List, All, filter, map, Option, Result, Ok, Err, if◌then◌else◌, ⊤}
 use Rattle.std.specs.List.{range_with_len}
 use Rattle.std.specs.Result.{result_map_both}
 use Rattle.ring_format.specs.declared.archive.Method.{Method}
@@ -88,3 +88,9 @@ IsSummaryStep step = (1 ≤ step) × (step ≤ widest_step)
 abbrev pub HasStep : Shape → Type 0
 HasStep (Summarize step gather) = IsSummaryStep step
 HasStep _ = ⊤
+
+-- a series from others, which ends at most so much later than all of these, and has no wider step than series to be combined may have
+-- where they have none
+pub record IsSoLate (set : List SeriesValue) (late : ℕ) (s : SeriesValue) : Type 0 where
+  pub short : All (λ s. s.step ≤ widest_step) set → s.step ≤ widest_step
+  pub soon : (by : ℕ) → All (λ s. end_of s ≤ by) set → end_of s ≤ by + late

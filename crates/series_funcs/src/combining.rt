@@ -16,7 +16,8 @@ use series_set::{EvalFault, Grid, Series, SeriesSet, common_grid, on_grid};
 use std::alloc::{AllocError, Global};
 
 /// The series combined to one of this name and path, on their common grid; no series give none. At each moment it has what the values
-/// of the series have together, in their order: see [`Combine`].
+/// of the series have together, in their order: see [`Combine`]. It may be combined again, and ends less than 31,536,000 seconds after
+/// all of these series.
 ///
 /// Errors: those of [`common_grid`], and want of memory.
 #[tactic(auto, unfolding(crate::specs::Combined::combine))]

@@ -1,10 +1,10 @@
 //! Series over series.
-ghost use Rattle.std.specs.Prelude.{◌≡◌, ◌≢◌, ◌≤◌, [], ◌∷◌, IfErr, IfOk, Ok, Err, length, map, string_bytes, ℤ, None};
+ghost use Rattle.std.specs.Prelude.{◌≡◌, ◌≢◌, ◌≤◌, [], ◌∷◌, ◌++◌, All, IfErr, IfOk, Ok, Err, length, map, string_bytes, ℤ, None};
 ghost use Rattle.series_set.specs.declared.grid.EvalFault.TheVariants.{NoMemory};
 ghost use Rattle.series_set.specs.Series.{latest_end, most_values};
 ghost use Rattle.series_set.specs.CommonGrid.{EndsSoonAfter, IsGrid, common_grid, value_count};
 ghost use Rattle.series_set.specs.OnGrid.{on_grid};
-ghost use Rattle.series_funcs.specs.Combined.{AreCombinable};
+ghost use Rattle.series_funcs.specs.Combined.{AreCombinable, IsSoonAfter};
 ghost use Rattle.series_funcs.specs.Divided.{divide, divided, divided_on, quotient_name, missing_tail, ratio_of, ratios, undivided};
 ghost use Rattle.series_funcs.specs.Each.{each_of};
 
@@ -21,6 +21,8 @@ use std::alloc::{AllocError, Global};
 /// Where there is no divisor, or more than one, each dividend has no known value and is named `divideSeries(NAME,MISSING)`, or
 /// `divideSeries(NAME)`.
 ///
+/// The quotients may be combined again, and end less than 31,536,000 seconds after all of these series.
+///
 /// Errors: those of [`common_grid`] for the first dividend that has none with the divisor, and want of memory.
 #[tactic(auto, unfolding(crate::specs::Divided::divide))]
 pub fn divide(
@@ -33,6 +35,7 @@ pub fn divide(
     ensures ok { IfOk result (λ quotients. divide dividends.now divisors.now ≡ Ok quotients) }
     ensures err { IfErr result (λ fault.
         fault ≢ NoMemory → divide dividends.now divisors.now ≡ Err fault) }
+    ensures bounds { IfOk result (All (IsSoonAfter (dividends.now ++ divisors.now))) }
 {
     let dividends = dividends.as_slice();
     match divisors.as_slice() {
@@ -61,6 +64,7 @@ fn divide_each(
         each_of (divided divisor.now) dividends.now ≡ Ok quotients) }
     ensures err { IfErr result (λ fault.
         fault ≢ NoMemory → each_of (divided divisor.now) dividends.now ≡ Err fault) }
+    ensures bounds { IfOk result (All (IsSoonAfter (dividends.now ++ divisor.now ∷ []))) }
 {
     let mut quotients = Vec::with_capacity(alloc, dividends.len())?;
     for dividend in dividends {
@@ -76,6 +80,7 @@ fn divided(alloc: Global, dividend: &Series, divisor: &Series) -> Result<Series,
     ensures ok { IfOk result (λ quotient. divided divisor.now dividend.now ≡ Ok quotient) }
     ensures err { IfErr result (λ fault.
         fault ≢ NoMemory → divided divisor.now dividend.now ≡ Err fault) }
+    ensures bounds { IfOk result (IsSoonAfter (dividend.now ∷ divisor.now ∷ [])) }
 {
     let grid = pair_grid(alloc, dividend, divisor)?;
     let quotient = divided_on(alloc, dividend, divisor, &grid)?;

@@ -5,6 +5,7 @@ mod changing;
 mod combining;
 mod dividing;
 mod kinds;
+mod laws;
 mod looking_back;
 mod naming;
 mod quotients;
@@ -14,6 +15,7 @@ mod summary;
 pub use combining::combine;
 pub use dividing::divide;
 pub use kinds::{Combine, Gather, Shape};
+pub use laws::{quotient_is_rounded_down, signs_cancel_in_quotients};
 pub use naming::CallName;
 pub use shaping::shape;
 

@@ -3,7 +3,7 @@ ghost use Rattle.std.specs.Prelude.{◌≡◌, ◌≢◌, ◌≤◌, ◌<◌, �
 ghost use Rattle.series_set.specs.declared.grid.EvalFault.TheVariants.{NoMemory};
 ghost use Rattle.series_set.specs.Series.{end_of, latest_end, most_values};
 ghost use Rattle.series_funcs.specs.Each.{each_of};
-ghost use Rattle.series_funcs.specs.Moved.{HasStep, IsSummaryStep, later_by, lateness, moved_start, shape, shifted, stays, summarized};
+ghost use Rattle.series_funcs.specs.Moved.{HasStep, IsSoLate, IsSummaryStep, later_by, lateness, moved_start, shape, shifted, stays, summarized};
 ghost use Rattle.series_funcs.specs.Shaped.{rises, shaped_series, shaped_values};
 
 use crate::changing::{Change, change_each, take_least};
@@ -16,7 +16,7 @@ use series_set::{EvalFault, Series, SeriesSet};
 use std::alloc::{AllocError, Global};
 
 /// What the function makes of each series, under the name of the call. It owns the series, so that most functions change their values where
-/// they stand.
+/// they stand. A summary ends less than its step later than its series, a shifted one by the shift; the others as before.
 ///
 /// Errors: `TooLong` exactly where a summary has more than 4,000,000 values, with their number at the first such series, and want of memory.
 #[tactic(auto, unfolding(crate::specs::Moved::shape))]
@@ -32,6 +32,7 @@ pub fn shape(
         shape kind.now call.now.function.now call.now.tail.now set ≡ Ok shaped) }
     ensures err { IfErr result (λ fault. fault ≢ NoMemory
         → shape kind.now call.now.function.now call.now.tail.now set ≡ Err fault) }
+    ensures bounds { IfOk result (All (IsSoLate set (lateness kind.now))) }
 {
     match *kind {
         Shape::Summarize { step, gather } => {

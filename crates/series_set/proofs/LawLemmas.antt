@@ -231,7 +231,7 @@ floor_below s n (suc q) r is below =
     let next : negsuc (suc q) +ℤ pos 1 ≡ negsuc q = omega (arith, ints) in
     (omega (arith, ints), subst (λ (z : ℤ). negsuc s <ℤ (z *ℤ pos n)) (sym next) (omega (arith, ints)))
 
-floor_is : (z : ℤ) (n : ℕ) → 0 < n → ((int_div_euclid z (pos n) *ℤ pos n) ≤ℤ z) × (z <ℤ ((int_div_euclid z (pos n) +ℤ pos 1) *ℤ pos n))
+pub floor_is : (z : ℤ) (n : ℕ) → 0 < n → ((int_div_euclid z (pos n) *ℤ pos n) ≤ℤ z) × (z <ℤ ((int_div_euclid z (pos n) +ℤ pos 1) *ℤ pos n))
 floor_is (pos s) n some = (omega (arith, ints, div-add-mod' s n), omega (arith, ints, div-add-mod' s n, mod_below s n some))
 floor_is (negsuc s) n some = floor_below s n (s / n) (s % n) (div-add-mod' s n) (mod_below s n some)
 
