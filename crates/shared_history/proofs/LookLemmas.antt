@@ -275,7 +275,7 @@ owed_raised b k m list x is e owes before (no ne) =
 
 pub settles : (slots id : ℕ) (seen heard : List Entry) (o : Option Own) (h : Option Lead) (k : ℕ) (list : List Entry) (x y : ℕ) → x < drains list
     → Allows Kept slots id (view seen heard o h (Some (branch k list x y)), []) 0 (λ n. n)
-        (Settles (step slots 0 0 0 none) (view seen heard o h (Some (branch k list x y)), []))
+    (Settles (step slots 0 0 0 none) (view seen heard o h (Some (branch k list x y)), []))
 settles slots id seen heard o h k list x y owes =
     raises slots id seen heard o h k list x y (x + 1) y (Settles (step slots 0 0 0 none) (view seen heard o h (Some (branch k list x y)), [])) (λ n. refl)
     (λ b is owed e e'. record {
@@ -291,7 +291,7 @@ settles slots id seen heard o h k list x y owes =
 
 pub runs : (slots id : ℕ) (seen heard : List Entry) (o : Option Own) (h : Option Lead) (k : ℕ) (list : List Entry) (x y : ℕ)
     → Allows Kept slots id (view seen heard o h (Some (branch k list x y)), []) 0 (λ n. n)
-        (Runs (step slots 0 0 0 none) (view seen heard o h (Some (branch k list x y)), []))
+    (Runs (step slots 0 0 0 none) (view seen heard o h (Some (branch k list x y)), []))
 runs slots id seen heard o h k list x y =
     raises slots id seen heard o h k list x y x (y + 1) (Runs (step slots 0 0 0 none) (view seen heard o h (Some (branch k list x y)), [])) (λ n. refl)
     (λ b is owed e e'. record {

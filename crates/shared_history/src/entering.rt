@@ -12,9 +12,9 @@ use crate::rule::{Append, AppendAsk, Board, Count, Named};
 use std::marker::Brand;
 
 fn enter_named<E: Named>(order: &mut Order, pass: &mut Pass, tail: &mut Tail, event: &Event<'_>)
-    requires named { entry_by pass.old tail.old event.now ≡ E.entry }
     requires one { (pass.old.table ≡ order.old.table) × (tail.old.table ≡ order.old.table) }
-    requires may { MayEnter pass.old tail.old E.entry }
+    requires may { (entry_by pass.old tail.old event.now ≡ E.entry)
+        × MayEnter pass.old tail.old E.entry }
     ensures order { order.new ≡ order_with order.old E.entry }
     ensures tail { tail.new ≡ tail_with tail.old E.entry }
     ensures pass { pass.new ≡ pass_seeing pass.old order.new.list }

@@ -35,21 +35,21 @@ both_is g c =
 -- what the entry needs, of the parts as they are inside
 number_is : (g : Over) (c : After-graft g) → pass_of g.E.Named.entry ≡ c.pass.inside.number
 number_is g c =
-    ap pass_of (sym c.requires.named)
+    ap pass_of (sym c.requires.may.0)
     ∙ (entry_pass c.args.pass.now.number c.args.tail.now.class c.args.event.now ∙ sym (ap (λ (x : PassValue). x.number) c.pass.view_is))
 
 about : (g : Over) (c : After-graft g) → is_about c.tail.inside.class g.E.Named.entry ≡ true
-about g c = ap (λ (x : TailValue). is_about x.class g.E.Named.entry) c.tail.view_is ∙ c.requires.may.about
+about g c = ap (λ (x : TailValue). is_about x.class g.E.Named.entry) c.tail.view_is ∙ c.requires.may.1.about
 
 room : (g : Over) (c : After-graft g) → length (mine_of c.pass.inside.seat.me.0.own) < 2 ^ 48
 room g c =
-    let may : MayEnter c.args.pass.now c.args.tail.now g.E.Named.entry = c.requires.may in
+    let may : MayEnter c.args.pass.now c.args.tail.now g.E.Named.entry = c.requires.may.1 in
     subst (λ (xs : List Entry). length xs < 2 ^ 48) (sym (ap own_entries c.pass.view_is) ∙ c.pass.invariant.3) may.room
 
 turn : (g : Over) (c : After-graft g) → InTurn (both g c).branch g.E.Named.entry
 turn g c drain =
     ap (λ (x : TailValue). drains x.list) c.tail.view_is
-    ∙ (c.requires.may.settled drain ∙ sym (ap (λ (x : TailValue). x.settled) c.tail.view_is))
+    ∙ (c.requires.may.1.settled drain ∙ sym (ap (λ (x : TailValue). x.settled) c.tail.view_is))
 
 pub fetch_add-requires : goal.fetch_add-requires
 fetch_add-requires g c =
@@ -92,7 +92,7 @@ invariant_of-pass g c =
     let mine' = mine_of c.lend-right-2.new.seat.me.0.own in
     let e : Entry = g.E.Named.entry in
     let longer : mine' ≡ mine ++ e ∷ [] = search rules in
-    let none : ask_number e ≡ 0 = ap ask_number (sym c.requires.named) ∙ entry_asks c.args.pass.now.number c.args.tail.now.class c.args.event.now in (
+    let none : ask_number e ≡ 0 = ap ask_number (sym c.requires.may.0) ∙ entry_asks c.args.pass.now.number c.args.tail.now.class c.args.event.now in (
       search rules,
       search rules,
       search rules,
