@@ -1,15 +1,14 @@
 -- The nodes of paths, and of the fronts of names.
-use Rattle.std.proofs.Common.{◌≡◌, ℕ, suc, ◌+◌, ◌<◌, ◌≤◌, ◌↔◌, Bool, true, false, cond, ◌&&◌, ◌||◌, List, [], ◌∷◌, ◌++◌, length, take, get_or, All, None, Some, Option, refl, sym, ap, ◌∙◌, subst, arith, eqb, leb, append_assoc, append-nil, length-append, le-leb, ne_eqb, ltb, le-ltb, position}
-use Rattle.std.specs.List.{join_with_byte, list_all, list_any, onto_first, slice_split}
+use Rattle.std.proofs.Common.{◌≡◌, ℕ, suc, ◌+◌, ◌<◌, ◌≤◌, ◌↔◌, Bool, true, false, cond, ◌&&◌, ◌||◌, List, [], ◌∷◌, ◌++◌, length, take, get_or, None, Some, refl, sym, ap, ◌∙◌, arith, eqb, leb, append_assoc, length-append, le-leb, ne_eqb, ltb, le-ltb, position}
+use Rattle.std.specs.List.{join_with_byte, list_all, list_any, onto_first}
 use Rattle.std.proofs.lemmas.Bool.{and_parts}
 use Rattle.std.proofs.lemmas.List.{get_or_append_left}
 use Rattle.std.proofs.lemmas.List.Sums.{position_or_len_is}
 use Rattle.std.proofs.Math.Seq.{take-append_seam}
-use Rattle.std.proofs.lemmas.List.Splits.{join_with_byte-slice_split, slice_split-cons_no, slice_split-cons_yes}
+use Rattle.std.proofs.lemmas.List.Splits.{join_with_byte-slice_split}
 use Rattle.metric_path.specs.Path.{is_dot, nodes_of, most_path_bytes, most_node_bytes, is_bad_byte, path_fault}
 use Rattle.metric_path.proofs.PathLemmas.{bytes_of_legal, length_of_legal, nodes_of_legal}
 use Rattle.path_glob.specs.Glob.{Fits, Piece}
-use Rattle.path_glob.specs.Laws.{BeginsWith}
 use Rattle.find_api.specs.Nodes.{HasMoreNodes, Tells}
 
 -- ---- nodes of a text that a dot cuts

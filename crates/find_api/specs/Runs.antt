@@ -1,6 +1,6 @@
 -- Runs of names that begin with the same bytes, and what the nodes of a glob are on the way over them.
-use Rattle.std.specs.Prelude.{◌≡◌, ◌≢◌, ℕ, ◌+◌, ◌<◌, ◌↔◌, ◌⊎◌, Bool, List, [], ◌∷◌, ◌++◌, length, All, Contains, Option, Some, None}
-use Rattle.metric_path.specs.Path.{nodes_of, path_fault}
+use Rattle.std.specs.Prelude.{◌≡◌, ◌≢◌, ℕ, ◌<◌, ◌↔◌, ◌⊎◌, Bool, List, [], ◌∷◌, ◌++◌, length, All, Contains, Option, Some, None}
+use Rattle.metric_path.specs.Path.{nodes_of}
 use Rattle.path_glob.specs.Faults.{Said}
 use Rattle.path_glob.specs.Laws.{BeginsWith}
 use Rattle.find_api.specs.Nodes.{IsFound, Tells}

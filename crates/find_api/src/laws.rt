@@ -1,5 +1,5 @@
 //! What the tree of names has to do with their nodes. The function does nothing: what it ensures is the law.
-ghost use Rattle.std.specs.Prelude.{◌↔◌, ℕ, List, false, true};
+ghost use Rattle.std.specs.Prelude.{◌↔◌, ℕ, List, false};
 ghost use Rattle.find_api.specs.Nodes.{HasMoreNodes, Tells};
 
 /// A name goes on from a path, behind a dot, exactly where its first nodes are those of the path and it has

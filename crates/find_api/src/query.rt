@@ -2,7 +2,7 @@
 ghost use Rattle.std.specs.Prelude.{◌≡◌, ◌≢◌, ◌≤◌, ◌++◌, ◌∷◌, [], IfErr, IfOk, OnOk, Ok, Err, length, map};
 ghost use Rattle.std.specs.Cow.{cow_str_bytes};
 ghost use Rattle.form_urlencoded.specs.Form.{raw_pairs};
-ghost use Rattle.find_api.specs.Queries.{IsQueryCount, globs_from, globs_or_fault, is_query_text, most_queries, queries_of, query_key, read_queries};
+ghost use Rattle.find_api.specs.Queries.{IsQueryCount, globs_from, globs_or_fault, is_query_text, most_queries, queries_of, read_queries};
 ghost use Rattle.find_api.specs.declared.fault.FindFault.TheVariants.{NoMemory};
 
 use crate::fault::FindFault;

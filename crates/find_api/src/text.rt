@@ -1,10 +1,10 @@
 //! The texts of what is found.
-ghost use Rattle.std.specs.Prelude.{◌≡◌, ◌<◌, ◌++◌, ◌∷◌, [], IfOk, IsAscii, OnOk, codes, length, map, None};
+ghost use Rattle.std.specs.Prelude.{◌≡◌, ◌<◌, ◌++◌, IfOk, OnOk, length, map};
 ghost use Rattle.std.specs.Cmp.Lexicographic.{slice_cmp};
 ghost use Rattle.std.specs.List.Sorted.{IsStrictlySortedBy};
 ghost use Rattle.std.specs.Ordering.{nat_cmp};
 ghost use Rattle.json.specs.Print.{quoted};
-ghost use Rattle.find_api.specs.Texts.{IsExpandText, IsFindText, joined, last_node, names_text, node_end, node_head, node_text, nodes_text, results_head, results_text, separator, text_key};
+ghost use Rattle.find_api.specs.Texts.{IsExpandText, IsFindText, joined, last_node, names_text, node_end, node_head, node_text, nodes_text, results_head, separator, text_key};
 
 use crate::find::{expand_paths, find_nodes};
 use crate::node::Node;
@@ -35,8 +35,7 @@ pub fn expand_text(
     globs: &[Glob],
     names: &[MetricPath],
 ) -> Result<Vec<u8>, AllocError>
-    requires some { 0 < length globs.now }
-    requires rising { IsStrictlySortedBy (slice_cmp nat_cmp) names.now }
+    requires { IsStrictlySortedBy (slice_cmp nat_cmp) names.now }
     ensures { IfOk result (λ text. IsExpandText globs.now names.now text.items) }
 {
     let paths = expand_paths(alloc, globs, names)?;
@@ -49,7 +48,6 @@ pub fn expand_text(
 
 /// The answer to `/metrics/index.json`: all names, as a JSON list in the order in which they stand.
 pub fn index_text(alloc: Global, names: &[MetricPath]) -> Result<Vec<u8>, AllocError>
-    requires { IsStrictlySortedBy (slice_cmp nat_cmp) names.now }
     ensures { IfOk result (λ text. text.items ≡ names_text names.now) }
 {
     let mut out = Vec::new(alloc);

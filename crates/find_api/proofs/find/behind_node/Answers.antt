@@ -1,4 +1,4 @@
-use Rattle.std.proofs.Common.{◌≡◌, ◌≢◌, Less, ℕ, ◌+◌, Bool, false, List, [], ◌∷◌, ◌++◌, All, ap, ap₂, length, sym, subst, take, ◌∙◌}
+use Rattle.std.proofs.Common.{◌≡◌, ◌≢◌, Less, ℕ, ◌+◌, Bool, false, List, [], ◌∷◌, ◌++◌, All, ap₂, length, sym, subst, take, ◌∙◌}
 use Rattle.std.proofs.lemmas.Map.Keys.{sorted_tail}
 use Rattle.find_api.specs.Nodes.{Tells}
 use Rattle.find_api.proofs.FindLemmas.{behind_branch, branch_front}

@@ -1,4 +1,4 @@
-use Rattle.std.proofs.Common.{◌≡◌, ℕ, true, false, ap, arith, get_or, ne_eqb}
+use Rattle.std.proofs.Common.{true, false, ap, arith, ne_eqb}
 use Rattle.metric_path.specs.Path.{is_dot}
 use Rattle.find_api.proofs.FindLemmas.{ends_at_dot, nodes_more}
 use Rattle.find_api.proofs.find.end_of_nodes.Goals as goal

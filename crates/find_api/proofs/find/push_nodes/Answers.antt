@@ -1,4 +1,4 @@
-use Rattle.std.proofs.Common.{◌≡◌, ℕ, List, Option, [], ◌∷◌, ◌++◌, subst, sym, ap, ◌∙◌, true, false}
+use Rattle.std.proofs.Common.{ℕ, List, Option, subst, sym, ◌∙◌}
 use Rattle.find_api.specs.Runs.{TellsAt}
 use Rattle.find_api.specs.declared.node.Node.{Node}
 use Rattle.find_api.proofs.FindLemmas.{Walks, empty, run_rising, walk_ends, walk_finds, walk_passes, walk_skips, walk_starts}

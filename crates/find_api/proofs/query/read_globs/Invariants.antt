@@ -1,4 +1,4 @@
-use Rattle.std.proofs.Common.{◌≡◌, ◌+◌, ◌≤◌, drop, length, map}
+use Rattle.std.proofs.Common.{◌≡◌, ◌+◌, drop, length, map}
 use Rattle.std.specs.Cow.{cow_str_bytes}
 use Rattle.find_api.specs.Queries.{globs_from}
 use Rattle.find_api.proofs.QueryLemmas.{onto}
