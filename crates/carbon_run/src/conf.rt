@@ -30,7 +30,8 @@ pub(crate) enum ConfFault {
 /// Reads `storage-schemas.conf` and `storage-aggregation.conf`, of which an absent one counts as empty. Both are read before
 /// either is judged.
 pub(crate) fn read_rules<D: Disk>(alloc: Global, conf: &mut D) -> Result<Rules, ConfFault>
-    ensures rules { IfOk result (λ rules. IfSome (D.image conf.old) (λ image. rules_in image ≡ Ok rules)) }
+    ensures rules { IfOk result
+        (λ rules. IfSome (D.image conf.old) (λ image. rules_in image ≡ Ok rules)) }
     ensures refused { IfErr result (λ fault. IfSome (D.image conf.old) (IsRefused fault)) }
     ensures frame { ReadsOnly D.Disk conf.old conf.new (IsErrOf result ConfFault.DiskFault) }
 {
@@ -63,7 +64,8 @@ fn rules_of(alloc: Global, schemas: &[u8], aggregations: &[u8]) -> Result<Rules,
 // The bytes of a rule file as far as they tell its rules, none where it is not there. Of a file that is too long no more is
 // read than tells that it is.
 fn read_front<D: Disk>(alloc: Global, conf: &mut D, file: RuleFile) -> Result<Vec<u8>, ConfFault>
-    ensures bytes { IfOk result (λ bytes. ReadsFront (D.image conf.old) (rule_file_name file) bytes.items) }
+    ensures bytes { IfOk result
+        (λ bytes. ReadsFront (D.image conf.old) (rule_file_name file) bytes.items) }
     ensures fault { IfErr result IsOfReading }
     ensures frame { ReadsOnly D.Disk conf.old conf.new (IsErrOf result ConfFault.DiskFault) }
 {

@@ -23,7 +23,8 @@ pub(crate) fn run_script<D: Disk, S: Source, K: Sink>(
     out: &mut K,
 ) -> Report<D>
     requires { vec_len disks ≡ 16 }
-    ensures comes { NoStart D.Disk (streams_of S.Source K.Sink input.old input.new out.old out.new) disks.items
+    ensures comes { NoStart D.Disk
+        (streams_of S.Source K.Sink input.old input.new out.old out.new) disks.items
         (answer_of result.status result.history result.disks.items)
         ⊎ Scripted D.Disk (settings_of setup.now) (streams_of S.Source K.Sink input.old input.new out.old out.new) disks.items
         (answer_of result.status result.history result.disks.items) }
@@ -47,7 +48,8 @@ fn run_shards<D: Disk, S: Source, K: Sink>(
     input: &mut S,
     out: &mut K,
 ) -> Report<D>
-    ensures runs { ShardsRun shards.items.items (streams_of S.Source K.Sink input.old input.new out.old out.new)
+    ensures runs { ShardsRun shards.items.items
+        (streams_of S.Source K.Sink input.old input.new out.old out.new)
         (answer_of result.status result.history result.disks.items) }
     ensures reads { CountsReads S.Source input.old input.new (result.status ≡ 6) }
     ensures writes { CountsWrites K.Sink out.old out.new (result.status ≡ 7) }
@@ -79,8 +81,11 @@ fn report<D: Disk>(status: u8, session: Session<D>) -> Report<D>
     ensures status { result.status ≡ status }
     ensures history { result.history ≡ session.store.history }
     ensures all { vec_len result.disks ≡ 16 }
-    ensures disks { (told : ℕ → Option Image) (s : State) → HoldsAll told session.store.shards.items.items s → DisksStand D.image told result.disks.items s }
-    ensures faults { (k : ℕ) → disk_faults D.faults result.disks.items k ≡ faults_at session.store.shards.items.items k }
+    ensures disks { (told : ℕ → Option Image) (s : State)
+        → HoldsAll told session.store.shards.items.items s
+        → DisksStand D.image told result.disks.items s }
+    ensures faults { (k : ℕ)
+        → disk_faults D.faults result.disks.items k ≡ faults_at session.store.shards.items.items k }
 {
     let (shards, history) = session.into_parts();
     Report {
@@ -92,7 +97,8 @@ fn report<D: Disk>(status: u8, session: Session<D>) -> Report<D>
 
 /// Tells why the shards did not start.
 fn tell_refusal<K: Sink>(refusal: &Refusal, out: &mut K) -> u8
-    ensures told { TellsStart refusal.now.fault refusal.now.class result (K.written out.old) (K.written out.new) }
+    ensures told { TellsStart refusal.now.fault refusal.now.class result (K.written out.old)
+        (K.written out.new) }
     ensures writes { CountsWrites K.Sink out.old out.new (result ≡ 7) }
 {
     match &refusal.fault {

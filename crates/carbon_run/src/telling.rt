@@ -60,7 +60,8 @@ pub(crate) fn tell_limit<K: Sink>(out: &mut K) -> u8
 
 /// Tells the first damaged file, by its name: status 4, or 7 where that could not be written.
 pub(crate) fn tell_damaged<K: Sink>(out: &mut K, name: &str) -> u8
-    ensures told { TellsAlone 4 (damaged_line name.now) result (K.written out.old) (K.written out.new) }
+    ensures told { TellsAlone 4 (damaged_line name.now) result (K.written out.old)
+        (K.written out.new) }
     ensures writes { CountsWrites K.Sink out.old out.new (result ≡ 7) }
 {
     match write_damaged(out, name) {
@@ -71,7 +72,8 @@ pub(crate) fn tell_damaged<K: Sink>(out: &mut K, name: &str) -> u8
 
 /// Writes the line of a damaged file.
 fn write_damaged<K: Sink>(out: &mut K, name: &str) -> Result<(), WriteFault>
-    ensures line { OnOk result (Appends (K.written out.old) (K.written out.new) (damaged_line name.now)) }
+    ensures line { OnOk result
+        (Appends (K.written out.old) (K.written out.new) (damaged_line name.now)) }
     ensures prefix { OnErr result
         (AppendsFront (K.written out.old) (K.written out.new) (damaged_line name.now)) }
     ensures writes { CountsWrites K.Sink out.old out.new (IsErr result) }
@@ -93,7 +95,8 @@ fn write_damaged_word<K: Sink>(out: &mut K) -> Result<(), WriteFault>
 
 /// Tells that the disk of a class failed: status 5, or 7 where that could not be written.
 pub(crate) fn tell_disk_fault<K: Sink>(out: &mut K, class: u32) -> u8
-    ensures told { TellsAlone 5 (disk_fault_line class) result (K.written out.old) (K.written out.new) }
+    ensures told { TellsAlone 5 (disk_fault_line class) result (K.written out.old)
+        (K.written out.new) }
     ensures writes { CountsWrites K.Sink out.old out.new (result ≡ 7) }
 {
     match write_disk_fault(out, class) {
@@ -104,7 +107,8 @@ pub(crate) fn tell_disk_fault<K: Sink>(out: &mut K, class: u32) -> u8
 
 /// Writes the line of a failed disk.
 fn write_disk_fault<K: Sink>(out: &mut K, class: u32) -> Result<(), WriteFault>
-    ensures line { OnOk result (Appends (K.written out.old) (K.written out.new) (disk_fault_line class)) }
+    ensures line { OnOk result
+        (Appends (K.written out.old) (K.written out.new) (disk_fault_line class)) }
     ensures prefix { OnErr result
         (AppendsFront (K.written out.old) (K.written out.new) (disk_fault_line class)) }
     ensures writes { CountsWrites K.Sink out.old out.new (IsErr result) }
@@ -136,7 +140,8 @@ pub(crate) fn tell_conf_fault<K: Sink>(out: &mut K) -> u8
 
 /// Tells why a rule file is refused: status 3, or 7 where that could not be written.
 pub(crate) fn tell_rule_fault<K: Sink>(out: &mut K, file: RuleFile, cause: RuleCause) -> u8
-    ensures told { TellsAlone 3 (rule_fault_line file cause) result (K.written out.old) (K.written out.new) }
+    ensures told { TellsAlone 3 (rule_fault_line file cause) result (K.written out.old)
+        (K.written out.new) }
     ensures writes { CountsWrites K.Sink out.old out.new (result ≡ 7) }
 {
     let line = RuleLine::of(file, cause);

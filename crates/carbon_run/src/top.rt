@@ -52,7 +52,8 @@ pub fn run<S: Source, K: Sink, D: Disk + Send + Drop, C: Clock + Sync, N: Net + 
     requires { vec_len disks ≡ 16 }
     ensures usage { script_options (map string_bytes words.now) ≡ None → (conf.new ≡ conf.old)
         × NoCommand (streams_of S.Source K.Sink input.old input.new out.old out.new) disks.items (answer_of result.status result.history result.disks.items) }
-    ensures outcome { IfSome (script_options (map string_bytes words.now)) (λ said. Outcome D.Disk said conf.old conf.new
+    ensures outcome { IfSome (script_options (map string_bytes words.now))
+        (λ said. Outcome D.Disk said conf.old conf.new
         (streams_of S.Source K.Sink input.old input.new out.old out.new) disks.items (answer_of result.status result.history result.disks.items)) }
     ensures reads { CountsReads S.Source input.old input.new (result.status ≡ 6) }
     ensures writes { CountsWrites K.Sink out.old out.new (result.status ≡ 7) }

@@ -18,7 +18,8 @@ use std::alloc::{AllocError, Global};
 /// question, and for nothing else.
 pub fn read_command(alloc: Global, line: &[u8], now: u32) -> Result<Command, AllocError>
     requires { is_moment now ≡ true }
-    ensures command { IfOk result (λ command. seen_command command ≡ command_of (Whole line.now) now) }
+    ensures command { IfOk result
+        (λ command. seen_command command ≡ command_of (Whole line.now) now) }
     ensures sound { IfOk result IsSound }
     ensures memory { OnErr result (TakesMemory (command_of (Whole line.now) now)) }
 {
@@ -127,7 +128,8 @@ fn read_question_of(
     from: &[u8],
     until: &[u8],
 ) -> Result<Option<Question>, AllocError>
-    ensures question { IfOk result (λ question. question ≡ question_of path.now from.now until.now) }
+    ensures question { IfOk result
+        (λ question. question ≡ question_of path.now from.now until.now) }
     ensures sound { IfOk result (λ question. IfSome question IsQuestion) }
     ensures memory { OnErr result (IsSome (question_of path.now from.now until.now)) }
 {

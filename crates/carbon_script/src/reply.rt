@@ -54,7 +54,8 @@ fn push_series(out: &mut Vec<u8>, path: &MetricPath, series: &Series) -> Result<
 /// Appends the points of a series.
 fn push_points(out: &mut Vec<u8>, series: &Series) -> Result<(), AllocError>
     requires { EndsInTime series.now }
-    ensures { OnOk result (out.new.items ≡ out.old.items ++ points_text series.now (length series.now.values)) }
+    ensures { OnOk result
+        (out.new.items ≡ out.old.items ++ points_text series.now (length series.now.values)) }
 {
     for i in 0..series.values.list().len() {
         push_next(out, series, i)?;

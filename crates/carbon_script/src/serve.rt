@@ -34,7 +34,8 @@ pub fn script<D: Disk, S: Source, K: Sink>(
     input: &mut S,
     out: &mut K,
 ) -> ScriptEnd
-    ensures ends { Ends result (S.left input.old) session.old (K.written out.old) (S.left input.new) session.new (K.written out.new) }
+    ensures ends { Ends result (S.left input.old) session.old (K.written out.old)
+        (S.left input.new) session.new (K.written out.new) }
     ensures reads { CountsReads S.Source input.old input.new (result ≡ ScriptEnd.ReadFault) }
     ensures writes { CountsWrites K.Sink out.old out.new (result ≡ ScriptEnd.WriteFault) }
 {

@@ -48,7 +48,8 @@ impl<D: Disk> Session<D> {
 
     /// Nothing counted and nothing entered, over these shards.
     pub fn new(alloc: Global, shards: Shards<D>) -> Session<D>
-        ensures means { (told : ℕ → Option Image) (s : State) → HoldsAll told shards.items.items s → Means told result (opening s) }
+        ensures means { (told : ℕ → Option Image) (s : State) → HoldsAll told shards.items.items s
+            → Means told result (opening s) }
         ensures shards { result.store.shards ≡ shards }
     {
         Session {
@@ -63,7 +64,8 @@ impl<D: Disk> Session<D> {
     #[tactic(auto, using(crate::proofs::SessionLemmas::appends_some_none, crate::proofs::SessionLemmas::later_none))]
     fn obey<K: Sink>(&mut self, command: Command, out: &mut K) -> Result<(), Stop>
         requires { IsSound command }
-        ensures obeys { Obeys result self.old (seen_command command) (K.written out.old) self.new (K.written out.new) }
+        ensures obeys { Obeys result self.old (seen_command command) (K.written out.old) self.new
+            (K.written out.new) }
         ensures frame { Frame result self.old (K.written out.old) self.new (K.written out.new) }
         ensures writes { CountsWrites K.Sink out.old out.new (result ≡ Err WriteFault) }
     {
@@ -82,7 +84,8 @@ impl<D: Disk> Session<D> {
     // Puts the point of a metric line.
     #[tactic(auto, using(crate::proofs::SessionLemmas::appends_some_none, crate::proofs::SessionLemmas::later_none))]
     fn put<K: Sink>(&mut self, datum: Datum, out: &mut K) -> Result<(), Stop>
-        ensures obeys { Obeys result self.old (Metric (seen datum)) (K.written out.old) self.new (K.written out.new) }
+        ensures obeys { Obeys result self.old (Metric (seen datum)) (K.written out.old) self.new
+            (K.written out.new) }
         ensures frame { Frame result self.old (K.written out.old) self.new (K.written out.new) }
         ensures writes { CountsWrites K.Sink out.old out.new (result ≡ Err WriteFault) }
     {
@@ -100,7 +103,8 @@ impl<D: Disk> Session<D> {
     #[tactic(auto, using(crate::proofs::SessionLemmas::appends_some_none, crate::proofs::SessionLemmas::later_none))]
     fn answer<K: Sink>(&mut self, question: &Question, out: &mut K) -> Result<(), Stop>
         requires { IsQuestion question.now }
-        ensures obeys { Obeys result self.old (Ask question.now) (K.written out.old) self.new (K.written out.new) }
+        ensures obeys { Obeys result self.old (Ask question.now) (K.written out.old) self.new
+            (K.written out.new) }
         ensures frame { Frame result self.old (K.written out.old) self.new (K.written out.new) }
         ensures writes { CountsWrites K.Sink out.old out.new (result ≡ Err WriteFault) }
     {
@@ -117,7 +121,8 @@ impl<D: Disk> Session<D> {
     // Drains all that is pending, and writes how many metrics that were.
     #[tactic(auto, using(crate::proofs::SessionLemmas::appends_some_none, crate::proofs::SessionLemmas::later_none))]
     fn drain<K: Sink>(&mut self, out: &mut K) -> Result<(), Stop>
-        ensures obeys { Obeys result self.old DrainAll (K.written out.old) self.new (K.written out.new) }
+        ensures obeys { Obeys result self.old DrainAll (K.written out.old) self.new
+            (K.written out.new) }
         ensures frame { Frame result self.old (K.written out.old) self.new (K.written out.new) }
         ensures writes { CountsWrites K.Sink out.old out.new (result ≡ Err WriteFault) }
     {
@@ -150,7 +155,8 @@ impl<D: Disk> Session<D> {
     /// Drains all that is still pending, and writes the summary.
     #[tactic(auto, using(crate::proofs::SessionLemmas::appends_some_none, crate::proofs::SessionLemmas::later_none))]
     pub(crate) fn finish<K: Sink>(&mut self, out: &mut K) -> Result<(), Stop>
-        ensures finishes { Finishes result self.old (K.written out.old) self.new (K.written out.new) }
+        ensures finishes { Finishes result self.old (K.written out.old) self.new
+            (K.written out.new) }
         ensures frame { Frame result self.old (K.written out.old) self.new (K.written out.new) }
         ensures writes { CountsWrites K.Sink out.old out.new (result ≡ Err WriteFault) }
     {

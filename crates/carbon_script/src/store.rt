@@ -72,7 +72,8 @@ impl<D: Disk> Store<D> {
     // Enters a put, which has room.
     fn enter_put(&mut self, datum: Datum, end: PutEnd)
         requires { 0 < self.old.history.room }
-        ensures entries { self.new.history.entries ≡ self.old.history.entries ++ put_entry (seen datum) end ∷ [] }
+        ensures entries { self.new.history.entries
+            ≡ self.old.history.entries ++ put_entry (seen datum) end ∷ [] }
         ensures asks { self.new.asks ≡ self.old.asks }
         ensures shards { self.new.shards ≡ self.old.shards }
     {
@@ -86,7 +87,8 @@ impl<D: Disk> Store<D> {
     pub fn ask(&mut self, question: &Question, now: u32) -> Result<Vec<u8>, Fault>
         requires question { IsQuestion question.now }
         requires moment { now ≤ 4_000_000_000 }
-        ensures asks { AsksStore (λ (text : Vec _ _). text.items) result self.old question.now now self.new }
+        ensures asks { AsksStore
+            (λ (text : Vec _ _). text.items) result self.old question.now now self.new }
         ensures disks { CountsDisks result self.old.shards.items.items self.new.shards.items.items }
     {
         self.history.make_room(2)?;
@@ -113,11 +115,14 @@ impl<D: Disk> Store<D> {
     fn show(&mut self, question: &Question, now: u32) -> Result<Option<Series>, RingFault>
         requires question { IsQuestion question.now }
         requires moment { now ≤ 4_000_000_000 }
-        ensures shows { IfOk result (ShowsAt self.old.shards.items.items question.now.path now question.now.from question.now.until) }
+        ensures shows { IfOk result
+            (ShowsAt self.old.shards.items.items question.now.path now question.now.from
+            question.now.until) }
         ensures fits { IfOk result (λ series. IfSome series EndsInTime) }
         ensures stays { StayAll self.old.shards.items.items self.new.shards.items.items }
         ensures others { OnlyShards self.old self.new }
-        ensures disks { UsesDisks self.old.shards.items.items self.new.shards.items.items (class_of question.now.path) (IsErrOf result RingFault.DiskFault) }
+        ensures disks { UsesDisks self.old.shards.items.items self.new.shards.items.items
+            (class_of question.now.path) (IsErrOf result RingFault.DiskFault) }
     {
         let ends = (u64::from(question.from), u64::from(question.until));
         self.shards.show(&question.path, ends, u64::from(now))
@@ -126,7 +131,8 @@ impl<D: Disk> Store<D> {
     // Enters the next question, which has room.
     fn enter_ask(&mut self, number: u64, now: u32)
         requires { 0 < self.old.history.room }
-        ensures entries { self.new.history.entries ≡ self.old.history.entries ++ AskEntry 0 number 1 now ∷ [] }
+        ensures entries { self.new.history.entries
+            ≡ self.old.history.entries ++ AskEntry 0 number 1 now ∷ [] }
         ensures room { self.old.history.room ≤ self.new.history.room + 1 }
         ensures asks { self.new.asks ≡ number }
         ensures shards { self.new.shards ≡ self.old.shards }
@@ -140,7 +146,8 @@ impl<D: Disk> Store<D> {
     /// it; that of a disk is entered.
     pub fn drain_all(&mut self, now: u32) -> Result<usize, Fault>
         ensures drains { DrainsOfAll result self.old now self.new }
-        ensures count { IfOk result (λ count. count ≡ length self.new.history.entries - length self.old.history.entries) }
+        ensures count { IfOk result
+            (λ count. count ≡ length self.new.history.entries - length self.old.history.entries) }
         ensures disks { CountsDisks result self.old.shards.items.items self.new.shards.items.items }
     {
         let before = self.history.entries().len();
@@ -173,7 +180,9 @@ impl<D: Disk> Store<D> {
     fn drain_next(&mut self, class: u32, now: u32) -> Result<bool, Fault>
         requires { class < 16 }
         ensures drains { DrainsStore result self.old class now self.new }
-        ensures fewer { result ≡ Ok true → pending_at self.new.shards.items.items class < pending_at self.old.shards.items.items class }
+        ensures fewer { result ≡ Ok true
+            → pending_at self.new.shards.items.items class < pending_at self.old.shards.items.items
+            class }
         ensures disks { CountsDisks result self.old.shards.items.items self.new.shards.items.items }
     {
         self.history.make_room(1)?;

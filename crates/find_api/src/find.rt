@@ -49,7 +49,8 @@ pub(crate) fn expand_paths(
 
 // The paths of nodes behind others.
 fn push_paths(nodes: Vec<Node>, paths: &mut Vec<MetricPath>) -> Result<(), AllocError>
-    ensures { OnOk result (paths.new.items ≡ paths.old.items ++ map (λ node. node.path) nodes.items) }
+    ensures { OnOk result
+        (paths.new.items ≡ paths.old.items ++ map (λ node. node.path) nodes.items) }
 {
     for node in nodes {
         paths.push(node.path)?;

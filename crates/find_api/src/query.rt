@@ -53,7 +53,8 @@ fn globs_or_fault(alloc: Global, texts: &[CowStr<'_>]) -> Result<Vec<Glob>, Find
 // The globs that texts are, or the number of the first that is none.
 fn read_globs(alloc: Global, texts: &[CowStr<'_>]) -> Result<Vec<Glob>, FindFault>
     requires { length texts.now ≤ most_queries }
-    ensures ok { IfOk result (λ globs. globs_from 1 (map cow_str_bytes texts.now) ≡ Ok globs.items) }
+    ensures ok { IfOk result
+        (λ globs. globs_from 1 (map cow_str_bytes texts.now) ≡ Ok globs.items) }
     ensures err { IfErr result (λ fault. fault ≢ NoMemory
         → globs_from 1 (map cow_str_bytes texts.now) ≡ Err fault) }
     ensures count { IfOk result (λ globs. length globs.items ≡ length texts.now) }

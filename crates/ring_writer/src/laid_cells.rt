@@ -18,7 +18,8 @@ pub(crate) struct LaidCells {
 impl LaidCells {
     // The cells of a patch.
     pub(crate) fn of(alloc: Global, patch: &Patch) -> Result<LaidCells, AllocError>
-        ensures cells { IfOk result (λ laid. HoldsCells patch.now.cells laid.places.items laid.bytes.items) }
+        ensures cells { IfOk result
+            (λ laid. HoldsCells patch.now.cells laid.places.items laid.bytes.items) }
         ensures rise { IfOk result (λ laid. IsStrictlySortedBy place_cmp laid.places.items) }
         ensures placed { IfOk result (λ laid. All (IsPlace patch.now.layout) laid.places.items) }
     {
@@ -35,7 +36,10 @@ impl LaidCells {
 
     // Adds a cell behind the others.
     fn push(&mut self, place: (u32, u32), bucket: u32, value: Milli) -> Result<(), AllocError>
-        ensures { OnOk result ((cells : Cells) → HoldsCells cells self.old.places.items self.old.bytes.items → HoldsCells (cells ++ (place, (bucket, value)) ∷ []) self.new.places.items self.new.bytes.items) }
+        ensures { OnOk result
+            ((cells : Cells) → HoldsCells cells self.old.places.items self.old.bytes.items
+            → HoldsCells (cells ++ (place, (bucket, value))
+            ∷ []) self.new.places.items self.new.bytes.items) }
     {
         let mut bytes = [0; CELL_BYTES];
         write_cell(bucket, value, &mut bytes);

@@ -36,7 +36,8 @@ pub fn write_run<D: Disk>(disk: &mut D, name: &str, shelf: &Shelf) -> Result<(),
 
 // The layout of a patch breaks no rule. The function does nothing: what it ensures is the law.
 fn patch_is_lawful(shelf: &Shelf)
-    ensures { IfSome shelf.now (λ drain. layout_fault drain.patch.layout.archives drain.patch.layout.factor ≡ None) }
+    ensures { IfSome shelf.now
+        (λ drain. layout_fault drain.patch.layout.archives drain.patch.layout.factor ≡ None) }
 {
     if let Some(patch) = shelf.patch() {
         let _ = patch.layout().archive_count();

@@ -22,10 +22,18 @@ pub(crate) fn write_cells<D: Disk>(
     requires rise { IsStrictlySortedBy place_cmp places.now }
     requires placed { All (IsPlace view.now.layout) places.now }
     requires bytes { length bytes.now ≡ 12 * length places.now }
-    requires file { OnFile (D.image disk.old) view.now.name.now (λ file. length file ≡ file_size_of view.now.layout.archives) }
-    ensures ok { OnOk result (WhereKnown (D.image disk.old) (D.image disk.new) (λ before after. WritesCells view.now.layout places.now bytes.now (length places.now) view.now.name.now before after)) }
-    ensures err { OnErr result (WhereKnown (D.image disk.old) (D.image disk.new) (λ before after. ChangesOnly before after view.now.name.now)) }
-    ensures frame { OnErr result (WhereKnown (D.image disk.old) (D.image disk.new) (KeepsFrame view.now.layout view.now.name.now)) }
+    requires file { OnFile (D.image disk.old) view.now.name.now
+        (λ file. length file ≡ file_size_of view.now.layout.archives) }
+    ensures ok { OnOk result
+        (WhereKnown (D.image disk.old) (D.image disk.new)
+        (λ before after. WritesCells view.now.layout places.now bytes.now
+        (length places.now) view.now.name.now before after)) }
+    ensures err { OnErr result
+        (WhereKnown (D.image disk.old) (D.image disk.new)
+        (λ before after. ChangesOnly before after view.now.name.now)) }
+    ensures frame { OnErr result
+        (WhereKnown (D.image disk.old) (D.image disk.new)
+        (KeepsFrame view.now.layout view.now.name.now)) }
     ensures later { D.faults disk.old ≤ D.faults disk.new }
     ensures cause { OnErr result (Rose (D.faults disk.old) (D.faults disk.new)) }
 {
@@ -47,11 +55,20 @@ fn write_piece<D: Disk>(
     piece: &[u8],
 ) -> Result<(), DiskFailed>
     requires place { IsPlace view.now.layout place }
-    requires room { IfSome (slice_get view.now.layout.archives place.0) (λ archive. 12 * place.1 + length piece.now ≤ 12 * archive.points) }
-    requires file { OnFile (D.image disk.old) view.now.name.now (λ file. length file ≡ file_size_of view.now.layout.archives) }
-    ensures ok { OnOk result (WhereKnown (D.image disk.old) (D.image disk.new) (λ before after. Writes before after view.now.name.now (cell_offset view.now.layout.archives place) piece.now)) }
-    ensures err { OnErr result (WhereKnown (D.image disk.old) (D.image disk.new) (λ before after. ChangesOnly before after view.now.name.now)) }
-    ensures frame { OnErr result (WhereKnown (D.image disk.old) (D.image disk.new) (KeepsFrame view.now.layout view.now.name.now)) }
+    requires room { IfSome (slice_get view.now.layout.archives place.0)
+        (λ archive. 12 * place.1 + length piece.now ≤ 12 * archive.points) }
+    requires file { OnFile (D.image disk.old) view.now.name.now
+        (λ file. length file ≡ file_size_of view.now.layout.archives) }
+    ensures ok { OnOk result
+        (WhereKnown (D.image disk.old) (D.image disk.new)
+        (λ before after. Writes before after view.now.name.now
+        (cell_offset view.now.layout.archives place) piece.now)) }
+    ensures err { OnErr result
+        (WhereKnown (D.image disk.old) (D.image disk.new)
+        (λ before after. ChangesOnly before after view.now.name.now)) }
+    ensures frame { OnErr result
+        (WhereKnown (D.image disk.old) (D.image disk.new)
+        (KeepsFrame view.now.layout view.now.name.now)) }
     ensures later { D.faults disk.old ≤ D.faults disk.new }
     ensures cause { OnErr result (Rose (D.faults disk.old) (D.faults disk.new)) }
 {

@@ -47,8 +47,11 @@ fn write(
     fresh: bool,
     cells: &[Laid],
 ) -> Result<Result<(), RingFault>, Fail>
-    requires { fresh ≡ false → OnFile (⟦<MemDisk as Disk>⟧.image disk.old) name.now (IsRingFile layout) }
-    ensures { IfOk result (λ written. OnOk written (OnFile (⟦<MemDisk as Disk>⟧.image disk.new) name.now (IsRingFile layout))) }
+    requires { fresh ≡ false
+        → OnFile (⟦<MemDisk as Disk>⟧.image disk.old) name.now (IsRingFile layout) }
+    ensures { IfOk result
+        (λ written. OnOk written
+        (OnFile (⟦<MemDisk as Disk>⟧.image disk.new) name.now (IsRingFile layout))) }
 {
     let patch = patch_with(alloc, layout, fresh, cells)?;
     let view = RingView::new(name, layout);
@@ -282,7 +285,9 @@ fn disk_with(
     fresh: bool,
     before: &[Laid],
 ) -> Result<MemDisk, Fail>
-    ensures { IfOk result (λ disk. fresh ≡ false → OnFile (⟦<MemDisk as Disk>⟧.image disk) name.now (IsRingFile layout)) }
+    ensures { IfOk result
+        (λ disk. fresh ≡ false
+        → OnFile (⟦<MemDisk as Disk>⟧.image disk) name.now (IsRingFile layout)) }
 {
     let mut disk = MemDisk::new(alloc, 1_000);
     if !fresh {

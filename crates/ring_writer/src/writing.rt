@@ -26,13 +26,22 @@ pub fn write_patch<D: Disk>(
     patch: &Patch,
 ) -> Result<(), RingFault>
     requires layout { patch.now.layout ≡ view.now.layout }
-    requires file { patch.now.fresh ≡ false → OnFile (D.image disk.old) view.now.name.now (IsRingFile view.now.layout) }
-    ensures lays { OnOk result (WhereKnown (D.image disk.old) (D.image disk.new) (λ before after. Lays before after view.now.name.now patch.now)) }
-    ensures err { OnErr result (WhereKnown (D.image disk.old) (D.image disk.new) (λ before after. ChangesOnly before after view.now.name.now)) }
-    ensures intact { OnErr result (patch.now.fresh ≡ false → WhereKnown (D.image disk.old) (D.image disk.new) (λ before after. IsSomeAnd (after view.now.name.now) (IsRingFile view.now.layout))) }
+    requires file { patch.now.fresh ≡ false
+        → OnFile (D.image disk.old) view.now.name.now (IsRingFile view.now.layout) }
+    ensures lays { OnOk result
+        (WhereKnown (D.image disk.old) (D.image disk.new)
+        (λ before after. Lays before after view.now.name.now patch.now)) }
+    ensures err { OnErr result
+        (WhereKnown (D.image disk.old) (D.image disk.new)
+        (λ before after. ChangesOnly before after view.now.name.now)) }
+    ensures intact { OnErr result
+        (patch.now.fresh ≡ false
+        → WhereKnown (D.image disk.old) (D.image disk.new)
+        (λ before after. IsSomeAnd (after view.now.name.now) (IsRingFile view.now.layout))) }
     ensures untouched { IsErrOf result RingFault.NoMemory → D.image disk.new ≡ D.image disk.old }
     ensures later { D.faults disk.old ≤ D.faults disk.new }
-    ensures cause { IsErrOf result RingFault.DiskFault → Rose (D.faults disk.old) (D.faults disk.new) }
+    ensures cause { IsErrOf result RingFault.DiskFault
+        → Rose (D.faults disk.old) (D.faults disk.new) }
 {
     let laid = LaidCells::of(alloc, patch)?;
     layout_is_lawful(&view.layout);
@@ -53,8 +62,12 @@ fn create_ring<D: Disk>(
     requires rise { IsStrictlySortedBy place_cmp laid.now.places.items }
     requires placed { All (IsPlace view.now.layout) laid.now.places.items }
     requires bytes { length laid.now.bytes.items ≡ 12 * length laid.now.places.items }
-    ensures ok { OnOk result (WhereKnown (D.image disk.old) (D.image disk.new) (CreatesRing view.now.layout laid.now.places.items laid.now.bytes.items view.now.name.now)) }
-    ensures err { OnErr result (WhereKnown (D.image disk.old) (D.image disk.new) (λ before after. ChangesOnly before after view.now.name.now)) }
+    ensures ok { OnOk result
+        (WhereKnown (D.image disk.old) (D.image disk.new)
+        (CreatesRing view.now.layout laid.now.places.items laid.now.bytes.items view.now.name.now)) }
+    ensures err { OnErr result
+        (WhereKnown (D.image disk.old) (D.image disk.new)
+        (λ before after. ChangesOnly before after view.now.name.now)) }
     ensures later { D.faults disk.old ≤ D.faults disk.new }
     ensures cause { OnErr result (Rose (D.faults disk.old) (D.faults disk.new)) }
 {

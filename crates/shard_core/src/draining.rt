@@ -34,10 +34,18 @@ pub(crate) fn drain_file<D: Disk>(
 ) -> Result<(), RingFault>
     requires rising { IsRising points.now }
     requires moments { All (λ p. is_moment p.0 ≡ true) points.now }
-    requires file { fresh ≡ false → OnFile (D.image disk.old) (file_name_of path.now) (IsRingFile layout) }
-    ensures drains { OnOk result (WhereKnown (D.image disk.old) (D.image disk.new) (λ before after. DrainsFile fresh before after (file_name_of path.now) layout now points.now)) }
-    ensures others { OnErr result (WhereKnown (D.image disk.old) (D.image disk.new) (λ before after. ChangesOnly before after (file_name_of path.now))) }
-    ensures intact { OnErr result (fresh ≡ false → WhereKnown (D.image disk.old) (D.image disk.new) (λ before after. IsSomeAnd (after (file_name_of path.now)) (IsRingFile layout))) }
+    requires file { fresh ≡ false
+        → OnFile (D.image disk.old) (file_name_of path.now) (IsRingFile layout) }
+    ensures drains { OnOk result
+        (WhereKnown (D.image disk.old) (D.image disk.new)
+        (λ before after. DrainsFile fresh before after
+        (file_name_of path.now) layout now points.now)) }
+    ensures others { OnErr result
+        (WhereKnown (D.image disk.old) (D.image disk.new)
+        (λ before after. ChangesOnly before after (file_name_of path.now))) }
+    ensures intact { OnErr result
+        (fresh ≡ false → WhereKnown (D.image disk.old) (D.image disk.new)
+        (λ before after. IsSomeAnd (after (file_name_of path.now)) (IsRingFile layout))) }
     ensures untouched { IsErrOf result RingFault.NoMemory → D.image disk.new ≡ D.image disk.old }
     ensures frame { CountsFaults D.Disk disk.old disk.new (IsErrOf result RingFault.DiskFault) }
 {
@@ -67,7 +75,9 @@ pub(crate) fn file_anew<D: Disk>(
     ensures drains { OnOk result (WhereKnown (D.image disk.old) (D.image disk.new)
         (λ before after. DrainsFile true before after (file_name_of path.now) layout now points.now)) }
     ensures indexed { OnOk result (IndexedWith layouts.old layouts.new path.now layout) }
-    ensures others { OnErr result (WhereKnown (D.image disk.old) (D.image disk.new) (λ before after. ChangesOnly before after (file_name_of path.now))) }
+    ensures others { OnErr result
+        (WhereKnown (D.image disk.old) (D.image disk.new)
+        (λ before after. ChangesOnly before after (file_name_of path.now))) }
     ensures layouts { OnErr result (SameLayouts layouts.old layouts.new) }
     ensures untouched { IsErrOf result RingFault.NoMemory → D.image disk.new ≡ D.image disk.old }
     ensures frame { CountsFaults D.Disk disk.old disk.new (IsErrOf result RingFault.DiskFault) }

@@ -44,7 +44,9 @@ impl Layouts {
     /// The metric has this layout. Want of memory changes nothing.
     pub fn insert(&mut self, path: MetricPath, layout: Layout) -> Result<(), AllocError>
         ensures here { OnOk result (lookup (bytes_eq path) self.new ≡ Some layout) }
-        ensures others { OnOk result ((other : List ℕ) → bytes_eq other path ≡ false → lookup (bytes_eq other) self.new ≡ lookup (bytes_eq other) self.old) }
+        ensures others { OnOk result
+            ((other : List ℕ) → bytes_eq other path ≡ false
+            → lookup (bytes_eq other) self.new ≡ lookup (bytes_eq other) self.old) }
         ensures err { OnErr result (self.new ≡ self.old) }
     {
         self.by_path.insert(path, layout)?;
@@ -53,7 +55,8 @@ impl Layouts {
     /// The metric has no layout here any more.
     pub fn remove(&mut self, path: &MetricPath)
         ensures here { lookup (bytes_eq path.now) self.new ≡ None }
-        ensures others { (other : List ℕ) → bytes_eq other path.now ≡ false → lookup (bytes_eq other) self.new ≡ lookup (bytes_eq other) self.old }
+        ensures others { (other : List ℕ) → bytes_eq other path.now ≡ false
+            → lookup (bytes_eq other) self.new ≡ lookup (bytes_eq other) self.old }
     {
         let _ = self.by_path.swap_remove(path);
     }

@@ -32,9 +32,13 @@ impl<D: Disk> Shards<D> {
         setup: &Setup,
     ) -> Result<Shards<D>, (Vec<D>, Refusal)>
         requires { vec_len disks ≡ 16 }
-        ensures starts { IfOk result (λ shards. StartsAll (settings_of setup.now) disks.items shards.items.items) }
-        ensures later { IfOk result (λ shards. (k : ℕ) → disk_faults D.faults disks.items k ≤ faults_at shards.items.items k) }
-        ensures refused { IfErr result (λ refusal. RefusesAll D.Disk disks.items refusal.0.items refusal.1) }
+        ensures starts { IfOk result
+            (λ shards. StartsAll (settings_of setup.now) disks.items shards.items.items) }
+        ensures later { IfOk result
+            (λ shards. (k : ℕ) → disk_faults D.faults disks.items k ≤ faults_at shards.items.items
+            k) }
+        ensures refused { IfErr result
+            (λ refusal. RefusesAll D.Disk disks.items refusal.0.items refusal.1) }
         ensures back { IfErr result (λ refusal. vec_len refusal.0 ≡ 16) }
     {
         match Vec::with_capacity(alloc, CLASSES) {
@@ -68,8 +72,11 @@ fn start_each<D: Disk>(
     requires none { vec_len items ≡ 0 }
     requires room { 16 ≤ vec_capacity items }
     requires all { vec_len disks ≡ 16 }
-    ensures opens { IfOk result (λ shards. AreStarted (settings_of setup.now) disks.items shards.items.items) }
-    ensures refused { IfErr result (λ refusal. HandsBack D.image D.faults refusal.1.fault disks.items refusal.1.class refusal.0.items) }
+    ensures opens { IfOk result
+        (λ shards. AreStarted (settings_of setup.now) disks.items shards.items.items) }
+    ensures refused { IfErr result
+        (λ refusal. HandsBack D.image D.faults refusal.1.fault disks.items refusal.1.class
+        refusal.0.items) }
     ensures class { IfErr result (λ refusal. refusal.1.class < 16) }
 {
     let mut items = items;
@@ -93,8 +100,12 @@ fn start_next<D: Disk>(
     requires class { vec_len items.old < 16 }
     requires room { 16 ≤ vec_capacity items.old }
     requires next { 0 < vec_len disks.old }
-    ensures starts { OnOk result (StartsNext (settings_of setup.now) disks.old.items items.old.items items.new.items disks.new.items) }
-    ensures refused { IfErr result (λ fault. RefusesNext fault disks.old.items items.old.items items.new.items disks.new.items) }
+    ensures starts { OnOk result
+        (StartsNext (settings_of setup.now) disks.old.items items.old.items items.new.items
+        disks.new.items) }
+    ensures refused { IfErr result
+        (λ fault. RefusesNext fault disks.old.items items.old.items items.new.items
+        disks.new.items) }
     ensures room { vec_capacity items.old ≤ vec_capacity items.new }
     ensures disk_room { vec_capacity disks.old ≤ vec_capacity disks.new }
 {

@@ -64,7 +64,8 @@ impl<D: Disk> Shard<D> {
         requires some { 0 < limit }
         ensures started { IfOk result (StartedFrom class
             (record { rules = layout_by rules; limit = limit; strategy = strategy }) disk) }
-        ensures refused { IfErr result (λ refusal. NotStarted D.Disk class disk refusal.0 refusal.1) }
+        ensures refused { IfErr result
+            (λ refusal. NotStarted D.Disk class disk refusal.0 refusal.1) }
     {
         let mut disk = disk;
         match read_layouts(alloc, &mut disk, class) {
@@ -86,7 +87,8 @@ impl<D: Disk> Shard<D> {
     pub fn put(&mut self, datum: &Datum) -> Put
         requires { class_of datum.now.path ≡ self.old.class }
         ensures point { IsPoint datum.now.path datum.now.time datum.now.value }
-        ensures put { Puts self.old.cache self.new.cache datum.now.path datum.now.time datum.now.value result }
+        ensures put { Puts self.old.cache self.new.cache datum.now.path datum.now.time
+            datum.now.value result }
         ensures others { OnlyCache self.old self.new }
     {
         let _ = datum.path.text();
@@ -102,13 +104,19 @@ impl<D: Disk> Shard<D> {
     /// `None` where nothing is pending. The points leave the cache last: after want of memory all is as before, and after a disk fault the
     /// points are pending still, and go next again, but nothing is said of what the metric's file holds.
     pub fn drain_whole(&mut self, now: u32) -> Result<Option<MetricPath>, RingFault>
-        ensures drains { IfOk result (λ picked. IfSome picked (λ path. Drains (inside_of self.old) (inside_of self.new) path now)) }
-        ensures idle { IfOk result (λ picked. picked ≡ None → (self.old.cache.metrics ≡ []) × Stays self.old self.new) }
-        ensures fewer { IfOk result (λ picked. IfSome picked (λ path. length self.new.cache.metrics < length self.old.cache.metrics)) }
+        ensures drains { IfOk result
+            (λ picked. IfSome picked
+            (λ path. Drains (inside_of self.old) (inside_of self.new) path now)) }
+        ensures idle { IfOk result
+            (λ picked. picked ≡ None → (self.old.cache.metrics ≡ []) × Stays self.old self.new) }
+        ensures fewer { IfOk result
+            (λ picked. IfSome picked
+            (λ path. length self.new.cache.metrics < length self.old.cache.metrics)) }
         ensures pending { OnErr result (self.new.cache ≡ self.old.cache) }
         ensures memory { IsErrOf result RingFault.NoMemory → Stays self.old self.new }
         ensures same { SameShard self.old self.new }
-        ensures frame { CountsFaults D.Disk self.old.disk self.new.disk (IsErrOf result RingFault.DiskFault) }
+        ensures frame { CountsFaults D.Disk self.old.disk self.new.disk
+            (IsErrOf result RingFault.DiskFault) }
     {
         let place = match self.picker.pick(&self.cache)? {
             Some(place) => place,
@@ -124,11 +132,14 @@ impl<D: Disk> Shard<D> {
     // Puts the points of the metric at a place into its ring file. They stay pending.
     fn file(&mut self, place: usize, now: u32) -> Result<(), RingFault>
         requires { place < length self.old.cache.places }
-        ensures files { OnOk result ((path : List ℕ) → slice_get self.old.cache.places place ≡ Some path → FilesPath self.old self.new path now) }
+        ensures files { OnOk result
+            ((path : List ℕ) → slice_get self.old.cache.places place ≡ Some path
+            → FilesPath self.old self.new path now) }
         ensures pending { (self.new.cache ≡ self.old.cache) × (self.new.picker ≡ self.old.picker) }
         ensures memory { IsErrOf result RingFault.NoMemory → Stays self.old self.new }
         ensures same { SameShard self.old self.new }
-        ensures frame { CountsFaults D.Disk self.old.disk self.new.disk (IsErrOf result RingFault.DiskFault) }
+        ensures frame { CountsFaults D.Disk self.old.disk self.new.disk
+            (IsErrOf result RingFault.DiskFault) }
     {
         // At each place stands a metric with pending points.
         let _ = self.cache.metrics();
@@ -175,7 +186,8 @@ impl<D: Disk> Shard<D> {
         ensures fits { IfOk result (λ series. IfSome series EndsInTime) }
         ensures stays { Stays self.old self.new }
         ensures same { SameShard self.old self.new × (self.new.cache ≡ self.old.cache) }
-        ensures frame { ReadsOnly D.Disk self.old.disk self.new.disk (IsErrOf result RingFault.DiskFault) }
+        ensures frame { ReadsOnly D.Disk self.old.disk self.new.disk
+            (IsErrOf result RingFault.DiskFault) }
     {
         let _ = path.text();
         let points = self.cache.points_of(path);

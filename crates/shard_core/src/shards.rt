@@ -35,7 +35,8 @@ impl<D: Disk> Shards<D> {
 
     /// Puts the point of a metric line. Want of memory changes nothing.
     pub fn put(&mut self, datum: &Datum) -> Put
-        ensures put { PutsAt self.old.items.items self.new.items.items datum.now.path datum.now.time datum.now.value result }
+        ensures put { PutsAt self.old.items.items self.new.items.items datum.now.path
+            datum.now.time datum.now.value result }
         ensures later { NoFewer self.old.items.items self.new.items.items }
     {
         self.items[datum.path.class() as usize].put(datum)
@@ -54,7 +55,8 @@ impl<D: Disk> Shards<D> {
         ensures shows { IfOk result (ShowsAt self.old.items.items path.now now ends.0 ends.1) }
         ensures fits { IfOk result (λ series. IfSome series EndsInTime) }
         ensures stays { StayAll self.old.items.items self.new.items.items }
-        ensures frame { UsesDisks self.old.items.items self.new.items.items (class_of path.now) (IsErrOf result RingFault.DiskFault) }
+        ensures frame { UsesDisks self.old.items.items self.new.items.items (class_of path.now)
+            (IsErrOf result RingFault.DiskFault) }
     {
         self.items[path.class() as usize].show(path, ends, now)
     }
@@ -62,10 +64,16 @@ impl<D: Disk> Shards<D> {
     /// Drains the metric of a class that goes next, at the moment `now`, as `Shard::drain_whole` says. Want of memory changes nothing.
     pub fn drain_next(&mut self, class: u32, now: u32) -> Result<Option<MetricPath>, RingFault>
         requires { class < 16 }
-        ensures drains { IfOk result (λ picked. DrainsAt self.old.items.items self.new.items.items class now picked) }
-        ensures fewer { IfOk result (λ picked. IfSome picked (λ path. pending_at self.new.items.items class < pending_at self.old.items.items class)) }
-        ensures memory { IsErrOf result RingFault.NoMemory → StayAll self.old.items.items self.new.items.items }
-        ensures frame { UsesDisks self.old.items.items self.new.items.items class (IsErrOf result RingFault.DiskFault) }
+        ensures drains { IfOk result
+            (λ picked. DrainsAt self.old.items.items self.new.items.items class now picked) }
+        ensures fewer { IfOk result
+            (λ picked. IfSome picked
+            (λ path. pending_at self.new.items.items class < pending_at self.old.items.items
+            class)) }
+        ensures memory { IsErrOf result RingFault.NoMemory
+            → StayAll self.old.items.items self.new.items.items }
+        ensures frame { UsesDisks self.old.items.items self.new.items.items class
+            (IsErrOf result RingFault.DiskFault) }
     {
         self.items[class as usize].drain_whole(now)
     }

@@ -35,8 +35,11 @@ pub(crate) fn show_file<D: Disk>(
     requires now { now ≤ 4_000_000_000 }
     requires rising { IsRising points.now }
     requires moments { All (λ p. is_moment p.0 ≡ true) points.now }
-    requires file { fresh ≡ false → OnFile (D.image disk.old) (file_name_of path.now) (IsRingFile layout) }
-    ensures shows { IfOk result (ShowsFile fresh (D.image disk.old) (file_name_of path.now) layout points.now (window layout now ends.0 ends.1)) }
+    requires file { fresh ≡ false
+        → OnFile (D.image disk.old) (file_name_of path.now) (IsRingFile layout) }
+    ensures shows { IfOk result
+        (ShowsFile fresh (D.image disk.old) (file_name_of path.now) layout points.now
+        (window layout now ends.0 ends.1)) }
     ensures fits { IfOk result (λ series. IfSome series EndsInTime) }
     ensures frame { ReadsOnly D.Disk disk.old disk.new (IsErrOf result RingFault.DiskFault) }
 {
@@ -69,8 +72,11 @@ fn show_range<D: Disk>(
     requires window { IsWindow layout (Range range.0 range.1 range.2) }
     requires rising { IsRising points.now }
     requires moments { All (λ p. is_moment p.0 ≡ true) points.now }
-    requires file { fresh ≡ false → OnFile (D.image disk.old) (file_name_of path.now) (IsRingFile layout) }
-    ensures shows { IfOk result (ShowsFile fresh (D.image disk.old) (file_name_of path.now) layout points.now (Range range.0 range.1 range.2)) }
+    requires file { fresh ≡ false
+        → OnFile (D.image disk.old) (file_name_of path.now) (IsRingFile layout) }
+    ensures shows { IfOk result
+        (ShowsFile fresh (D.image disk.old) (file_name_of path.now) layout points.now
+        (Range range.0 range.1 range.2)) }
     ensures fits { IfOk result (λ series. IfSome series EndsInTime) }
     ensures frame { ReadsOnly D.Disk disk.old disk.new (IsErrOf result RingFault.DiskFault) }
 {

@@ -37,7 +37,8 @@ pub(crate) fn read_layouts<D: Disk>(
     ensures damaged { IfErr result (λ fault. IsDamagedFile fault (D.image disk.old) class) }
     ensures kept { D.image disk.new ≡ D.image disk.old }
     ensures later { D.faults disk.old ≤ D.faults disk.new }
-    ensures cause { IfErr result (λ fault. IsDiskFault fault → Rose (D.faults disk.old) (D.faults disk.new)) }
+    ensures cause { IfErr result
+        (λ fault. IsDiskFault fault → Rose (D.faults disk.old) (D.faults disk.new)) }
 {
     let mut names = match disk.names() {
         Ok(names) => names,
@@ -62,11 +63,16 @@ fn layouts_of<D: Disk>(
     names: &[String],
 ) -> Result<Layouts, StartFault>
     requires sorted { IsSorted string_cmp names.now }
-    ensures noted { IfOk result (λ layouts. IfSome (D.image disk.old) (λ image. Noted class image (map string_bytes names.now) (length names.now) layouts)) }
-    ensures damaged { IfErr result (λ fault. IfSome (D.image disk.old) (λ image. OnDamaged fault (FirstAmong class image (map string_bytes names.now)))) }
+    ensures noted { IfOk result
+        (λ layouts. IfSome (D.image disk.old)
+        (λ image. Noted class image (map string_bytes names.now) (length names.now) layouts)) }
+    ensures damaged { IfErr result
+        (λ fault. IfSome (D.image disk.old)
+        (λ image. OnDamaged fault (FirstAmong class image (map string_bytes names.now)))) }
     ensures kept { D.image disk.new ≡ D.image disk.old }
     ensures later { D.faults disk.old ≤ D.faults disk.new }
-    ensures cause { IfErr result (λ fault. IsDiskFault fault → Rose (D.faults disk.old) (D.faults disk.new)) }
+    ensures cause { IfErr result
+        (λ fault. IsDiskFault fault → Rose (D.faults disk.old) (D.faults disk.new)) }
 {
     let mut layouts = Layouts::new(alloc);
     for name in names {
@@ -86,11 +92,18 @@ fn note_file<D: Disk>(
     name: &str,
     layouts: &mut Layouts,
 ) -> Result<(), StartFault>
-    ensures notes { OnOk result (IfSome (D.image disk.old) (λ image. HasFiles class layouts.old (Some image) → Notes class image name.now layouts.old layouts.new)) }
-    ensures damaged { IfErr result (λ fault. IfSome (D.image disk.old) (λ image. OnDamaged fault (λ told. (told ≡ name.now) × IsDamagedName class image name.now))) }
+    ensures notes { OnOk result
+        (IfSome (D.image disk.old)
+        (λ image. HasFiles class layouts.old (Some image)
+        → Notes class image name.now layouts.old layouts.new)) }
+    ensures damaged { IfErr result
+        (λ fault. IfSome (D.image disk.old)
+        (λ image. OnDamaged fault
+        (λ told. (told ≡ name.now) × IsDamagedName class image name.now))) }
     ensures kept { D.image disk.new ≡ D.image disk.old }
     ensures later { D.faults disk.old ≤ D.faults disk.new }
-    ensures cause { IfErr result (λ fault. IsDiskFault fault → Rose (D.faults disk.old) (D.faults disk.new)) }
+    ensures cause { IfErr result
+        (λ fault. IsDiskFault fault → Rose (D.faults disk.old) (D.faults disk.new)) }
 {
     let path = match MetricPath::of_file_name(alloc, name) {
         Ok(Some(path)) => path,
@@ -115,7 +128,8 @@ fn note_head(
     layouts: &mut Layouts,
 ) -> Result<(), StartFault>
     ensures notes { OnOk result (NotesHead path head layouts.old layouts.new) }
-    ensures damaged { IfErr result (λ fault. OnDamaged fault (λ told. (told ≡ name.now) × IsFaulty head)) }
+    ensures damaged { IfErr result
+        (λ fault. OnDamaged fault (λ told. (told ≡ name.now) × IsFaulty head)) }
     ensures memory { IfErr result (λ fault. IsDiskFault fault → ⊥) }
 {
     match head {
@@ -133,7 +147,8 @@ fn note_head(
 
 // Reads the head of the file of this name. A name that is not there counts as a head of zero.
 fn read_file_head<D: Disk>(disk: &mut D, name: &str) -> Result<FileHead, DiskFailed>
-    ensures head { IfOk result (λ head. IfSome (D.image disk.old) (λ image. TellsHead (image name.now) head)) }
+    ensures head { IfOk result
+        (λ head. IfSome (D.image disk.old) (λ image. TellsHead (image name.now) head)) }
     ensures kept { D.image disk.new ≡ D.image disk.old }
     ensures later { D.faults disk.old ≤ D.faults disk.new }
     ensures cause { OnErr result (Rose (D.faults disk.old) (D.faults disk.new)) }
@@ -155,7 +170,8 @@ fn read_file_head<D: Disk>(disk: &mut D, name: &str) -> Result<FileHead, DiskFai
 // What the first 316 bytes of a file of `size` bytes tell, or all where there are fewer.
 fn told_head(bytes: &[u8], size: u64) -> FileHead
     requires { length bytes.now ≡ min 316 size }
-    ensures { (file : List ℕ) → bytes.now ≡ take 316 file → size ≡ length file → TellsHead (Some file) result }
+    ensures { (file : List ℕ) → bytes.now ≡ take 316 file → size ≡ length file
+        → TellsHead (Some file) result }
 {
     match read_head(bytes, size) {
         Ok(layout) => FileHead::Ring(layout),
