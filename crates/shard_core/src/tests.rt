@@ -5,7 +5,7 @@ ghost use Rattle.metric_path.specs.Class.{class_of};
 use super::*;
 use drain_order::Strategy;
 use metric_path::MetricPath;
-use outside_io::{Disk, DiskFailed, MemDisk, NamesFault};
+use outside_io::{Disk, MemDisk};
 use schema_rules::{RuleFault, Rules};
 use std::alloc::{AllocError, Global};
 use std::test::Fail;
@@ -230,102 +230,35 @@ fn other_files_are_left_alone(rt: HostRuntime) -> Result<(), Fail> {
     Ok(())
 }
 
-// A call of a disk.
-#[derive(Clone, Copy, PartialEq, Eq)]
-enum Call {
-    Names,
-    Length,
-    Read,
-    Write,
+// A disk with a file whose head is zero. Of its reading and its writing calls those with these numbers fail.
+fn failing_disk(alloc: Global, reads: &[u64], writes: &[u64]) -> Result<MemDisk, AllocError> {
+    let mut disk = MemDisk::new(alloc, 0);
+    disk.put_file("a.ring", file_of(alloc, &[], 28)?)?;
+    let disk = disk.failing_reads(reads.to_vec(alloc)?);
+    Ok(disk.failing(writes.to_vec(alloc)?))
 }
 
-// A disk of one file whose calls of one kind fail.
-#[derive(Drop)]
-struct FailingDisk {
-    alloc: Global,
-    call: Call,
-    faults: u64,
-}
-
-impl FailingDisk {
-    ghost use Rattle.std.specs.Prelude.{◌≡◌, ◌≤◌, OnErr};
-    ghost use Rattle.outside_io.specs.Faults.{Rose};
-
-    fn run(&mut self, call: Call) -> Result<(), DiskFailed>
-        ensures later { self.old.faults ≤ self.new.faults }
-        ensures cause { OnErr result (Rose self.old.faults self.new.faults) }
-    {
-        if self.call != call {
-            return Ok(());
-        }
-        self.faults = self.faults.saturating_add(1);
-        Err(DiskFailed)
+// How many calls failed while a shard started, and whether it was refused as one whose disk failed.
+fn start_on(alloc: Global, disk: MemDisk) -> Result<(u64, bool), Fail> {
+    match Shard::start(alloc, 12, disk, no_rules(alloc)?, LIMIT, Strategy::Naive) {
+        Ok(shard) => Ok((shard.finish().faults(), false)),
+        Err((disk, fault)) => Ok((disk.faults(), matches!(&fault, StartFault::DiskFault))),
     }
 }
 
-impl Disk for FailingDisk {
-    ghost use Rattle.std.specs.Prelude.{None};
-
-    ghost image = { λ disk. None };
-
-    ghost faults = { λ disk. disk.faults };
-
-    fn faults(&self) -> u64 {
-        self.faults
-    }
-
-    fn names(&mut self) -> Result<Vec<String>, NamesFault> {
-        match self.run(Call::Names) {
-            Ok(()) => {}
-            Err(DiskFailed) => return Err(NamesFault::Failed),
-        }
-        let mut names = Vec::new(self.alloc);
-        names.push(String::from_str(self.alloc, "a.ring")?)?;
-        Ok(names)
-    }
-
-    fn length(&mut self, _name: &str) -> Result<Option<u64>, DiskFailed> {
-        match self.run(Call::Length) {
-            Ok(()) => Ok(Some(28)),
-            Err(DiskFailed) => Err(DiskFailed),
-        }
-    }
-
-    fn create(&mut self, _name: &str, _len: u64) -> Result<(), DiskFailed> {
-        self.run(Call::Write)
-    }
-
-    fn read_at(&mut self, _name: &str, _at: u64, _buf: &mut [u8]) -> Result<(), DiskFailed> {
-        self.run(Call::Read)
-    }
-
-    fn write_at(&mut self, _name: &str, _at: u64, _piece: &[u8]) -> Result<(), DiskFailed> {
-        self.run(Call::Write)
-    }
-}
-
+// A start lists the names, asks how long a file is and reads its head. It writes nothing.
 #[test]
 fn a_failed_call_is_counted(rt: HostRuntime) -> Result<(), Fail> {
     let alloc = rt.alloc();
-    for (call, want) in [
-        (Call::Names, 1),
-        (Call::Length, 1),
-        (Call::Read, 1),
-        (Call::Write, 0),
-    ] {
-        let disk = FailingDisk {
-            alloc,
-            call,
-            faults: 0,
-        };
-        match Shard::start(alloc, 12, disk, no_rules(alloc)?, LIMIT, Strategy::Naive) {
-            Ok(shard) => assert_eq!(rt; shard.finish().faults(), want),
-            Err(refusal) => {
-                let (disk, fault) = refusal;
-                assert!(rt; matches!(&fault, StartFault::DiskFault));
-                assert_eq!(rt; disk.faults(), want);
-            }
-        }
+    let cases: [(&[u64], &[u64], u64, bool); 4] = [
+        (&[1], &[], 1, true),
+        (&[2], &[], 1, true),
+        (&[3], &[], 1, true),
+        (&[], &[1], 0, false),
+    ];
+    for (reads, writes, faults, refused) in cases {
+        let disk = failing_disk(alloc, reads, writes)?;
+        assert_eq!(rt; start_on(alloc, disk)?, (faults, refused));
     }
     Ok(())
 }
