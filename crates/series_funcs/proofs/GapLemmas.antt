@@ -1,15 +1,14 @@
 -- Gaps of missing values, and what they take.
-use Rattle.std.proofs.Common.{◌≡◌, ℕ, ℤ, ◌+◌, ◌-◌, ◌<◌, ◌≤◌, Bool, true, false, nat_lt, List, [], ◌∷◌, ◌++◌, length, get_or, set, take, drop, map, Option, Some, None, is_none, cond, refl, sym, ap, ap₂, subst, ◌∙◌, arith}
+use Rattle.std.proofs.Common.{◌≡◌, ℕ, ℤ, ◌+◌, ◌-◌, ◌<◌, Bool, true, false, nat_lt, List, length, get_or, set, take, drop, map, Option, Some, None, is_none, cond, refl, sym, ap, ap₂, subst, ◌∙◌, arith}
 use Rattle.std.specs.List.{prefix_len, range_with_len, suffix_len}
 use Rattle.std.specs.Option.{option_or}
 use Rattle.std.proofs.lemmas.Bool.{false≢true}
 use Rattle.std.proofs.lemmas.Bool.Decides.{nat_tests}
-use Rattle.std.proofs.lemmas.List.{append-nil, drop_at}
+use Rattle.std.proofs.lemmas.List.{drop_at}
 use Rattle.std.proofs.lemmas.List.FromFn.{length-map-range_with_len}
 use Rattle.std.proofs.lemmas.List.Sums.{prefix_len-drop_yes, suffix_len-take_no, suffix_len-take_yes}
-use Rattle.series_set.specs.Average.{known}
 use Rattle.series_funcs.specs.Shaped.{at, fill_at, gap_before, gap_from, is_short, kept_at, last_known}
-use Rattle.series_funcs.proofs.BackLemmas.{known_next, last_next}
+use Rattle.series_funcs.proofs.BackLemmas.{last_next}
 use Rattle.series_funcs.proofs.PlaceByPlace.{Placed, placed_more}
 
 -- before a place: the last known value, whether a gap has begun, and what it takes then

@@ -1,11 +1,11 @@
 -- Series over series.
-use Rattle.std.proofs.Common.{◌≡◌, ℕ, ◌+◌, ◌*◌, ◌<◌, ◌≤◌, true, All, None, Option, ℤ, get_or, Ok, subst, List, [], ◌∷◌, ◌++◌, length, map, refl, sym, ap, ◌∙◌, arith}
+use Rattle.std.proofs.Common.{◌≡◌, ℕ, ◌+◌, ◌*◌, ◌<◌, ◌≤◌, true, All, None, Option, ℤ, get_or, Ok, subst, List, [], ◌∷◌, ◌++◌, length, map, refl, sym, ap, arith}
 use Rattle.std.specs.List.{range_with_len}
 use Rattle.std.proofs.lemmas.List.{length-map}
 use Rattle.std.proofs.lemmas.List.Elements.{All-cons, All-get_or, All-head, All-map, All-nil, All-tail}
 use Rattle.std.proofs.lemmas.List.FromFn.{length-map-range_with_len, map-range_with_len_more}
 use Rattle.series_set.specs.declared.grid.Grid.{Grid}
-use Rattle.series_set.specs.Series.{SeriesValue, end_of, widest_step}
+use Rattle.series_set.specs.Series.{SeriesValue, end_of}
 use Rattle.series_set.specs.CommonGrid.{EndsSoonAfter, IsGrid, common_grid, has_grid, value_count}
 use Rattle.series_set.specs.OnGrid.{on_grid}
 use Rattle.series_set.proofs.GridLemmas.{agrees}

@@ -1,11 +1,11 @@
 -- Shaped values are as many as before.
-use Rattle.std.proofs.Common.{◌≡◌, ℕ, ℤ, ◌+◌, ◌*◌, ◌≤◌, neg_ℤ, List, length, map, Option, Some, None, refl, sym, ap, subst, ◌∙◌, arith}
+use Rattle.std.proofs.Common.{◌≡◌, ℕ, ℤ, ◌*◌, neg_ℤ, List, length, Option, Some, None, refl, ap, ◌∙◌, arith}
 use Rattle.std.specs.Int.{int_min}
-use Rattle.std.specs.List.{range_with_len, reduce}
+use Rattle.std.specs.List.{reduce}
 use Rattle.std.specs.Option.{option_map_or}
 use Rattle.std.proofs.lemmas.List.{length-map}
 use Rattle.std.proofs.lemmas.List.FromFn.{length-map-range_with_len}
-use Rattle.series_set.specs.Series.{IsSeries, SeriesValue, end_of, latest_end, most_values}
+use Rattle.series_set.specs.Series.{IsSeries, SeriesValue}
 use Rattle.series_set.specs.Average.{known}
 use Rattle.series_funcs.specs.declared.changing.Change.{Change}
 use Rattle.series_funcs.specs.declared.changing.Change.TheVariants.{Plus}

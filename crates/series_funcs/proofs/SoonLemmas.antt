@@ -1,16 +1,13 @@
 -- When shaped series end, and their steps.
-use Rattle.std.proofs.Common.{◌≡◌, ℕ, ℤ, ◌+◌, ◌-◌, ◌*◌, ◌/◌, ◌%◌, ◌<◌, ◌≤◌, nat_le, Bool, true, false, List, [], ◌∷◌, length, get_or, map, filter, All, Option, Result, Ok, Err, cond, refl, sym, ap, subst, ◌∙◌, arith}
-use Rattle.std.specs.Int.{next_multiple_of}
-use Rattle.std.specs.List.{range_with_len}
+use Rattle.std.proofs.Common.{◌≡◌, ℕ, ◌+◌, ◌-◌, ◌*◌, ◌≤◌, nat_le, Bool, true, false, List, [], ◌∷◌, get_or, map, filter, All, Result, Ok, Err, cond, refl, sym, ap, subst, arith}
 use Rattle.std.specs.Result.{result_map_both}
 use Rattle.std.proofs.lemmas.List.Elements.{All-cons, All-filter, All-head, All-map, All-nil, All-tail, All-weaker}
 use Rattle.std.proofs.lemmas.List.FromFn.{length-map-range_with_len}
 use Rattle.std.proofs.lemmas.Nat.{div-add-mod'}
 use Rattle.series_set.specs.declared.grid.Grid.{Grid}
-use Rattle.series_set.specs.declared.grid.EvalFault.{EvalFault}
 use Rattle.series_set.specs.declared.grid.EvalFault.TheVariants.{TooLong}
-use Rattle.series_set.specs.Series.{SeriesValue, end_of, most_values, widest_step}
-use Rattle.series_set.specs.CommonGrid.{short_grid, value_count, widened}
+use Rattle.series_set.specs.Series.{SeriesValue, end_of, most_values}
+use Rattle.series_set.specs.CommonGrid.{value_count}
 use Rattle.series_set.proofs.GridLemmas.{next_is, widened_is}
 use Rattle.series_funcs.specs.declared.kinds.Gather.{Gather}
 use Rattle.series_funcs.specs.declared.kinds.Shape.{Shape}

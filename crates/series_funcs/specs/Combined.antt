@@ -1,5 +1,5 @@
 -- What series have together, moment by moment.
-use Rattle.std.specs.Prelude.{ℕ, ℤ, ◌-ℤ◌, ◌-◌, ◌≤◌, ◌==◌, List, [], ◌∷◌, All, length, map, Option, Some, None, Result, Ok, Err, if◌then◌else◌}
+use Rattle.std.specs.Prelude.{ℕ, ℤ, ◌-ℤ◌, ◌-◌, ◌≤◌, ◌==◌, List, [], ◌∷◌, All, length, map, Option, Some, None, Result, Ok, if◌then◌else◌}
 use Rattle.std.specs.List.{fold, range_with_len, slice_index_or}
 use Rattle.std.specs.Option.{option_and_then}
 use Rattle.std.specs.Result.{result_map_both}

@@ -1,5 +1,5 @@
 -- The functions that move a series to other moments, and all functions of each series by itself.
-use Rattle.std.specs.Prelude.{ℕ, ◌+◌, ◌-◌, ◌*◌, ◌≤◌, ℤ, Bool, ◌||◌, nat_le, List, All, filter, map, Option, Result, Ok, Err, if◌then◌else◌, ⊤}
+use Rattle.std.specs.Prelude.{ℕ, ◌+◌, ◌-◌, ◌*◌, ◌≤◌, ℤ, Bool, ◌||◌, nat_le, List, All, filter, map, Option, Result, Ok, if◌then◌else◌, ⊤}
 use Rattle.std.specs.List.{range_with_len}
 use Rattle.std.specs.Result.{result_map_both}
 use Rattle.ring_format.specs.declared.archive.Method.{Method}

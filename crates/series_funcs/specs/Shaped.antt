@@ -1,5 +1,5 @@
 -- What the functions of one series make of its values.
-use Rattle.std.specs.Prelude.{ℕ, ◌+◌, ◌-◌, ◌^◌, ℤ, pos, neg_ℤ, ◌+ℤ◌, ◌-ℤ◌, ◌*ℤ◌, unsigned_abs, int_lt, Bool, true, false, not, nat_lt, nat_le, List, [], ◌∷◌, length, map, take, drop, Option, Some, None, is_none, is_some, if◌then◌else◌, ⊤, ◌<◌}
+use Rattle.std.specs.Prelude.{ℕ, ◌+◌, ◌-◌, ◌^◌, ℤ, pos, neg_ℤ, ◌+ℤ◌, ◌-ℤ◌, ◌*ℤ◌, unsigned_abs, int_lt, Bool, true, false, not, nat_lt, nat_le, List, ◌∷◌, length, map, take, drop, Option, Some, None, is_none, is_some, if◌then◌else◌, ⊤, ◌<◌}
 use Rattle.std.specs.Int.{int_min}
 use Rattle.std.specs.List.{last_or, prefix_len, range_with_len, reduce, slice_index_or, suffix_len}
 use Rattle.std.specs.Ordering.{int_eq}

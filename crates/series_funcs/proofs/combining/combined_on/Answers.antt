@@ -1,8 +1,7 @@
-use Rattle.std.proofs.Common.{◌≡◌, length, ap, ◌∙◌}
-use Rattle.std.proofs.lemmas.List.FromFn.{length-map-range_with_len}
+use Rattle.std.proofs.Common.{length, ap, ◌∙◌}
 use Rattle.series_set.specs.CommonGrid.{value_count}
 use Rattle.series_set.proofs.PlaceLemmas.{gridded_is}
-use Rattle.series_funcs.specs.Combined.{all_on, combined_columns}
+use Rattle.series_funcs.specs.Combined.{all_on}
 use Rattle.series_funcs.proofs.ColumnLemmas.{length-combined_columns}
 use Rattle.series_funcs.proofs.combining.combined_on.Goals as goal
 

@@ -1,4 +1,4 @@
-use Rattle.std.proofs.Common.{◌≡◌, ℤ, Option, None, Some, pos, get_or, FitsSigned, w64, to_z, fold, take, refl, ap, sym, ◌∙◌, rules}
+use Rattle.std.proofs.Common.{◌≡◌, Some, pos, get_or, FitsSigned, w64, to_z, fold, take, ◌∙◌, rules}
 use Rattle.std.proofs.lemmas.Int.{to_z-of_z}
 use Rattle.series_funcs.specs.Combined.{times_next}
 use Rattle.series_funcs.proofs.ColumnLemmas.{product_stops}

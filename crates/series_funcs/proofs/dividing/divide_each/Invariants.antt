@@ -1,4 +1,4 @@
-use Rattle.std.proofs.Common.{◌≡◌, Ok, All, List, [], ◌∷◌, ◌++◌, take}
+use Rattle.std.proofs.Common.{◌≡◌, Ok, All, [], ◌∷◌, ◌++◌, take}
 use Rattle.series_funcs.specs.Combined.{IsSoonAfter}
 use Rattle.series_funcs.specs.Divided.{divided}
 use Rattle.series_funcs.specs.Each.{each_of}

@@ -1,8 +1,7 @@
-use Rattle.std.proofs.Common.{◌≡◌, ◌<◌, ◌+◌, ◌^◌, ℤ, length, None, Some, Option, FitsSigned, w64, to_z, sym, ap, subst, ◌∙◌, arith, rules}
+use Rattle.std.proofs.Common.{◌≡◌, ◌<◌, ◌+◌, ◌^◌, length, None, Some, FitsSigned, w64, to_z, sym, subst, ◌∙◌, arith, rules}
 use Rattle.std.specs.Int.{w128}
 use Rattle.std.proofs.lemmas.Int.{to_z-of_z}
 use Rattle.series_set.proofs.SumLemmas.{sum_added}
-use Rattle.series_funcs.specs.Quotients.{fitting}
 use Rattle.series_funcs.specs.Shaped.{at, integral_at}
 use Rattle.series_funcs.proofs.BackLemmas.{SumsUpTo, integral_known, integral_missing, read_next, sums_known, sums_missing}
 use Rattle.series_funcs.proofs.PlaceByPlace.{placed_kept, placed_more}

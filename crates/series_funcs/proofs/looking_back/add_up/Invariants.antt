@@ -1,4 +1,3 @@
-use Rattle.std.proofs.Common.{◌≡◌, take}
 use Rattle.series_funcs.specs.Shaped.{integral_at}
 use Rattle.series_funcs.proofs.PlaceByPlace.{Placed}
 use Rattle.series_funcs.proofs.BackLemmas.{SumsUpTo}

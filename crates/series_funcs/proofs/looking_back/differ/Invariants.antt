@@ -1,4 +1,4 @@
-use Rattle.std.proofs.Common.{◌≡◌, take}
+use Rattle.std.proofs.Common.{◌≡◌}
 use Rattle.series_funcs.specs.Shaped.{before, derivative_at}
 use Rattle.series_funcs.proofs.PlaceByPlace.{Placed}
 use Rattle.series_funcs.proofs.looking_back.differ.Given as goal

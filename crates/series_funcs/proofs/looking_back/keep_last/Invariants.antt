@@ -1,4 +1,3 @@
-use Rattle.std.proofs.Common.{◌≡◌, take}
 use Rattle.series_funcs.specs.Shaped.{kept_at}
 use Rattle.series_funcs.proofs.GapLemmas.{Fills}
 use Rattle.series_funcs.proofs.PlaceByPlace.{Placed}

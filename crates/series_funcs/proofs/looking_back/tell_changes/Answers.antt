@@ -1,4 +1,4 @@
-use Rattle.std.proofs.Common.{◌<◌, ℤ, length, None, Some, Option, FitsSigned, w64, ap, ap₂, ◌∙◌, rules}
+use Rattle.std.proofs.Common.{◌<◌, ℤ, length, None, Some, FitsSigned, w64, ap, ap₂, ◌∙◌, rules}
 use Rattle.std.specs.Option.{option_or}
 use Rattle.std.proofs.lemmas.Int.{to_z-of_z}
 use Rattle.series_funcs.specs.Shaped.{change_at, one_where}

@@ -1,4 +1,4 @@
-use Rattle.std.proofs.Common.{◌≤◌, sym, subst, arith}
+use Rattle.std.proofs.Common.{sym, subst, arith}
 use Rattle.series_set.specs.CommonGrid.{IsWhole}
 use Rattle.series_set.proofs.GridLemmas.{widened_is}
 use Rattle.series_funcs.proofs.summary.summarized.Goals as goal
