@@ -4,6 +4,7 @@ ghost use Rattle.series_set.specs.Series.{end_of};
 
 use super::*;
 use fixed_num::Milli;
+use serde_json::Value;
 use series_set::{Series, SeriesSet};
 use std::alloc::{AllocError, Global};
 use std::process::Abort;
@@ -25,10 +26,33 @@ fn set_of(alloc: Global, parts: &[Part]) -> Result<SeriesSet, AllocError> {
     Ok(set)
 }
 
+// Whether a text reads as a list of objects with these names and as many points.
+fn reads_back(alloc: Global, text: &[u8], parts: &[Part]) -> bool {
+    let Ok(read) = Value::from_slice(alloc, text) else {
+        return false;
+    };
+    let Some(list) = read.as_array() else {
+        return false;
+    };
+    list.len() == parts.len()
+        && list
+            .iter()
+            .zip(parts)
+            .all(|(object, part)| is_series(object, part))
+}
+
+fn is_series(object: &Value, part: &Part) -> bool {
+    let (name, _, _, values) = part;
+    let points = object.get("datapoints").and_then(Value::as_array);
+    object.get("target").and_then(Value::as_str) == Some(*name)
+        && points.map(|points| points.len()) == Some(values.len())
+}
+
 fn assert_json(rt: &impl Abort, alloc: Global, parts: &[Part], want: &str) -> Result<(), Fail> {
     let set = set_of(alloc, parts)?;
     let text = json_text(alloc, &set)?;
     assert!(rt; text.as_slice() == want.as_bytes(), "{want}");
+    assert!(rt; reads_back(alloc, text.as_slice(), parts), "{want}");
     Ok(())
 }
 
