@@ -1,0 +1,4 @@
+pub mod Values
+pub mod Json
+pub mod Raw
+pub mod Csv

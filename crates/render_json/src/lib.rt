@@ -1,0 +1,14 @@
+//! Series as the texts of Graphite's render API. The path of a series is in none of them.
+#![tactic(auto)]
+
+mod csv_form;
+mod json_form;
+mod parts;
+mod raw_form;
+
+pub use csv_form::{LATEST_CSV_END, csv_text};
+pub use json_form::json_text;
+pub use raw_form::raw_text;
+
+#[cfg(test)]
+mod tests;

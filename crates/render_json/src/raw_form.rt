@@ -1,0 +1,88 @@
+//! The raw text of series.
+ghost use Rattle.std.specs.Prelude.{◌≡◌, ◌++◌, IfOk, OnOk, flat_map};
+ghost use Rattle.render_json.specs.Values.{value_or};
+ghost use Rattle.render_json.specs.Raw.{head_text, none_text, number_text, raw_of, series_raw, values_text};
+
+use crate::parts::{NUMBER_ROOM, VALUE_ROOM, push_number, push_separator, push_value};
+use fixed_num::Milli;
+use series_set::{Series, SeriesSet};
+use std::alloc::{AllocError, Global};
+
+/// Series in the raw form: for each a line `name,start,end,step|value,value`, ended by LF, with `None`
+/// for a missing value. The start and the end are seconds since the Unix epoch, the end a step behind
+/// the last value's time. The name is not quoted, so that one with a `,`, a `|` or an LF gives a line
+/// that cannot be cut again. Without series the text is empty.
+pub fn raw_text(alloc: Global, set: &SeriesSet) -> Result<Vec<u8>, AllocError>
+    ensures { IfOk result (λ text. text.items ≡ raw_of set.now) }
+{
+    let mut out = Vec::with_capacity(alloc, room_of(set.as_slice()))?;
+    for series in set.as_slice() {
+        push_series(&mut out, series)?;
+    }
+    Ok(out)
+}
+
+// The most bytes that the text of these series takes.
+fn room_of(set: &[Series]) -> usize {
+    let mut room: usize = 0;
+    for series in set {
+        room = room.saturating_add(series_room(series));
+    }
+    room
+}
+
+fn series_room(series: &Series) -> usize {
+    let values = series.values().len() * (VALUE_ROOM + 1);
+    series
+        .name()
+        .len()
+        .saturating_add(values + 3 * NUMBER_ROOM + 5)
+}
+
+fn push_series(out: &mut Vec<u8>, series: &Series) -> Result<(), AllocError>
+    ensures { OnOk result (out.new.items ≡ out.old.items ++ series_raw series.now) }
+{
+    push_head(out, series)?;
+    push_values(out, series)?;
+    out.push(b'\n')?;
+    Ok(())
+}
+
+fn push_head(out: &mut Vec<u8>, series: &Series) -> Result<(), AllocError>
+    ensures { OnOk result (out.new.items ≡ out.old.items ++ head_text series.now) }
+{
+    out.extend_from_slice(series.name().as_bytes())?;
+    push_next(out, series.start())?;
+    push_next(out, series.end())?;
+    push_next(out, series.step())?;
+    out.push(b'|')?;
+    Ok(())
+}
+
+// A number behind a comma.
+fn push_next(out: &mut Vec<u8>, number: u64) -> Result<(), AllocError>
+    ensures { OnOk result (out.new.items ≡ out.old.items ++ number_text number) }
+{
+    out.push(b',')?;
+    push_number(out, number)
+}
+
+// The values with a comma between each two.
+fn push_values(out: &mut Vec<u8>, series: &Series) -> Result<(), AllocError>
+    ensures { OnOk result (out.new.items ≡ out.old.items ++ values_text series.now) }
+{
+    let mut is_first = true;
+    for value in series.values() {
+        push_separator(out, b",", is_first)?;
+        is_first = false;
+        push_known(out, *value)?;
+    }
+    Ok(())
+}
+
+#[tactic(auto, unfolding(crate::specs::Raw::none_text))]
+fn push_known(out: &mut Vec<u8>, value: Option<Milli>) -> Result<(), AllocError>
+    ensures { OnOk result (out.new.items ≡ out.old.items ++ value_or none_text value) }
+{
+    push_value(out, b"None", value)
+}
