@@ -1,9 +1,9 @@
 -- Series as comma-separated values, as RFC 4180 has them.
-use Rattle.std.specs.Prelude.{ℕ, ℤ, pos, ◌+◌, ◌*◌, ◌/◌, ◌%◌, ◌==◌, ◌≤◌, Bool, ◌&&◌, ◌||◌, nat_le, List, [], ◌∷◌, ◌++◌, flat_map, All, codes, Option, if◌then◌else◌}
+use Rattle.std.specs.Prelude.{ℕ, ℤ, pos, ◌+◌, ◌/◌, ◌%◌, ◌==◌, Bool, ◌&&◌, ◌||◌, nat_le, List, [], ◌∷◌, ◌++◌, flat_map, codes, Option, if◌then◌else◌}
 use Rattle.std.specs.List.{find, list_any, range_with_len}
 use Rattle.std.specs.Option.{unwrap_or}
 use Rattle.jiff_core.specs.Calendar.{day_count, days_in_month}
-use Rattle.series_set.specs.Series.{SeriesValue, end_of}
+use Rattle.series_set.specs.Series.{SeriesValue}
 use Rattle.render_json.specs.Values.{points_of, value_or}
 
 -- ---- names

@@ -1,4 +1,4 @@
-use Rattle.std.proofs.Common.{◌≡◌, ◌≤◌, ◌++◌, drop}
+use Rattle.std.proofs.Common.{◌≡◌, ◌++◌, drop}
 use Rattle.render_json.specs.Csv.{csv_of}
 use Rattle.render_json.proofs.csv_form.csv_text.Given as goal
 

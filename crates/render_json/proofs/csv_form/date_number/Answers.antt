@@ -1,4 +1,4 @@
-use Rattle.std.proofs.Common.{◌≡◌, ℕ, ◌+◌, ◌*◌, ◌∙◌, pos, unsigned_abs, ap, arith, rules}
+use Rattle.std.proofs.Common.{◌≡◌, ◌∙◌, pos, unsigned_abs, ap, arith, rules}
 use Rattle.std.specs.Int.{w16}
 use Rattle.jiff_core.specs.Date.{epoch_day}
 use Rattle.jiff_core.proofs.SignedLemmas.{back_small}
