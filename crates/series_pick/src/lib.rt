@@ -13,3 +13,6 @@ mod sorting;
 pub use choosing::choose;
 pub use kinds::Choose;
 pub use pattern::Pattern;
+
+#[cfg(test)]
+mod tests;
