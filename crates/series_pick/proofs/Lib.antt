@@ -1,0 +1,4 @@
+pub mod MeasureLemmas
+pub mod OrderLemmas
+pub mod NodeLemmas
+pub mod PatternLemmas

@@ -1,0 +1,5 @@
+pub mod Measures
+pub mod Places
+pub mod Nodes
+pub mod Patterns
+pub mod Chosen

@@ -1,0 +1,18 @@
+//! The functions of the render language that choose, order and name series.
+#![tactic(auto)]
+
+mod choosing;
+mod filtering;
+mod kinds;
+mod matching;
+mod measures;
+mod naming;
+mod pattern;
+mod sorting;
+
+pub use choosing::choose;
+pub use kinds::Choose;
+pub use pattern::Pattern;
+
+#[cfg(test)]
+mod tests;

@@ -1,0 +1,81 @@
+//! Patterns, which are searched in names.
+ghost use Rattle.std.specs.Prelude.{◌≡◌, Some, None, IfOk, if◌then◌else◌};
+ghost use Rattle.series_pick.specs.Patterns.{is_found, is_readable};
+
+use regex::{Error, Matcher, Regex};
+use std::alloc::{AllocError, Global};
+use std::marker::Model;
+
+/// A compiled regular expression. Contracts see its text.
+#[derive(Drop)]
+pub struct Pattern {
+    regex: Regex,
+}
+
+impl Model for Pattern {
+    ghost use Rattle.std.specs.Prelude.{◌≡◌, List, ℕ};
+    ghost use Rattle.regex_syntax.specs.Verdict.{default_config};
+    ghost use Rattle.regex.specs.Strings.{regex_source, regex_config, IsReadFromSource};
+
+    ghost Value = { List ℕ };
+
+    ghost view = { λ p. regex_source p.regex };
+
+    ghost invariant = { λ p. IsReadFromSource p.regex × (regex_config p.regex ≡ default_config) };
+}
+
+impl Pattern {
+    /// The pattern with this text: `None` exactly where the text is no regular expression, or nests too
+    /// deeply.
+    pub fn new(alloc: Global, text: &str) -> Result<Option<Pattern>, AllocError>
+        ensures { IfOk result
+            (λ pattern. pattern ≡ (if is_readable text.now then Some text.now else None)) }
+    {
+        match Regex::new(alloc, text) {
+            Ok(regex) => return Ok(Some(Pattern { regex })),
+            Err(Error::Syntax(_)) => return Ok(None),
+            Err(_) => return Err(AllocError),
+        }
+    }
+
+    /// The pattern made ready to be searched in names.
+    pub(crate) fn search(&self, alloc: Global) -> Result<Search<'_>, AllocError>
+        ensures { IfOk result (λ search. search ≡ self.now) }
+    {
+        let matcher = self.regex.matcher(alloc)?;
+        Ok(Search {
+            pattern: self,
+            matcher,
+        })
+    }
+}
+
+/// A pattern that is ready to be searched in names. A search takes no memory that it could want. Contracts
+/// see the pattern's text.
+#[derive(Drop)]
+pub(crate) struct Search<'r> {
+    pattern: &'r Pattern,
+    matcher: Matcher<'r>,
+}
+
+impl<'r> Model for Search<'r> {
+    ghost use Rattle.std.specs.Prelude.{List, ℕ};
+    ghost use Rattle.regex.specs.Strings.{matcher_pattern};
+    ghost use Rattle.series_pick.specs.Patterns.{SearchesFor};
+
+    ghost Value = { List ℕ };
+
+    ghost view = { λ s. s.pattern.now };
+
+    ghost invariant = { λ s. SearchesFor s.pattern.now (matcher_pattern s.matcher) };
+}
+
+impl<'r> Search<'r> {
+    /// Whether the pattern is found in a name.
+    pub(crate) fn is_found(&mut self, name: &str) -> bool
+        ensures found { result ≡ is_found self.old name.now }
+        ensures same { self.new ≡ self.old }
+    {
+        self.matcher.is_match(name)
+    }
+}
