@@ -2,7 +2,7 @@
 use Rattle.std.specs.Prelude.{◌≡◌, ℕ, ◌+◌, Bool, true, List, None}
 use Rattle.ring_format.specs.Layout.{LayoutValue, layout_fault}
 use Rattle.metric_table.specs.declared.known.Known.{Known}
-use Rattle.metric_table.specs.declared.found.FoundMetric.{FoundMetric}
+use Rattle.metric_table.specs.declared.found_metric.FoundMetric.{FoundMetric}
 
 -- a metric that was just put into the table
 abbrev pub undrained : LayoutValue → Bool → Known
@@ -18,4 +18,4 @@ IsLawful known = layout_fault known.layout.archives known.layout.factor ≡ None
 
 -- what a found metric says
 abbrev pub seen : FoundMetric → List ℕ × Known
-seen found = (found.path.now, found.known)
+seen found = (found.path.now, record { layout = found.layout.now; is_kept = found.is_kept; drains = found.drains })

@@ -40,13 +40,21 @@ impl LayoutList {
         }
     }
 
+    /// The layout with a number.
+    pub(crate) fn get(&self, number: u32) -> &Layout
+        requires { number < length self.now }
+        ensures { slice_get self.now number ≡ Some result.now }
+    {
+        &self.items[number as usize]
+    }
+
     /// What an entry says.
     pub(crate) fn known_by(&self, entry: Entry) -> Known
         requires { entry.layout < length self.now }
         ensures value { result ≡ known_by self.now entry }
         ensures lawful { IsLawful result }
     {
-        let layout = self.items[entry.layout as usize];
+        let layout = *self.get(entry.layout);
         // A layout tells that it is lawful.
         let _ = layout.archive_count();
         Known {

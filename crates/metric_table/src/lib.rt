@@ -7,11 +7,12 @@
 
 mod entry;
 mod found;
+mod found_metric;
 mod known;
 mod layout_list;
 mod table;
 
-pub use found::FoundMetric;
+pub use found_metric::FoundMetric;
 pub use known::Known;
 pub use table::MetricTable;
 

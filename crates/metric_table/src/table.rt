@@ -2,10 +2,11 @@
 ghost use Rattle.std.specs.Prelude.{◌≡◌};
 
 use crate::entry::Entry;
-use crate::found::FoundMetric;
+use crate::found::metrics_of;
+use crate::found_metric::FoundMetric;
 use crate::known::Known;
 use crate::layout_list::LayoutList;
-use metric_index::{Hit, Index};
+use metric_index::Index;
 use metric_path::MetricPath;
 use path_glob::Glob;
 use ring_format::Layout;
@@ -81,6 +82,8 @@ impl MetricTable {
         ensures ok { OnOk result (Sets self.old self.new path (Some (undrained layout is_kept))) }
         ensures err { OnErr result (self.new ≡ self.old) }
     {
+        // Each path is there once, so that no entry is hidden where the index stays as it is.
+        let _ = self.index.len();
         let number = self.layouts.number_of(layout)?;
         let entry = Entry {
             layout: number,
@@ -118,12 +121,7 @@ impl MetricTable {
         ensures { IfOk result (λ found. Finds self.now (IsFitted glob.now) (map seen found.items)) }
     {
         let hits = self.index.find(alloc, glob)?;
-        let mut found = Vec::with_capacity(alloc, hits.len())?;
-        for Hit { path, entry } in hits {
-            let known = self.layouts.known_by(*entry);
-            found.push(FoundMetric { path, known })?;
-        }
-        Ok(found)
+        metrics_of(alloc, &self.layouts, &hits)
     }
 
     /// The paths of all known metrics, in byte order.
