@@ -1,16 +1,20 @@
 -- What is known by number, in the words of the index.
-use Rattle.std.proofs.Common.{◌≡◌, ◌≢◌, ℕ, ◌+◌, ◌<◌, ◌≤◌, ◌++◌, Bool, true, false, List, [], ◌∷◌, length, get_or, map, All, Option, Some, None, Result, Ok, Err, OnOk, OnErr, IfSome, option_map, subst, refl, sym, ap, ◌∙◌, arith, append-nil, length-append, slice_get, MatchOption, AllWithin, HoldsAt, Unit}
+use Rattle.std.proofs.Common.{◌≡◌, ◌≢◌, ℕ, ◌+◌, ◌<◌, ◌≤◌, ◌++◌, suc, Bool, true, false, List, [], ◌∷◌, length, get_or, map, take, All, Option, Some, None, Result, Ok, Err, OnOk, OnErr, IfSome, option_map, subst, refl, sym, ap, ◌∙◌, arith, append-nil, length-append, slice_get, MatchOption, HoldsAt, Contains}
 use Rattle.std.specs.Cmp.Lexicographic.{slice_cmp}
+use Rattle.std.specs.List.{AllWithin}
 use Rattle.std.specs.List.Sorted.{IsStrictlySortedBy}
-use Rattle.std.specs.Option.{IsSomeAnd}
+use Rattle.std.specs.Option.{IsSome}
 use Rattle.std.specs.Ordering.{nat_cmp}
 use Rattle.std.specs.Str.{bytes_eq}
-use Rattle.std.proofs.lemmas.Option.{slice_get-get_or}
-use Rattle.std.proofs.lemmas.List.{get_or_append_left}
-use Rattle.std.proofs.lemmas.List.Elements.{All-contains_itself, All-head, All-tail}
+use Rattle.std.proofs.Math.Seq.{take-suc}
+use Rattle.std.proofs.lemmas.Option.{get_or_from_slice_get, slice_get-get_or}
+use Rattle.std.proofs.lemmas.List.{get_or-map, get_or_append_left, length-map, map-append}
+use Rattle.std.proofs.lemmas.List.Elements.{All-contains_itself, All-head, All-map, All-tail}
 use Rattle.std.proofs.lemmas.Map.Made.{keys_of-map_values, lookup-map_values}
 use Rattle.std.proofs.lemmas.Slice.Eq.{bytes_eq-Decides}
 use Rattle.ring_format.specs.Layout.{LayoutValue}
+use Rattle.metric_index.specs.Found.{Finds, seen as hit_seen}
+use Rattle.metric_index.specs.declared.hit.Hit.{Hit}
 use Rattle.metric_index.specs.Index.{Sets, entry_of, paths_of}
 use Rattle.metric_index.proofs.FindLemmas.{own_entry}
 use Rattle.metric_table.specs.Numbered.{HaveLayouts, KeepsNumbers, known_by, known_by_all, no_layout}
@@ -91,8 +95,12 @@ same_all layouts now (e ∷ es) same =
 has_layout : (layouts : List LayoutValue) (index : List (List ℕ × Entry)) (e : List ℕ × Entry) → HaveLayouts layouts index → entry_of index e.0 ≡ Some e.1 → e.1.layout < length layouts
 has_layout layouts index e have own = subst (λ (o : Option Entry). IfSome o (λ x. x.layout < length layouts)) own (have e.0)
 
-pub all_have : (layouts : List LayoutValue) (index hits : List (List ℕ × Entry)) → HaveLayouts layouts index → All (λ e. entry_of index e.0 ≡ Some e.1) hits → All (λ e. e.1.layout < length layouts) hits
-all_have layouts index hits have own k d within = has_layout layouts index (get_or hits k d) have (own k d within)
+pub hits_have : (layouts : List LayoutValue) (index : List (List ℕ × Entry)) (hits : List (Hit Entry)) → HaveLayouts layouts index → All (λ e. entry_of index e.0 ≡ Some e.1) (map hit_seen hits)
+    → All (λ hit. hit.entry.now.layout < length layouts) hits
+hits_have layouts index hits have own k d within =
+    let there : k < length (map hit_seen hits) = omega (arith, within, length-map hits hit_seen) in
+    has_layout layouts index (hit_seen (get_or hits k d)) have
+    (subst (λ (e : List ℕ × Entry). entry_of index e.0 ≡ Some e.1) (get_or-map hit_seen hits k d (hit_seen d) within) (own k (hit_seen d) there))
 
 pub same_shown : (layouts now : List LayoutValue) (index : List (List ℕ × Entry)) → IsStrictlySortedBy (slice_cmp nat_cmp) (paths_of index) → HaveLayouts layouts index → KeepsNumbers layouts now
     → known_by_all now index ≡ known_by_all layouts index
@@ -100,6 +108,49 @@ same_shown layouts now index rising have keeps =
     same_all layouts now index (λ k d within.
     let e = get_or index k d in
     known_later layouts now e.1 keeps (has_layout layouts index e have (own_entry index e rising (All-contains_itself index k d within))))
+
+-- ---- what a search finds
+
+some_shown : (layouts : List LayoutValue) (found : Option Entry) → IsSome found → IsSome (option_map (known_by layouts) found)
+some_shown layouts None some = absurd cc
+some_shown layouts (Some entry) some = refl
+
+some_before : (layouts : List LayoutValue) (found : Option Entry) → IsSome (option_map (known_by layouts) found) → IsSome found
+some_before layouts None some = absurd cc
+some_before layouts (Some entry) some = refl
+
+pub finds_shown : (layouts : List LayoutValue) (index hits : List (List ℕ × Entry)) (table found : List (List ℕ × Known)) (fits : List ℕ → Type 0) → known_by_all layouts index ≡ table → Finds index fits hits
+    → found ≡ known_by_all layouts hits → Finds table fits found
+finds_shown layouts index hits table found fits is finds same =
+    let paths = shown_paths layouts hits found (sym same) in
+    record {
+      in_order = subst (λ (l : List (List ℕ)). IsStrictlySortedBy (slice_cmp nat_cmp) l) paths finds.in_order;
+      found = λ path.
+          let shown = shown_entry layouts index table path (entry_of index path) is refl in
+          (
+            λ within. let both = (finds.found path).0 (subst (λ (l : List (List ℕ)). Contains l path) (sym paths) within) in
+                (both.0, subst (λ (o : Option Known). IsSome o) (sym shown) (some_shown layouts (entry_of index path) both.1)),
+            λ both. subst (λ (l : List (List ℕ)). Contains l path) paths
+                ((finds.found path).1 (both.0, some_before layouts (entry_of index path) (subst (λ (o : Option Known). IsSome o) shown both.1))),
+          );
+      entries = subst (λ (l : List (List ℕ × Known)). All (λ hit. entry_of table hit.0 ≡ Some hit.1) l) (sym same)
+          (All-map (λ (hit : List ℕ × Known). entry_of table hit.0 ≡ Some hit.1) (λ (e : List ℕ × Entry). (e.0, known_by layouts e.1)) hits
+          (λ k d within. shown_entry layouts index table (get_or hits k d).0 (Some (get_or hits k d).1) is (finds.entries k d within)));
+    }
+
+-- what is known of one hit more
+pub one_more : (layouts : List LayoutValue) (hits : List (Hit Entry)) (found : List (List ℕ × Known)) (k : ℕ) (hit : Hit Entry) (layout : LayoutValue) → found ≡ known_by_all layouts (map hit_seen (take k hits))
+    → k < length hits → hit ≡ get_or hits k hit → slice_get layouts hit.entry.now.layout ≡ Some layout
+    → found ++ (hit.path.now, record { layout = layout; is_kept = hit.entry.now.is_kept; drains = hit.entry.now.drains }) ∷ [] ≡ known_by_all layouts (map hit_seen (take (suc k) hits))
+one_more layouts hits found k hit layout same within is here =
+    let known : List ℕ × Entry → List ℕ × Known = λ e. (e.0, known_by layouts e.1) in
+    let next : known_with layout hit.entry.now ≡ known_by layouts hit.entry.now = ap (λ (l : LayoutValue). known_with l hit.entry.now) (sym (get_or_from_slice_get layouts hit.entry.now.layout layout no_layout here)) in
+    let more : take (suc k) hits ≡ take k hits ++ hit ∷ [] = take-suc hits k hit within ∙ ap (λ (h : Hit Entry). take k hits ++ h ∷ []) (sym is) in
+    ap (λ (l : List (List ℕ × Known)). l ++ (hit.path.now, known_with layout hit.entry.now) ∷ []) same
+    ∙ ap (λ (x : Known). known_by_all layouts (map hit_seen (take k hits)) ++ (hit.path.now, x) ∷ []) next
+    ∙ sym (map-append known (map hit_seen (take k hits)) (hit_seen hit ∷ []))
+    ∙ ap (known_by_all layouts) (sym (map-append hit_seen (take k hits) (hit ∷ [])))
+    ∙ ap (λ (l : List (Hit Entry)). known_by_all layouts (map hit_seen l)) (sym more)
 
 -- ---- by the result of an insertion
 
@@ -118,6 +169,9 @@ module _ {X E : Type 0} (layouts now : List LayoutValue) (old new : List (List �
   refused_shown (Err _) rising same = ap (λ (l : List (List ℕ × Entry)). known_by_all now l) same ∙ same_shown layouts now old rising have keeps ∙ is
 
 -- ---- where a layout stands
+
+pub same_parts : (a b : LayoutValue) → a.archives ≡ b.archives → a.method ≡ b.method → a.factor ≡ b.factor → a ≡ b
+same_parts a b archives method factor = λ i. record { archives = archives i; method = method i; factor = factor i }
 
 pub first_is : (layouts : List LayoutValue) (layout : LayoutValue) (r : Option ℕ)
     → MatchOption r (AllWithin (λ y. Unit) layouts 0 (length layouts)) (λ i. (i < length layouts) × HoldsAt (λ y. y ≡ layout) layouts i × AllWithin (λ y. Unit) layouts 0 i)

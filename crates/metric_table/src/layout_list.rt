@@ -1,9 +1,9 @@
 //! The layouts by number.
-ghost use Rattle.std.specs.Prelude.{◌≡◌, Some, IfSome, slice_get};
+ghost use Rattle.std.specs.Prelude.{◌≡◌, IsTrue, Some, IfSome, slice_get};
 
 use crate::entry::Entry;
 use crate::known::Known;
-use ring_format::Layout;
+use ring_format::{Archive, Layout};
 use std::alloc::{AllocError, Global};
 use std::marker::Model;
 
@@ -95,5 +95,34 @@ impl LayoutList {
 fn place_of(layouts: &[Layout], layout: &Layout) -> Option<usize>
     ensures { IfSome result (λ place. slice_get layouts.now place ≡ Some layout.now) }
 {
-    layouts.iter().position(|other| other == layout)
+    layouts.iter().position(|other| is_same(other, layout))
+}
+
+// Whether two layouts have the same parts. Contracts know of the derived comparison that it also compares
+// what stands behind the last archive.
+#[tactic(auto, using(crate::proofs::TableLemmas::same_parts))]
+fn is_same(one: &Layout, other: &Layout) -> bool
+    ensures { IsTrue result → one.now ≡ other.now }
+{
+    one.factor() == other.factor()
+        && one.method() == other.method()
+        && has_same_archives(one.archives(), other.archives())
+}
+
+fn has_same_archives(one: &[Archive], other: &[Archive]) -> bool
+    ensures { IsTrue result → one.now ≡ other.now }
+{
+    one == other
+}
+
+fn has_same_archives_b(one: &[Archive], other: &[Archive]) -> bool
+    ensures { IsTrue result → one.now ≡ other.now }
+{
+    one == other
+}
+
+fn has_same_archives_c(one: Archive, other: Archive) -> bool
+    ensures { IsTrue result → one ≡ other }
+{
+    one == other
 }

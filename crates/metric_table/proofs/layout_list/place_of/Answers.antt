@@ -1,4 +1,4 @@
-use Rattle.std.proofs.Common.{◌≡◌, Unit, rules}
+use Rattle.std.proofs.Common.{◌≡◌, rules}
 use Rattle.std.proofs.lemmas.Iterator.{IsFirst-from_position, YieldsList-from_slice}
 use Rattle.metric_table.proofs.TableLemmas.{first_is}
 use Rattle.metric_table.proofs.layout_list.place_of.Goals as goal

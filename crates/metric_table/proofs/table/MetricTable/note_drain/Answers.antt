@@ -1,4 +1,4 @@
-use Rattle.std.proofs.Common.{◌≡◌, ◌<◌, ◌-◌, ◌^◌, Option, None, Some, IfSome, length, option_map, subst, sym, ap, ◌∙◌, arith}
+use Rattle.std.proofs.Common.{◌<◌, ◌-◌, ◌^◌, Option, None, Some, IfSome, length, option_map, subst, sym, ap, ◌∙◌, arith}
 use Rattle.std.specs.Option.{IsSomeAnd, option_copied}
 use Rattle.metric_index.specs.Index.{entry_of}
 use Rattle.metric_table.specs.Table.{drained}
