@@ -1,5 +1,5 @@
 -- What is known by number, in the words of the index.
-use Rattle.std.proofs.Common.{◌≡◌, ◌≢◌, ℕ, ◌+◌, ◌<◌, ◌≤◌, ◌++◌, suc, Bool, true, false, List, [], ◌∷◌, length, get_or, map, take, All, Option, Some, None, Result, Ok, Err, OnOk, OnErr, IfSome, option_map, subst, refl, sym, ap, ◌∙◌, arith, append-nil, length-append, slice_get, MatchOption, HoldsAt, Contains}
+use Rattle.std.proofs.Common.{◌≡◌, ℕ, ◌+◌, ◌<◌, ◌++◌, suc, Bool, true, false, List, [], ◌∷◌, length, get_or, map, take, All, Option, Some, None, Result, Ok, Err, OnOk, OnErr, IfSome, option_map, subst, refl, sym, ap, ◌∙◌, arith, append-nil, length-append, slice_get, MatchOption, HoldsAt, Contains}
 use Rattle.std.specs.Cmp.Lexicographic.{slice_cmp}
 use Rattle.std.specs.List.{AllWithin}
 use Rattle.std.specs.List.Sorted.{IsStrictlySortedBy}
@@ -126,8 +126,7 @@ finds_shown layouts index hits table found fits is finds same =
     record {
       in_order = subst (λ (l : List (List ℕ)). IsStrictlySortedBy (slice_cmp nat_cmp) l) paths finds.in_order;
       found = λ path.
-          let shown = shown_entry layouts index table path (entry_of index path) is refl in
-          (
+          let shown = shown_entry layouts index table path (entry_of index path) is refl in (
             λ within. let both = (finds.found path).0 (subst (λ (l : List (List ℕ)). Contains l path) (sym paths) within) in
                 (both.0, subst (λ (o : Option Known). IsSome o) (sym shown) (some_shown layouts (entry_of index path) both.1)),
             λ both. subst (λ (l : List (List ℕ)). Contains l path) paths
@@ -141,11 +140,12 @@ finds_shown layouts index hits table found fits is finds same =
 -- what is known of one hit more
 pub one_more : (layouts : List LayoutValue) (hits : List (Hit Entry)) (found : List (List ℕ × Known)) (k : ℕ) (hit : Hit Entry) (layout : LayoutValue) → found ≡ known_by_all layouts (map hit_seen (take k hits))
     → k < length hits → hit ≡ get_or hits k hit → slice_get layouts hit.entry.now.layout ≡ Some layout
-    → found ++ (hit.path.now, record { layout = layout; is_kept = hit.entry.now.is_kept; drains = hit.entry.now.drains }) ∷ [] ≡ known_by_all layouts (map hit_seen (take (suc k) hits))
+    → found ++ (hit.path.now, record { layout = layout; is_kept = hit.entry.now.is_kept; drains = hit.entry.now.drains }) ∷ [] ≡ known_by_all layouts (map hit_seen (take (k + 1) hits))
 one_more layouts hits found k hit layout same within is here =
     let known : List ℕ × Entry → List ℕ × Known = λ e. (e.0, known_by layouts e.1) in
     let next : known_with layout hit.entry.now ≡ known_by layouts hit.entry.now = ap (λ (l : LayoutValue). known_with l hit.entry.now) (sym (get_or_from_slice_get layouts hit.entry.now.layout layout no_layout here)) in
-    let more : take (suc k) hits ≡ take k hits ++ hit ∷ [] = take-suc hits k hit within ∙ ap (λ (h : Hit Entry). take k hits ++ h ∷ []) (sym is) in
+    let later : k + 1 ≡ suc k = omega arith in
+    let more : take (k + 1) hits ≡ take k hits ++ hit ∷ [] = ap (λ (n : ℕ). take n hits) later ∙ take-suc hits k hit within ∙ ap (λ (h : Hit Entry). take k hits ++ h ∷ []) (sym is) in
     ap (λ (l : List (List ℕ × Known)). l ++ (hit.path.now, known_with layout hit.entry.now) ∷ []) same
     ∙ ap (λ (x : Known). known_by_all layouts (map hit_seen (take k hits)) ++ (hit.path.now, x) ∷ []) next
     ∙ sym (map-append known (map hit_seen (take k hits)) (hit_seen hit ∷ []))

@@ -1,7 +1,6 @@
 -- How a table keeps what it knows: the layouts in a list, and for each path the number of one.
 use Rattle.std.specs.Prelude.{◌≡◌, ℕ, ◌<◌, ◌++◌, List, [], length, get_or, map, IfSome}
 use Rattle.ring_format.specs.Layout.{LayoutValue}
-use Rattle.ring_format.specs.declared.archive.Method.{Method}
 use Rattle.ring_format.specs.declared.archive.Method.TheVariants.{Average}
 use Rattle.metric_index.specs.Index.{entry_of}
 use Rattle.metric_table.specs.declared.entry.Entry.{Entry}

@@ -109,20 +109,9 @@ fn is_same(one: &Layout, other: &Layout) -> bool
         && has_same_archives(one.archives(), other.archives())
 }
 
+// Whether two lists of archives are one.
 fn has_same_archives(one: &[Archive], other: &[Archive]) -> bool
     ensures { IsTrue result → one.now ≡ other.now }
-{
-    one == other
-}
-
-fn has_same_archives_b(one: &[Archive], other: &[Archive]) -> bool
-    ensures { IsTrue result → one.now ≡ other.now }
-{
-    one == other
-}
-
-fn has_same_archives_c(one: Archive, other: Archive) -> bool
-    ensures { IsTrue result → one ≡ other }
 {
     one == other
 }

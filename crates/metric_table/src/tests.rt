@@ -45,7 +45,9 @@ fn assert_known(
 ) -> Result<(), Fail> {
     let layout = layout_of(step)?;
     let known = table.get(path);
-    assert!(rt; known.is_some_and(|k| k.layout == layout && k.is_kept == is_kept && k.drains == drains));
+    assert!(rt;
+        known.is_some_and(|k| k.layout == layout && k.is_kept == is_kept && k.drains == drains)
+    );
     Ok(())
 }
 
