@@ -74,7 +74,7 @@ known_of es path within = subst (λ (o : Option _). IsSome o) (by_bytes path es)
 of_known : {V : Type 0} (es : List (List ℕ × V)) (path : List ℕ) → IsSome (entry_of es path) → Contains (paths_of es) path
 of_known es path known = Contains-keys_from_lookup (tells_apart exact_bytes) path es (subst (λ (o : Option _). IsSome o) (sym (by_bytes path es)) known)
 
-own_entry : {V : Type 0} (es : List (List ℕ × V)) (e : List ℕ × V) → IsStrictlySortedBy order (paths_of es) → Contains es e → entry_of es e.0 ≡ Some e.1
+pub own_entry : {V : Type 0} (es : List (List ℕ × V)) (e : List ℕ × V) → IsStrictlySortedBy order (paths_of es) → Contains es e → entry_of es e.0 ≡ Some e.1
 own_entry es e rising within =
     sym (by_bytes e.0 es) ∙ lookup-from_Contains (eq_by_cmp_equiv nat_list_cmp_total) e.0 e.1 es (IsDistinct-from_sorted order (paths_of es) rising) within
 

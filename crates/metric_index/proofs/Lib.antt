@@ -1,5 +1,5 @@
-mod FindLemmas
+pub mod FindLemmas
 mod FrontLemmas
-mod IndexLemmas
+pub mod IndexLemmas
 mod LiteralLemmas
 mod WalkLemmas

@@ -91,6 +91,17 @@ impl<V: Drop> Index<V> {
         self.entries.remove(path);
     }
 
+    /// All known paths, in byte order.
+    pub fn paths(&self, alloc: Global) -> Result<Vec<MetricPath>, AllocError>
+        ensures { IfOk result (λ paths. paths.items ≡ paths_of self.now) }
+    {
+        let mut paths = Vec::with_capacity(alloc, self.entries.len())?;
+        for path in self.entries.keys() {
+            paths.push(path.copy()?)?;
+        }
+        Ok(paths)
+    }
+
     /// The known paths that a glob fits, in byte order, each once and with its entry. Only paths that begin
     /// with the glob's literal front are looked at, and a glob without a wildcard is one look-up.
     pub fn find(&self, alloc: Global, glob: &Glob) -> Result<Vec<Hit<'_, V>>, AllocError>
