@@ -96,7 +96,8 @@ impl MetricTable {
     /// Notes one more drain of a known metric, of which something is kept from then on. No memory is taken.
     pub fn note_drain(&mut self, path: &MetricPath)
         requires { IsSomeAnd (entry_of self.old path.now) (λ known. known.drains < 2 ^ 64 - 1) }
-        ensures { Sets self.old self.new path.now (option_map drained (entry_of self.old path.now)) }
+        ensures { Sets self.old self.new path.now
+            (option_map drained (entry_of self.old path.now)) }
     {
         let Some(entry) = self.index.get(path) else {
             unreachable!()
