@@ -9,3 +9,4 @@ pub mod SummaryLemmas
 pub mod SoonLemmas
 pub mod QuotientLemmas
 pub mod NodeLemmas
+pub mod GroupedLemmas

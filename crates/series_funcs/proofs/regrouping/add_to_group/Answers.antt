@@ -1,0 +1,16 @@
+use Rattle.std.proofs.Common.{◌≡◌, sym, ap, ◌∙◌}
+use Rattle.std.specs.Map.{set_value}
+use Rattle.std.specs.Option.{option_copied_mut}
+use Rattle.std.specs.Str.{bytes_eq}
+use Rattle.series_funcs.proofs.GroupedLemmas.{begun, grown}
+use Rattle.series_funcs.proofs.regrouping.add_to_group.Goals as goal
+
+pub returns-in-Some : goal.returns-in-Some
+returns-in-Some c = λ of set is so_far.
+    let found = sym c.get_mut.ensures.value ∙ ap option_copied_mut c.in-Some.is in
+    (c.get_mut.follows.holds c.push.new.self).0
+    ∙ ap (set_value (bytes_eq c.args.name) c.args.groups.now.entries) c.in_ok-push.ensures.ok
+    ∙ grown of set c.args.series c.args.name c.args.groups.now.entries c.in-Some.group.now c.get_mut.ensures.unique found is so_far
+
+pub returns : goal.returns
+returns c = λ of set is so_far. ?
