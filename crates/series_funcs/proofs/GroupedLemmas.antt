@@ -134,6 +134,10 @@ texts_more : (of : SeriesValue → List ℕ) (set : List SeriesValue) (s : Serie
 texts_more of set s there is =
     ap first_seen (map-append of set (s ∷ [])) ∙ seen_more (of s) (map of set) ∙ ap (λ (b : Bool). first_seen (map of set) ++ cond b [] (of s ∷ [])) is
 
+pub groups_none : (of : SeriesValue → List ℕ) → groups_by of [] ≡ []
+unfolding groups_by
+groups_none of = refl
+
 -- one series more, of a group that is there
 pub group_grows : (of : SeriesValue → List ℕ) (set : List SeriesValue) (s : SeriesValue) (group : List SeriesValue) → IsDistinct bytes_eq (keys_of (groups_by of set)) → lookup (bytes_eq (of s)) (groups_by of set) ≡ Some group
     → set_value (bytes_eq (of s)) (groups_by of set) (group ++ s ∷ []) ≡ groups_by of (set ++ s ∷ [])

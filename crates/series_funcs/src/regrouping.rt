@@ -28,7 +28,7 @@ pub fn regroup(alloc: Global, kind: &Regroup, set: &SeriesSet) -> Result<SeriesS
         fault ≢ NoMemory → regroup kind.now set.now ≡ Err fault) }
     ensures bounds { IfOk result (All (IsSoonAfter set.now)) }
 {
-    let groups = groups_of(alloc, kind, set)?;
+    let groups = groups_of(alloc, kind, set.as_slice())?;
     combine_each(alloc, combine_of(kind), &groups)
 }
 
@@ -36,13 +36,13 @@ pub fn regroup(alloc: Global, kind: &Regroup, set: &SeriesSet) -> Result<SeriesS
 fn groups_of(
     alloc: Global,
     kind: &Regroup,
-    set: &SeriesSet,
+    set: &[Series],
 ) -> Result<IndexMap<GroupName, SeriesSet>, AllocError>
     ensures { IfOk result (λ groups.
         groups.entries ≡ groups_by (λ s. group_text kind.now s.path) set.now) }
 {
     let mut groups = IndexMap::new(alloc);
-    for series in set.as_slice() {
+    for series in set {
         let name = group_name(alloc, kind, series.path())?;
         add_to_group(alloc, &mut groups, name, series.copy()?)?;
     }
@@ -111,7 +111,10 @@ fn combine_each(
         AllZip (λ group series. IsSoonAfter group.1 series) groups.now.entries together) }
 {
     let mut together = Vec::with_capacity(alloc, groups.len())?;
-    for (name, group) in groups.iter() {
+    for place in 0..groups.len() {
+        let Some((name, group)) = groups.get_index(place) else {
+            unreachable!()
+        };
         let text = name.as_str();
         together.push(combined_series(alloc, kind, group, text, text)?)?;
     }

@@ -2,7 +2,11 @@ use Rattle.std.proofs.Common.{◌≡◌, List, ◌∷◌, [], ◌++◌, take, sy
 use Rattle.std.proofs.lemmas.List.{take_more}
 use Rattle.series_set.specs.Series.{SeriesValue}
 use Rattle.series_funcs.specs.Regrouped.{group_text, groups_by}
+use Rattle.series_funcs.proofs.GroupedLemmas.{groups_none}
 use Rattle.series_funcs.proofs.regrouping.groups_of.Goals as goal
+
+pub loop-series-init : goal.loop-series-init
+loop-series-init c = c.new-groups.ensures.empty ∙ sym (groups_none (λ s. group_text c.args.kind.now s.path))
 
 pub loop-series-preserved : goal.loop-series-preserved
 loop-series-preserved c =
