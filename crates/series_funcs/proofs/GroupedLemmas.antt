@@ -1,5 +1,5 @@
 -- Series in groups by a text.
-use Rattle.std.proofs.Common.{◌≡◌, ℕ, ◌+◌, ◌-◌, ◌<◌, ◌≤◌, Bool, true, false, not, ◌||◌, cond, List, [], ◌∷◌, ◌++◌, All, length, get_or, map, filter, Option, None, Some, is_some, refl, sym, ap, subst, ◌∙◌, arith}
+use Rattle.std.proofs.Common.{◌≡◌, ℕ, ◌-◌, ◌<◌, ◌≤◌, Bool, true, false, not, ◌||◌, cond, List, [], ◌∷◌, ◌++◌, All, length, get_or, map, filter, None, Some, is_some, refl, sym, ap, subst, ◌∙◌, arith}
 use Rattle.std.specs.List.{AllByRecursion, AllZip, IsDistinct, list_any}
 use Rattle.std.specs.Map.{keys_of, lookup, set_value}
 use Rattle.std.specs.Str.{bytes_eq}
@@ -11,7 +11,9 @@ use Rattle.std.proofs.lemmas.Map.Made.{is_some-lookup}
 use Rattle.std.proofs.lemmas.Slice.Eq.{bytes_eq-Decides}
 use Rattle.series_set.specs.Series.{SeriesValue, end_of, latest_end, widest_step}
 use Rattle.series_funcs.specs.Combined.{AreCombinable, IsSoonAfter}
-use Rattle.series_funcs.specs.Regrouped.{Groups, first_seen, groups_by, with_text}
+use Rattle.series_funcs.specs.declared.kinds.Regroup.{Regroup}
+use Rattle.series_funcs.specs.Each.{each_of}
+use Rattle.series_funcs.specs.Regrouped.{Groups, combine_of, combined_group, first_seen, group_text, groups_by, regroup, with_text}
 
 same : (a b : List ℕ) → bytes_eq a b ≡ true → a ≡ b
 same a b is = (bytes_eq-Decides a b).0 is
@@ -103,6 +105,7 @@ pairs_grow of set s (k ∷ ks) once there = by (bytes_eq (of s) k) refl there (p
     none_again : (ys : List (List ℕ)) → AllByRecursion (λ y. bytes_eq k y ≡ false) ys → has k ys ≡ false
     none_again [] apart = refl
     none_again (y ∷ ys) apart = rw apart.0 (none_again ys apart.1)
+
     by : (b : Bool) → bytes_eq (of s) k ≡ b → (b || has (of s) ks) ≡ true
         → (has (of s) ks ≡ true → set_value (bytes_eq (of s)) (pairs (with_text of set) ks) (with_text of set (of s) ++ s ∷ []) ≡ pairs (with_text of (set ++ s ∷ [])) ks)
         → cond b ((k, with_text of set (of s) ++ s ∷ []) ∷ pairs (with_text of set) ks) ((k, with_text of set k) ∷ set_value (bytes_eq (of s)) (pairs (with_text of set) ks) (with_text of set (of s) ++ s ∷ []))
@@ -111,7 +114,7 @@ pairs_grow of set s (k ∷ ks) once there = by (bytes_eq (of s) k) refl there (p
         let is : of s ≡ k = same (of s) k e in
         let none : has (of s) ks ≡ false = ap (λ (q : List ℕ). has q ks) is ∙ none_again ks (IsDistinct-head bytes_eq k ks once) in
         let here : with_text of (set ++ s ∷ []) k ≡ with_text of set (of s) ++ s ∷ [] =
-            with_more of set s k true (flipped k (of s) ∙ e) ∙ ap (λ (q : List ℕ). with_text of set q ++ s ∷ []) (sym is) in
+        with_more of set s k true (flipped k (of s) ∙ e) ∙ ap (λ (q : List ℕ). with_text of set q ++ s ∷ []) (sym is) in
         rw (here, pairs_stay of set s ks none) refl
     by false e there more =
         let here : with_text of (set ++ s ∷ []) k ≡ with_text of set k = with_more of set s k false (flipped k (of s) ∙ e) ∙ append-nil (with_text of set k) in
@@ -175,7 +178,7 @@ grown of set s q old group once found is so_far =
     ap (λ (o : Groups). set_value (bytes_eq q) o (group ++ s ∷ [])) so_far
     ∙ ap (λ (k : List ℕ). set_value (bytes_eq k) (groups_by of set) (group ++ s ∷ [])) (sym is)
     ∙ group_grows of set s group (subst (λ (o : Groups). IsDistinct bytes_eq (keys_of o)) so_far once)
-      (ap (λ (k : List ℕ). lookup (bytes_eq k) (groups_by of set)) is ∙ ap (lookup (bytes_eq q)) (sym so_far) ∙ found)
+    (ap (λ (k : List ℕ). lookup (bytes_eq k) (groups_by of set)) is ∙ ap (lookup (bytes_eq q)) (sym so_far) ∙ found)
 
 pub begun : (of : SeriesValue → List ℕ) (set : List SeriesValue) (s : SeriesValue) (q : List ℕ) (old : Groups) → lookup (bytes_eq q) old ≡ None → of s ≡ q → old ≡ groups_by of set
     → old ++ (q, s ∷ []) ∷ [] ≡ groups_by of (set ++ s ∷ [])
@@ -196,9 +199,11 @@ texts_some of (s ∷ set) =
   where
     here : 0 < length (with_text of (s ∷ set) (of s))
     here = rw (own (of s)) (omega arith)
+
     by : (b : Bool) (group : List SeriesValue) → 0 < length group → 0 < length (cond b (s ∷ group) group)
     by true group some = omega arith
     by false group some = some
+
     longer : (text : List ℕ) → 0 < length (with_text of set text) → 0 < length (with_text of (s ∷ set) text)
     longer text some = by (bytes_eq text (of s)) (with_text of set text) some
 
@@ -238,3 +243,9 @@ unfolding groups_by
 groups_soon of set together zip =
     soon_after_all set _ together zip (All-map (λ (group : List ℕ × List SeriesValue). EndsWith set group.1) (λ text. (text, with_text of set text)) (first_seen (map of set))
     (λ k d within by all. All-filter (λ s. bytes_eq (get_or (first_seen (map of set)) k d) (of s)) (λ s. end_of s ≤ by) set all))
+
+-- ---- by kind
+
+pub regroup_is : (kind : Regroup) (set : List SeriesValue) → each_of (combined_group (combine_of kind)) (groups_by (λ s. group_text kind s.path) set) ≡ regroup kind set
+unfolding regroup
+regroup_is kind set = refl

@@ -659,11 +659,7 @@ fn series_are_grouped_by_a_node(rt: HostRuntime) -> Result<(), Fail> {
     let alloc = rt.alloc();
     let table: [(i32, &[&str], &[(&str, Milli)]); 8] = [
         (1, &[], &[]),
-        (
-            0,
-            &["b.x", "a.x", "b.y", "a"],
-            &[("b", 101), ("a", 1010)],
-        ),
+        (0, &["b.x", "a.x", "b.y", "a"], &[("b", 101), ("a", 1010)]),
         (1, &["a.b", "a", "b.b", "c"], &[("b", 101), ("", 1010)]),
         (1, &["a", "a.b", ".", "a..c"], &[("", 1101), ("b", 10)]),
         (-1, &["a.b.c", "b.c", "c.b"], &[("c", 11), ("b", 100)]),
@@ -691,7 +687,11 @@ fn series_are_grouped_by_the_path_without_some_nodes(rt: HostRuntime) -> Result<
             &[("b.d", 11), ("d.b", 100)],
         ),
         (&[0, 1], &["a.b", "a", "a.b.c"], &[("", 11), ("c", 100)]),
-        (&[1], &["a.b.", ".b", "a..", "a"], &[("a.", 101), ("", 10), ("a", 1000)]),
+        (
+            &[1],
+            &["a.b.", ".b", "a..", "a"],
+            &[("a.", 101), ("", 10), ("a", 1000)],
+        ),
         (&[], &["a.b", "a.b", "a"], &[("a.b", 11), ("a", 100)]),
     ];
     for (numbers, paths, want) in table {
@@ -737,7 +737,14 @@ fn each_group_has_its_own_grid(rt: HostRuntime) -> Result<(), Fail> {
     };
     let minutes: Row = (1_700_000_100, 60, &[Some(1000), Some(2000), Some(4000)]);
     let found = group_at(alloc, &sum, &[("a.b", minutes)], 0);
-    assert_is(&rt, found, "b", 1_700_000_100, 60, &[Some(1000), Some(2000), Some(4000)]);
+    assert_is(
+        &rt,
+        found,
+        "b",
+        1_700_000_100,
+        60,
+        &[Some(1000), Some(2000), Some(4000)],
+    );
     // the averages of 180 seconds are 2.0 and 15.0
     let rows: [(&str, Row); 4] = [
         ("a.b", (0, 60, &[Some(1000), Some(2000), Some(3000)])),

@@ -1,11 +1,10 @@
-use Rattle.std.proofs.Common.{◌≡◌, List, [], ◌∷◌, ◌++◌, sym, ap, ◌∙◌}
+use Rattle.std.proofs.Common.{List, [], ◌∷◌, ◌++◌, sym, ap, ◌∙◌}
 use Rattle.std.specs.Map.{set_value}
 use Rattle.std.specs.Option.{option_copied_mut}
 use Rattle.std.specs.Str.{bytes_eq}
 use Rattle.indexmap.specs.IndexMap.{insert_entry}
 use Rattle.indexmap.proofs.CallerLemmas.{insert_entry-new}
 use Rattle.series_set.specs.Series.{SeriesValue}
-use Rattle.series_funcs.specs.Regrouped.{Groups}
 use Rattle.series_funcs.proofs.GroupedLemmas.{begun, grown}
 use Rattle.series_funcs.proofs.regrouping.add_to_group.Goals as goal
 
