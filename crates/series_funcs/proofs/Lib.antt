@@ -8,3 +8,5 @@ pub mod ShapeLemmas
 pub mod SummaryLemmas
 pub mod SoonLemmas
 pub mod QuotientLemmas
+pub mod NodeLemmas
+pub mod GroupedLemmas

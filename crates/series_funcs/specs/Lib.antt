@@ -5,4 +5,6 @@ pub mod Named
 pub mod Divided
 pub mod Shaped
 pub mod Moved
+pub mod NodeTexts
+pub mod Regrouped
 pub mod FuncLaws

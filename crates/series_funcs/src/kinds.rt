@@ -1,4 +1,5 @@
 //! The functions by kind, each with its arguments.
+use crate::node_numbers::NodeNumbers;
 use fixed_num::Milli;
 
 /// What combined series have at each moment of their common grid. Known values are those that are not missing; sums, differences and
@@ -78,4 +79,16 @@ pub enum Shape {
     /// A series that was asked for at a moment by so many seconds earlier, where it lies in the past, or later, at the moments asked
     /// about: `timeShift(a.b,'1d')`. One that would begin before 1970 is left out.
     TimeShift { past: bool, seconds: u64 },
+}
+
+/// By which part of their paths series are grouped, and what those of a group have together.
+#[derive(Drop)]
+pub enum Regroup {
+    /// By the node of this number, from 0 on, or below 0 from the end; series that lack it are one group, whose text is empty:
+    /// `groupByNode(a.*,1,'sum')`.
+    GroupByNode { node: i32, combine: Combine },
+    /// By the path without the nodes of these numbers, summed: `sumSeriesWithWildcards(a.*,1)`.
+    SumSeriesWithWildcards { nodes: NodeNumbers },
+    /// By the path without the nodes of these numbers, averaged: `averageSeriesWithWildcards(a.*,1)`.
+    AverageSeriesWithWildcards { nodes: NodeNumbers },
 }

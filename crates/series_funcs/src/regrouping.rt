@@ -1,0 +1,122 @@
+//! The functions that combine series by groups.
+ghost use Rattle.std.specs.Prelude.{◌≡◌, ◌≢◌, ◌<◌, ◌++◌, [], ◌∷◌, ℕ, List, All, IfErr, IfOk, Ok, Err, OnOk, length, string_bytes};
+ghost use Rattle.std.specs.List.{AllZip};
+ghost use Rattle.series_set.specs.declared.grid.EvalFault.TheVariants.{NoMemory};
+ghost use Rattle.series_set.specs.Series.{SeriesValue};
+ghost use Rattle.series_funcs.specs.Combined.{AreCombinable, IsSoonAfter};
+ghost use Rattle.series_funcs.specs.Each.{each_of};
+ghost use Rattle.series_funcs.specs.Regrouped.{combine_of, combined_group, group_text, groups_by, regroup};
+
+use crate::combining::combined_series;
+use crate::group_name::GroupName;
+use crate::kinds::{Combine, Regroup};
+use crate::node_texts::{node_text, text_without};
+use indexmap::IndexMap;
+use series_set::{EvalFault, Series, SeriesSet};
+use std::alloc::{AllocError, Global};
+
+/// The series in groups, in order of first appearance, each combined to one on its own common grid: see [`Regroup`]. The name and the
+/// path of each are the text by which its series are grouped. No series give none. They may be combined again, and end less than
+/// 31,536,000 seconds after all of these series. The work grows with the series and what it is to combine them.
+///
+/// Errors: that of the first group that has no common grid, and want of memory.
+#[tactic(auto, unfolding(crate::specs::Regrouped::regroup))]
+pub fn regroup(alloc: Global, kind: &Regroup, set: &SeriesSet) -> Result<SeriesSet, EvalFault>
+    requires { AreCombinable set.now }
+    ensures ok { IfOk result (λ regrouped. regroup kind.now set.now ≡ Ok regrouped) }
+    ensures err { IfErr result (λ fault.
+        fault ≢ NoMemory → regroup kind.now set.now ≡ Err fault) }
+    ensures bounds { IfOk result (All (IsSoonAfter set.now)) }
+{
+    let groups = groups_of(alloc, kind, set.as_slice())?;
+    combine_each(alloc, combine_of(kind), &groups)
+}
+
+// The series of each group, by its text.
+fn groups_of(
+    alloc: Global,
+    kind: &Regroup,
+    set: &[Series],
+) -> Result<IndexMap<GroupName, SeriesSet>, AllocError>
+    ensures { IfOk result (λ groups.
+        groups.entries ≡ groups_by (λ s. group_text kind.now s.path) set.now) }
+{
+    let mut groups = IndexMap::new(alloc);
+    for series in set {
+        let name = group_name(alloc, kind, series.path())?;
+        add_to_group(alloc, &mut groups, name, series.copy()?)?;
+    }
+    Ok(groups)
+}
+
+// By which text a series of a path is grouped.
+#[tactic(auto, unfolding(crate::specs::Regrouped::group_text))]
+fn group_name(alloc: Global, kind: &Regroup, path: &str) -> Result<GroupName, AllocError>
+    ensures { IfOk result (λ name. name ≡ group_text kind.now path.now) }
+{
+    let text = match kind {
+        Regroup::GroupByNode { node, .. } => node_text(alloc, *node, path)?,
+        Regroup::SumSeriesWithWildcards { nodes } => text_without(alloc, nodes, path)?,
+        Regroup::AverageSeriesWithWildcards { nodes } => text_without(alloc, nodes, path)?,
+    };
+    Ok(GroupName::new(text))
+}
+
+// What the series of a group have together.
+#[tactic(auto, unfolding(crate::specs::Regrouped::combine_of))]
+fn combine_of(kind: &Regroup) -> Combine
+    ensures { result ≡ combine_of kind.now }
+{
+    match kind {
+        Regroup::GroupByNode { combine, .. } => *combine,
+        Regroup::SumSeriesWithWildcards { .. } => Combine::Sum,
+        Regroup::AverageSeriesWithWildcards { .. } => Combine::Average,
+    }
+}
+
+// Groups of some series by a text become those of these and one more, which has this text.
+fn add_to_group(
+    alloc: Global,
+    groups: &mut IndexMap<GroupName, SeriesSet>,
+    name: GroupName,
+    series: Series,
+) -> Result<(), AllocError>
+    ensures { OnOk result ((of : SeriesValue → List ℕ) (set : List SeriesValue) → of series ≡ name
+        → groups.old.entries ≡ groups_by of set
+        → groups.new.entries ≡ groups_by of (set ++ series ∷ [])) }
+{
+    if let Some(group) = groups.get_mut(&name) {
+        group.push(series)?;
+        return Ok(());
+    }
+    let mut group = SeriesSet::new(alloc);
+    group.push(series)?;
+    groups.insert(name, group)?;
+    Ok(())
+}
+
+// Each group combined.
+fn combine_each(
+    alloc: Global,
+    kind: Combine,
+    groups: &IndexMap<GroupName, SeriesSet>,
+) -> Result<SeriesSet, EvalFault>
+    requires some { All (λ group. 0 < length group.1) groups.now.entries }
+    requires series { All (λ group. AreCombinable group.1) groups.now.entries }
+    ensures ok { IfOk result (λ together.
+        each_of (combined_group kind) groups.now.entries ≡ Ok together) }
+    ensures err { IfErr result (λ fault.
+        fault ≢ NoMemory → each_of (combined_group kind) groups.now.entries ≡ Err fault) }
+    ensures bounds { IfOk result (λ together.
+        AllZip (λ group series. IsSoonAfter group.1 series) groups.now.entries together) }
+{
+    let mut together = Vec::with_capacity(alloc, groups.len())?;
+    for place in 0..groups.len() {
+        let Some((name, group)) = groups.get_index(place) else {
+            unreachable!()
+        };
+        let text = name.as_str();
+        together.push(combined_series(alloc, kind, group, text, text)?)?;
+    }
+    Ok(SeriesSet::from_vec(together))
+}
