@@ -5,7 +5,7 @@ use Rattle.std.proofs.lemmas.Bool.Decides.{nat_tests}
 use Rattle.std.proofs.lemmas.List.Elements.{All-head, All-tail, All-nil, All-cons, filter_more}
 use Rattle.std.proofs.lemmas.Nat.{div-add-mod', le-div}
 use Rattle.std.proofs.Math.Nat.{mul-mod_left, mul-le-mul_left}
-use Rattle.metric_line.specs.Moment.{is_moment}
+use Rattle.fixed_num.specs.Moment.{is_moment}
 use Rattle.archive_update.specs.Batch.{bucket_of, latest_of_each}
 use Rattle.archive_update.specs.Buckets.{IsOwn, with_latest}
 

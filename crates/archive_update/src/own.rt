@@ -1,6 +1,6 @@
 //! What points write into their own archive.
 ghost use Rattle.std.specs.Prelude.{◌≡◌, ◌<◌, ◌≤◌, ◌-◌, ◌%◌, true, All, IfOk, OnOk, length};
-ghost use Rattle.metric_line.specs.Moment.{is_moment};
+ghost use Rattle.fixed_num.specs.Moment.{is_moment};
 ghost use Rattle.archive_update.specs.Batch.{bucket_of, home_of, is_home, own_writes, step_of};
 ghost use Rattle.archive_update.specs.Buckets.{IsOwn, with_latest};
 

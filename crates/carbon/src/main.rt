@@ -12,7 +12,7 @@ use std::process::ExitCode;
 use std::{env, io};
 
 /// How many classes there are, each with a disk of its own.
-const CLASSES: usize = 16;
+const CLASSES: usize = metric_path::CLASSES as usize;
 
 /// The moment of the clock, which no command reads yet: 2023-11-14 22:13:20 UTC.
 const MOMENT: u64 = 1_700_000_000;

@@ -9,7 +9,7 @@ use outside_io::{MemDisk, MemSink, MemSource};
 use std::alloc::{AllocError, Global};
 
 /// How many classes there are, each with a disk of its own.
-pub const CLASSES: usize = 16;
+pub const CLASSES: usize = metric_path::CLASSES as usize;
 
 /// All that a run is given.
 #[derive(Drop)]

@@ -2,8 +2,10 @@
 
 use crate::fault::CaseFault;
 use crate::text::{first_word, number, small_number};
-use fixed_num::{CELL_BYTES, MILLI_TEXT, Milli, print_milli};
-use ring_format::{Archive, HEAD_BYTES, Layout, Method, read_cell, read_head, write_head};
+use fixed_num::{MILLI_TEXT, Milli, print_milli};
+use ring_format::{
+    Archive, CELL_BYTES, HEAD_BYTES, Layout, Method, read_cell, read_head, write_head,
+};
 use std::alloc::{AllocError, Global};
 
 struct MethodName {

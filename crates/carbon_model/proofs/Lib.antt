@@ -2,4 +2,5 @@ pub mod DrainLemmas
 pub mod FoundLemmas
 pub mod HistoryLemmas
 pub mod PartLemmas
+pub mod RingLemmas
 pub mod SoundLemmas

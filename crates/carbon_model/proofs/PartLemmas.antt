@@ -15,7 +15,8 @@ use Rattle.carbon_history.specs.declared.entry.Entry.{Entry}
 use Rattle.carbon_history.specs.declared.entry.Entry.TheVariants.{Put, Drain, Ask, Fault}
 use Rattle.carbon_history.specs.declared.entry.PutEnd.TheVariants.{Stored, Replaced, Full}
 use Rattle.carbon_model.specs.State.{Kept, Metrics, SamePart, State, picked, points_in}
-use Rattle.carbon_model.specs.Replay.{IsLegal, IsLegalHistory, about_class, after, is_about, kept_after, replay}
+use Rattle.carbon_history.specs.Entries.{about_class, is_about}
+use Rattle.carbon_model.specs.Replay.{IsLegal, IsLegalHistory, after, kept_after, replay}
 
 pub same_part : (class : ℕ) (s : State) → SamePart class s s
 same_part class s = record {

@@ -1,10 +1,10 @@
 -- Which entries may come in a state, and the state after them.
-use Rattle.std.specs.Prelude.{◌≡◌, ℕ, ℤ, zero, suc, ◌<◌, ◌≤◌, ◌==◌, Bool, true, false, List, [], ◌∷◌, ◌++◌, filter, Option, Some, None, if◌then◌else◌}
+use Rattle.std.specs.Prelude.{◌≡◌, ℕ, ℤ, zero, suc, ◌<◌, ◌≤◌, ◌==◌, true, false, List, [], ◌∷◌, ◌++◌, Option, Some, None, if◌then◌else◌}
 use Rattle.std.specs.Str.{bytes_eq}
 use Rattle.std.specs.Map.{remove_entry}
 use Rattle.fixed_num.specs.Milli.{IsMilli}
 use Rattle.metric_path.specs.Path.{path_fault}
-use Rattle.metric_line.specs.Moment.{is_moment}
+use Rattle.fixed_num.specs.Moment.{is_moment}
 use Rattle.carbon_history.specs.declared.entry.Entry.{Entry}
 use Rattle.carbon_history.specs.declared.entry.Entry.TheVariants.{Put, Drain, Ask, Fault}
 use Rattle.carbon_history.specs.declared.entry.PutEnd.TheVariants.{Stored, Replaced, Full}
@@ -74,18 +74,6 @@ replay s (entry ∷ others) = replay (after s entry) others
 abbrev pub IsLegalHistory : State → List Entry → Type 0
 IsLegalHistory s [] = Unit {0}
 IsLegalHistory s (entry ∷ others) = IsLegal s entry × IsLegalHistory (after s entry) others
-
--- ---- the entries of a class
-
--- whether an entry is about a class: a question is about none
-abbrev pub is_about : ℕ → Entry → Bool
-is_about class (Put pass path time value end) = class_of path == class
-is_about class (Drain pass path now) = class_of path == class
-is_about class (Ask pass number try now) = false
-is_about class (Fault pass of_class) = of_class == class
-
-abbrev pub about_class : ℕ → List Entry → List Entry
-about_class class entries = filter (is_about class) entries
 
 -- ---- drains of whole classes
 

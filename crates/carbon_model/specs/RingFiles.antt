@@ -1,5 +1,6 @@
 -- What the files of a disk mean.
-use Rattle.std.specs.Prelude.{◌≡◌, ◌≢◌, ℕ, Bool, true, false, List, [], length, take, option_and_then, Option, Some, None, Result, Ok, Err, IfSome}
+use Rattle.std.specs.Prelude.{◌≡◌, ◌≢◌, ℕ, Bool, true, false, List, [], length, take, option_and_then, unwrap_or, Option, Some, None, Result, Ok, Err, IfSome, IsSomeAnd, if◌then◌else◌}
+use Rattle.std.specs.Str.{bytes_eq}
 use Rattle.outside_io.specs.Image.{Image}
 use Rattle.metric_path.specs.Path.{path_fault}
 use Rattle.metric_path.specs.declared.path.PathFault.{PathFault}
@@ -10,7 +11,8 @@ use Rattle.ring_format.specs.Layout.{LayoutValue}
 use Rattle.ring_format.specs.declared.fault.HeadFault.{HeadFault}
 use Rattle.ring_format.specs.declared.fault.HeadFault.TheVariants as faults
 use Rattle.ring_format.specs.Head.{head_result}
-use Rattle.ring_archive.specs.Ring.{bare, value_of}
+use Rattle.ring_format.specs.Patch.{PatchValue}
+use Rattle.ring_archive.specs.Ring.{IsRingFile, bare, value_of}
 use Rattle.carbon_model.specs.State.{Kept, State}
 
 -- a path that may have a file on the disk of a class
@@ -55,6 +57,32 @@ SameKept (Some a) (Some b) = (a.layout ≡ b.layout) × ((i bucket : ℕ) → a.
 pub record Stands (opening now : Image) (kept : List ℕ → Option Kept) (class : ℕ) : Type 0 where
   pub rings : (path : List ℕ) → IsOfClass class path → SameKept (kept_on now path) (kept path)
   pub sound : (path : List ℕ) → IsOfClass class path → IfSome (now (file_name_of path)) (λ file. is_sound file ≡ true)
+  pub others : (name : List ℕ) → ((path : List ℕ) → IsOfClass class path → file_name_of path ≢ name) → now name ≡ opening name
+
+-- ---- under a patch
+
+-- whether the patch is of this path
+abbrev pub is_patched : Option PatchValue → List ℕ → Bool
+is_patched None path = false
+is_patched (Some patch) path = bytes_eq patch.path path
+
+-- what is kept of the path of a patch: a fresh patch needs no file
+abbrev pub kept_through : PatchValue → Option (List ℕ) → Kept
+kept_through patch held = record { layout = patch.layout; rings = value_of patch (unwrap_or held []) }
+
+-- what is kept of a path on a disk under a patch, where that is of this path
+abbrev pub kept_under : Option PatchValue → Image → List ℕ → Option Kept
+kept_under None image path = kept_on image path
+kept_under (Some patch) image path =
+    if bytes_eq patch.path path then Some (kept_through patch (image (file_name_of path))) else kept_on image path
+
+-- The disk of a class and a patch over it stand for what is kept. The file of a patch that is not fresh is a ring file of its layout;
+-- that of a fresh one may be damaged, since it is being written.
+pub record StandsUnder (opening now : Image) (shelf : Option PatchValue) (kept : List ℕ → Option Kept) (class : ℕ) : Type 0 where
+  pub rings : (path : List ℕ) → IsOfClass class path → SameKept (kept_under shelf now path) (kept path)
+  pub sound : (path : List ℕ) → IsOfClass class path → is_patched shelf path ≡ false
+      → IfSome (now (file_name_of path)) (λ file. is_sound file ≡ true)
+  pub patched : IfSome shelf (λ patch. patch.fresh ≡ false → IsSomeAnd (now (file_name_of patch.path)) (IsRingFile patch.layout))
   pub others : (name : List ℕ) → ((path : List ℕ) → IsOfClass class path → file_name_of path ≢ name) → now name ≡ opening name
 
 -- ---- the opening

@@ -1,11 +1,12 @@
 ghost use Rattle.std.specs.Prelude.{◌≡◌, ◌↔◌, ◌⊎◌, ℕ, Bool, true, List, [], ◌++◌, Option, None};
 ghost use Rattle.outside_io.specs.Image.{Image};
 ghost use Rattle.metric_path.specs.Path.{path_fault};
+ghost use Rattle.carbon_history.specs.Entries.{about_class};
 ghost use Rattle.carbon_history.specs.declared.entry.Entry.{Entry as Event};
 ghost use Rattle.carbon_model.specs.Found.{Finds, IsKnown};
 ghost use Rattle.carbon_model.specs.State.{SamePart, State, picked};
 ghost use Rattle.carbon_model.specs.RingFiles.{Opens, Settings};
-ghost use Rattle.carbon_model.specs.Replay.{DrainsClass, DrainsSome, IsLegal, IsLegalHistory, about_class, after, replay};
+ghost use Rattle.carbon_model.specs.Replay.{DrainsClass, DrainsSome, IsLegal, IsLegalHistory, after, replay};
 ghost use Rattle.carbon_model.specs.Sound.{IsSound};
 
 /// A front of a legal history is legal, and the rest is legal from the state after it.

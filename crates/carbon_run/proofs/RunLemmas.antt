@@ -11,11 +11,11 @@ use Rattle.carbon_history.specs.declared.entry.Entry.{Entry}
 use Rattle.carbon_model.specs.State.{State}
 use Rattle.carbon_model.specs.RingFiles.{Settings, Stands}
 use Rattle.carbon_model.specs.Replay.{IsLegalHistory, replay}
-use Rattle.shard_core.specs.Opening.{StartsAll}
-use Rattle.shard_core.specs.Shards.{DisksStand, FailedAt, HoldsAll, disk_faults, faults_at, told_of}
-use Rattle.shard_core.specs.View.{StandsFor}
-use Rattle.shard_core.specs.declared.shard.Shard.{Shard}
-use Rattle.shard_core.proofs.ShardsLemmas.{AreInOrder}
+use Rattle.whole_shard.specs.Opening.{StartsAll}
+use Rattle.whole_shard.specs.Shards.{DisksStand, FailedAt, HoldsAll, disk_faults, faults_at, told_of}
+use Rattle.whole_shard.specs.View.{StandsFor}
+use Rattle.whole_shard.specs.declared.shard.Shard.{Shard}
+use Rattle.whole_shard.proofs.ShardsLemmas.{AreInOrder}
 use Rattle.carbon_script.specs.Command.{Command, DrainAll}
 use Rattle.carbon_script.specs.Script.{Machine, ServesUpTo, opening, reply_at}
 use Rattle.carbon_script.specs.Sessions.{EndCause as SessionCause, Ends, EndsAs, Means, ServesAll as SessionServes, TakesInput}

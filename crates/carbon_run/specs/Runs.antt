@@ -15,12 +15,12 @@ use Rattle.carbon_model.specs.State.{State}
 use Rattle.carbon_model.specs.RingFiles.{Opens, Settings}
 use Rattle.carbon_model.specs.Replay.{IsLegalHistory, replay}
 use Rattle.schema_rules.specs.RulesOf.{RulesValue}
-use Rattle.shard_core.specs.Opening.{AreSound, RefusesAll}
-use Rattle.shard_core.specs.Shards.{DisksStand, HoldsAll, disk_faults, faults_at, told_of}
-use Rattle.shard_core.specs.declared.shard.Shard.{Shard}
-use Rattle.shard_core.specs.declared.opening.Refusal.{Refusal}
-use Rattle.shard_core.specs.declared.fault.StartFault.{StartFault}
-use Rattle.shard_core.specs.declared.fault.StartFault.TheVariants.{Damaged, DiskFault, NoMemory}
+use Rattle.whole_shard.specs.Opening.{AreSound, RefusesAll}
+use Rattle.whole_shard.specs.Shards.{DisksStand, HoldsAll, disk_faults, faults_at, told_of}
+use Rattle.whole_shard.specs.declared.shard.Shard.{Shard}
+use Rattle.whole_shard.specs.declared.opening.Refusal.{Refusal}
+use Rattle.whole_shard.specs.declared.fault.StartFault.{StartFault}
+use Rattle.whole_shard.specs.declared.fault.StartFault.TheVariants.{Damaged, DiskFault, NoMemory}
 use Rattle.carbon_script.specs.Command.{Command}
 use Rattle.carbon_script.specs.Script.{AppendsPart, Does, FailsAt, Machine, RunsShort, ScriptRun, ServesUpTo, Steps, opening, reply_at}
 use Rattle.carbon_script.specs.declared.serve.ScriptEnd.{ScriptEnd}

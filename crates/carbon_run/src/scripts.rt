@@ -3,16 +3,16 @@ ghost use Rattle.std.specs.Prelude.{◌≡◌, ◌⊎◌, ℕ, [], Option, vec_l
 ghost use Rattle.outside_io.specs.Frames.{CountsReads, CountsWrites};
 ghost use Rattle.outside_io.specs.Image.{Image};
 ghost use Rattle.carbon_model.specs.State.{State};
-ghost use Rattle.shard_core.specs.Shards.{DisksStand, HoldsAll, disk_faults, faults_at};
-ghost use Rattle.shard_core.specs.Opening.{settings_of};
+ghost use Rattle.whole_shard.specs.Shards.{DisksStand, HoldsAll, disk_faults, faults_at};
+ghost use Rattle.whole_shard.specs.Opening.{settings_of};
 ghost use Rattle.carbon_run.specs.Runs.{FailsToTell, NoStart, Scripted, ShardsRun, TellsEnd, TellsStart, answer_of, streams_of};
 
 use crate::Report;
 use crate::telling::{tell_damaged, tell_disk_fault, tell_limit, tell_no_memory, tell_read_fault};
 use carbon_script::{ScriptEnd, Session, script};
 use outside_io::{Disk, Sink, Source};
-use shard_core::{Refusal, Setup, Shards, StartFault};
 use std::alloc::Global;
+use whole_shard::{Refusal, Setup, Shards, StartFault};
 
 /// Runs the script of the input over the disks, so set up. All shards start before the input is read.
 pub(crate) fn run_script<D: Disk, S: Source, K: Sink>(

@@ -9,8 +9,8 @@ use crate::scripts::run_script;
 use crate::telling::{tell_conf_fault, tell_no_memory, tell_rule_fault, tell_usage};
 use crate::words::read_words;
 use outside_io::{Clock, Disk, Net, Sink, Source};
-use shard_core::Setup;
 use std::alloc::Global;
+use whole_shard::Setup;
 
 /// Runs carbon: does what the words of the command line say, and answers the program's exit status.
 ///

@@ -11,7 +11,7 @@ use Rattle.line_service.specs.Service.{At, Chain, Service, StepOf}
 use Rattle.line_service.specs.declared.ends.Stop.{Stop}
 use Rattle.line_service.specs.declared.ends.Stop.TheVariants as stop
 use Rattle.line_service.specs.declared.ends.ServiceEnd.TheVariants as service
-use Rattle.shard_core.proofs.ShardsLemmas.{failed_later, fewer_more, fewer_none}
+use Rattle.whole_shard.proofs.ShardsLemmas.{failed_later, fewer_more, fewer_none}
 use Rattle.carbon_script.specs.Command.{Command, DrainAll, command_of}
 use Rattle.carbon_script.specs.Ends.{end_of}
 use Rattle.carbon_script.specs.Script.{AppendsPart, IsNext, Machine, ServesUpTo, Steps, reply_at, summary_text}

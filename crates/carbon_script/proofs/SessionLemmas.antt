@@ -17,8 +17,8 @@ use Rattle.carbon_history.specs.declared.entry.Entry.{Entry}
 use Rattle.carbon_history.specs.declared.entry.PutEnd.{PutEnd}
 use Rattle.carbon_model.specs.State.{State}
 use Rattle.carbon_model.specs.Replay.{DrainsAll, DrainsClasses, DrainsUpTo, after, replay}
-use Rattle.shard_core.specs.Shards.{HoldsAll}
-use Rattle.shard_core.proofs.ShardsLemmas.{failed_later, fewer_more, fewer_none}
+use Rattle.whole_shard.specs.Shards.{HoldsAll}
+use Rattle.whole_shard.proofs.ShardsLemmas.{failed_later, fewer_more, fewer_none}
 use Rattle.carbon_script.specs.Command.{Command, Metric, Refused, Long, Clock, Ask, DrainAll, Bad, TakesMemory, command_of}
 use Rattle.carbon_script.specs.Counts.{counted, overlong, refused}
 use Rattle.carbon_script.specs.Ends.{stop_of}

@@ -15,9 +15,9 @@ use Rattle.carbon_model.specs.Replay.{DrainsAll, DrainsClass, DrainsClasses, Dra
 use Rattle.carbon_model.specs.declared.series.Series.{Series}
 use Rattle.carbon_model.proofs.HistoryLemmas.{replay-append}
 use Rattle.ring_archive.specs.declared.fault.RingFault.{RingFault}
-use Rattle.shard_core.specs.Shards.{DrainsAt, FailedAt, NoFewer, PutsAt, ShowsAt, StayAll, UsesDisks}
-use Rattle.shard_core.specs.declared.shard.Shard.{Shard}
-use Rattle.shard_core.proofs.ShardsLemmas.{failed_later, fewer_more, fewer_none}
+use Rattle.whole_shard.specs.Shards.{DrainsAt, FailedAt, NoFewer, PutsAt, ShowsAt, StayAll, UsesDisks}
+use Rattle.whole_shard.specs.declared.shard.Shard.{Shard}
+use Rattle.whole_shard.proofs.ShardsLemmas.{failed_later, fewer_more, fewer_none}
 use Rattle.carbon_script.specs.Answer.{answer_text}
 use Rattle.carbon_script.specs.Faults.{CountsDisks, HasCause}
 use Rattle.carbon_script.specs.PutEnds.{put_of}

@@ -6,7 +6,7 @@ use Rattle.std.specs.Prelude.{nat_eq}
 use Rattle.fixed_num.specs.Whole.{whole_number}
 use Rattle.metric_path.specs.declared.path.PathFault.{PathFault}
 use Rattle.metric_path.specs.Path.{legal_path}
-use Rattle.metric_line.specs.Moment.{legal_moment, greatest_moment}
+use Rattle.fixed_num.specs.Moment.{legal_moment, greatest_moment}
 use Rattle.metric_line.specs.declared.fault.LineFault.{LineFault}
 use Rattle.metric_line.specs.LineDatum.{datum_of}
 use Rattle.metric_line.specs.Point.{Point}

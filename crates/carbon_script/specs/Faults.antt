@@ -1,8 +1,8 @@
 -- The causes of faults.
 use Rattle.std.specs.Prelude.{ℕ, List, Result, Ok, Err}
 use Rattle.outside_io.specs.declared.disk.Disk.{Ghosts}
-use Rattle.shard_core.specs.Shards.{FailedAt, NoFewer}
-use Rattle.shard_core.specs.declared.shard.Shard.{Shard}
+use Rattle.whole_shard.specs.Shards.{FailedAt, NoFewer}
+use Rattle.whole_shard.specs.declared.shard.Shard.{Shard}
 use Rattle.carbon_script.specs.declared.fault.Fault.{Fault}
 use Rattle.carbon_script.specs.declared.fault.Fault.TheVariants.{Disk, NoMemory}
 

@@ -1,6 +1,6 @@
 -- The command that the code's own is seen as.
 use Rattle.std.specs.Prelude.{◌≡◌, true}
-use Rattle.metric_line.specs.Moment.{is_moment}
+use Rattle.fixed_num.specs.Moment.{is_moment}
 use Rattle.metric_line.specs.Seen.{seen}
 use Rattle.carbon_script.specs.Command.{Command, Metric, Refused, Long, Clock, Ask, DrainAll, Bad}
 use Rattle.carbon_script.specs.Windows.{IsQuestion}

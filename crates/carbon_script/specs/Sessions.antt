@@ -9,7 +9,7 @@ use Rattle.line_frame.specs.Machine.{Runs}
 use Rattle.line_service.specs.declared.ends.Stop.{Stop}
 use Rattle.line_service.specs.declared.ends.Stop.TheVariants as stop
 use Rattle.line_service.specs.Service.{RunsOut}
-use Rattle.shard_core.specs.Shards.{FailedAt, NoFewer}
+use Rattle.whole_shard.specs.Shards.{FailedAt, NoFewer}
 use Rattle.carbon_script.specs.Command.{Command, DrainAll, command_of}
 use Rattle.carbon_script.specs.Script.{AppendsPart, Does, FailsAt, IsReadOut, Machine, RunsShort, ScriptRun, ServesUpTo, Steps, count_text, drains_word, is_drain, puts_text, refusals_text, reply_at, summary_text}
 use Rattle.carbon_script.specs.Stores.{Keeps}

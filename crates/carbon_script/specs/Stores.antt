@@ -9,7 +9,7 @@ use Rattle.carbon_history.specs.declared.entry.Entry.TheVariants as entry
 use Rattle.carbon_history.specs.declared.entry.PutEnd.{PutEnd}
 use Rattle.carbon_model.specs.State.{State}
 use Rattle.carbon_model.specs.Replay.{DrainsAll, DrainsClass, DrainsSome, DrainsUpTo, IsDrainOf, IsLegal, after, replay}
-use Rattle.shard_core.specs.Shards.{HoldsAll}
+use Rattle.whole_shard.specs.Shards.{HoldsAll}
 use Rattle.carbon_script.specs.Replies.{IsReply}
 use Rattle.carbon_script.specs.Script.{fault_entry, greatest_ask, put_entry}
 use Rattle.carbon_script.specs.declared.fault.Fault.{Fault}

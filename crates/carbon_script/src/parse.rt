@@ -3,14 +3,14 @@ ghost use Rattle.std.specs.List.{list_any, starts_with};
 ghost use Rattle.fixed_num.specs.Whole.{whole_number};
 ghost use Rattle.line_frame.specs.Lines.{Whole};
 ghost use Rattle.carbon_script.specs.Command.{behind, clock_word, ask_word, from_word, until_word, clock_moment, set_clock, asked, cut_at_ampersand, ten_digits, is_ampersand, is_form_byte, form_path, form_moment, question_of, question_in, command_in, command_of, is_command, is_drain_all, TakesMemory};
-ghost use Rattle.metric_line.specs.Moment.{is_moment};
+ghost use Rattle.fixed_num.specs.Moment.{is_moment};
 ghost use Rattle.carbon_script.specs.SeenCommand.{seen_command, IsSound};
 ghost use Rattle.carbon_script.specs.Windows.{IsQuestion};
 
 use crate::command::Command;
 use crate::question::Question;
-use fixed_num::read_whole;
-use metric_line::{GREATEST_MOMENT, LineFault, legal_moment, read_line};
+use fixed_num::{GREATEST_MOMENT, legal_moment, read_whole};
+use metric_line::{LineFault, read_line};
 use metric_path::{MetricPath, PathFault};
 use std::alloc::{AllocError, Global};
 

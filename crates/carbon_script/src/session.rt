@@ -1,6 +1,6 @@
 //! A script's session with a store: its clock, its counts, and what it says.
 ghost use Rattle.std.specs.Prelude.{◌≡◌, ◌≤◌, true, IfOk};
-ghost use Rattle.metric_line.specs.Moment.{is_moment};
+ghost use Rattle.fixed_num.specs.Moment.{is_moment};
 ghost use Rattle.carbon_script.specs.Ends.{stop_of};
 ghost use Rattle.carbon_script.specs.Script.{drained_text};
 
@@ -15,8 +15,8 @@ use carbon_history::History;
 use line_service::{LineServer, Stop};
 use metric_line::Datum;
 use outside_io::{Disk, Sink, write_all};
-use shard_core::Shards;
 use std::alloc::{AllocError, Global};
+use whole_shard::Shards;
 
 /// The clock of a script before it is set: 2023-11-14 22:13:20 UTC.
 const FIRST_CLOCK: u32 = 1_700_000_000;
@@ -39,7 +39,7 @@ impl<D: Disk> Session<D> {
     ghost use Rattle.line_service.specs.declared.ends.Stop.TheVariants.{WriteFault};
     ghost use Rattle.metric_line.specs.Seen.{seen};
     ghost use Rattle.carbon_model.specs.State.{State};
-    ghost use Rattle.shard_core.specs.Shards.{HoldsAll};
+    ghost use Rattle.whole_shard.specs.Shards.{HoldsAll};
     ghost use Rattle.carbon_script.specs.Command.{Ask, Bad, DrainAll, Metric};
     ghost use Rattle.carbon_script.specs.SeenCommand.{IsSound, seen_command};
     ghost use Rattle.carbon_script.specs.Script.{opening};

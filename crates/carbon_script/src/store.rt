@@ -12,8 +12,8 @@ use metric_line::Datum;
 use outside_io::Disk;
 use point_cache::Put;
 use ring_archive::RingFault;
-use shard_core::{CLASSES, Shards};
 use std::alloc::{AllocError, Global};
+use whole_shard::{CLASSES, Shards};
 
 /// The pass of a store on one thread, which is the only one.
 const PASS: u32 = 0;
@@ -33,7 +33,7 @@ impl<D: Disk> Store<D> {
     ghost use Rattle.carbon_history.specs.declared.entry.Entry.TheVariants.{Ask as AskEntry};
     ghost use Rattle.metric_path.specs.Class.{class_of};
     ghost use Rattle.carbon_model.specs.Series.{EndsInTime};
-    ghost use Rattle.shard_core.specs.Shards.{NoFewer, ShowsAt, StayAll, UsesDisks, pending_at};
+    ghost use Rattle.whole_shard.specs.Shards.{NoFewer, ShowsAt, StayAll, UsesDisks, pending_at};
     ghost use Rattle.carbon_script.specs.Faults.{CountsDisks};
     ghost use Rattle.carbon_script.specs.Script.{put_entry};
     ghost use Rattle.carbon_script.specs.Stores.{AsksStore, DrainsOfAll, DrainsOfClass, DrainsStore, OnlyShards, PutsStore, StaysStore};
@@ -54,7 +54,7 @@ impl<D: Disk> Store<D> {
     }
 
     /// Puts the point of a metric line, and enters it. Want of memory changes nothing.
-    #[tactic(auto, using(shard_core::proofs::ShardsLemmas::fewer_none))]
+    #[tactic(auto, using(whole_shard::proofs::ShardsLemmas::fewer_none))]
     pub fn put(&mut self, datum: Datum) -> Result<PutEnd, AllocError>
         ensures put { IfOk result (λ end. PutsStore self.old (seen datum) end self.new) }
         ensures err { OnErr result (StaysStore self.old self.new) }
@@ -83,7 +83,7 @@ impl<D: Disk> Store<D> {
 
     /// Answers a question at the moment `now`, with a line end. The question is entered, and a fault of the disk behind it; want of
     /// memory changes nothing.
-    #[tactic(auto, using(shard_core::proofs::ShardsLemmas::fewer_none))]
+    #[tactic(auto, using(whole_shard::proofs::ShardsLemmas::fewer_none))]
     pub fn ask(&mut self, question: &Question, now: u32) -> Result<Vec<u8>, Fault>
         requires question { IsQuestion question.now }
         requires moment { now ≤ 4_000_000_000 }
@@ -176,7 +176,7 @@ impl<D: Disk> Store<D> {
     }
 
     // Drains the metric that a class picks, and enters that: false where nothing of the class is pending.
-    #[tactic(auto, using(shard_core::proofs::ShardsLemmas::fewer_none))]
+    #[tactic(auto, using(whole_shard::proofs::ShardsLemmas::fewer_none))]
     fn drain_next(&mut self, class: u32, now: u32) -> Result<bool, Fault>
         requires { class < 16 }
         ensures drains { DrainsStore result self.old class now self.new }

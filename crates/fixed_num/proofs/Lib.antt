@@ -1,4 +1,5 @@
 pub mod DigitLemmas
+pub mod FitLemmas
 pub mod GrammarLemmas
 pub mod PrintLemmas
 pub mod ReachLemmas

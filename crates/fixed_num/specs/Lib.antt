@@ -1,5 +1,6 @@
 pub mod Decimal
 pub mod Milli
+pub mod Moment
 pub mod Print
 pub mod Read
 pub mod Whole

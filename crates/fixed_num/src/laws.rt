@@ -1,7 +1,7 @@
 //! What holds of every text and every value. The functions do nothing: what they ensure is the law.
 
-ghost use Rattle.std.specs.Prelude.{◌≡◌, ℕ, ℤ, List, Some};
-ghost use Rattle.fixed_num.specs.Decimal.{milli};
+ghost use Rattle.std.specs.Prelude.{◌≡◌, ◌↔◌, ℕ, ℤ, List, Some, true};
+ghost use Rattle.fixed_num.specs.Decimal.{fits_i64, milli};
 ghost use Rattle.fixed_num.specs.Milli.{IsMilli};
 ghost use Rattle.fixed_num.specs.Print.{milli_text};
 ghost use Rattle.fixed_num.specs.Read.{milli_result};
@@ -18,4 +18,10 @@ pub fn printed_text_is_read_back()
 #[tactic(auto, using(crate::proofs::ReadLemmas::milli_result_value))]
 pub fn read_text_has_its_value()
     ensures { (text : List ℕ) → result_ok (milli_result text) ≡ milli text }
+{}
+
+/// A whole number is a value exactly where it is found to fit 64 bits with a sign.
+#[tactic(auto, using(crate::proofs::FitLemmas::fits_is_milli))]
+pub fn values_are_what_fits()
+    ensures { (number : ℤ) → IsMilli number ↔ fits_i64 number ≡ true }
 {}

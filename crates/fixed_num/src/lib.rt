@@ -1,5 +1,5 @@
-//! Numbers as carbon keeps them: whole thousandths in 64 signed bits, read exactly from decimal
-//! text and printed exactly. Nothing here takes memory.
+//! Numbers as carbon keeps them: values in whole thousandths in 64 signed bits, read exactly from
+//! decimal text and printed exactly, and moments in seconds. Nothing here takes memory.
 #![tactic(auto)]
 
 ghost use Rattle.std.specs.Prelude.{◌≡◌, SomeIff};
@@ -8,6 +8,7 @@ ghost use Rattle.fixed_num.specs.Milli.{IsMilli, milli_bytes, milli_of_bytes};
 mod digits;
 mod grammar;
 mod laws;
+mod moment;
 mod printed_form;
 mod reached;
 mod reading;
@@ -15,7 +16,8 @@ mod scaling;
 
 pub use digits::{all_digits, capped_number, read_whole};
 pub use grammar::first_point;
-pub use laws::{printed_text_is_read_back, read_text_has_its_value};
+pub use laws::{printed_text_is_read_back, read_text_has_its_value, values_are_what_fits};
+pub use moment::{GREATEST_MOMENT, LEAST_MOMENT, legal_moment};
 pub use printed_form::print_milli;
 pub use reading::{read_milli, read_millionths, read_nano};
 
@@ -27,12 +29,6 @@ pub const MILLI_BYTES: usize = 8;
 
 /// The bytes that the text of any [`Milli`] fits in.
 pub const MILLI_TEXT: usize = 24;
-
-/// The bytes of a cell in a ring file: a time of four bytes and a value of eight.
-pub const CELL_BYTES: usize = 12;
-
-/// The bytes of one run of writes: the most whole cells that 4,096 bytes hold.
-pub const RUN_BYTES: usize = 4092;
 
 /// Why a text is not read as a number.
 #[derive(Clone, Copy, Debug, PartialEq, Eq)]

@@ -1,4 +1,3 @@
-pub mod Moment
 pub mod Point
 pub mod Seen
 pub mod LineFields

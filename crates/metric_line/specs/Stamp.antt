@@ -8,7 +8,7 @@ use Rattle.std.specs.Str.Parse.{digits_value}
 use Rattle.fixed_num.specs.Decimal.{is_point, whole_of, fraction_of}
 use Rattle.metric_line.specs.declared.stamp.StampFault.{StampFault}
 use Rattle.metric_line.specs.declared.stamp.StampFault.TheVariants.{NotNumber, OutOfRange}
-use Rattle.metric_line.specs.Moment.{is_moment}
+use Rattle.fixed_num.specs.Moment.{is_moment}
 
 -- at least one digit, and nothing else
 abbrev pub is_digits : List ℕ → Bool

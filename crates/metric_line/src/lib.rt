@@ -6,7 +6,6 @@ mod fault;
 mod fields;
 mod laws;
 mod line;
-mod moment;
 mod stamp;
 
 pub use datum::Datum;
@@ -15,7 +14,6 @@ pub use laws::{
     only_minus_one_depends_on_now, refusals_do_not_depend_on_now, want_of_memory_is_no_fault,
 };
 pub use line::read_line;
-pub use moment::{GREATEST_MOMENT, LEAST_MOMENT, legal_moment};
 pub use stamp::StampFault;
 
 #[cfg(test)]

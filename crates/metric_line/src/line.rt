@@ -2,7 +2,7 @@
 
 ghost use Rattle.std.specs.Prelude.{◌≡◌, ◌≢◌, true, IfOk, IfErr, IsOk};
 ghost use Rattle.metric_line.specs.LineDatum.{datum_of, point_result};
-ghost use Rattle.metric_line.specs.Moment.{is_moment};
+ghost use Rattle.fixed_num.specs.Moment.{is_moment};
 ghost use Rattle.metric_line.specs.Seen.{seen};
 
 use crate::Datum;

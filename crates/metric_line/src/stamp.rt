@@ -4,11 +4,10 @@ ghost use Rattle.std.specs.Prelude.{◌≡◌, true, IfOk, IfSome, option_map};
 ghost use Rattle.std.specs.List.{list_all};
 ghost use Rattle.std.specs.Char.{is_ascii_digit};
 ghost use Rattle.std.specs.Str.Parse.{digits_value};
-ghost use Rattle.metric_line.specs.Moment.{is_moment};
+ghost use Rattle.fixed_num.specs.Moment.{is_moment};
 ghost use Rattle.metric_line.specs.Stamp.{is_cut_time, is_digits, is_now, moment_result, stamp_of, whole_digits};
 
-use crate::legal_moment;
-use fixed_num::{all_digits, capped_number, first_point, read_whole};
+use fixed_num::{all_digits, capped_number, first_point, legal_moment, read_whole};
 
 /// Why a text is not read as a time.
 #[derive(Clone, Copy, Debug, PartialEq, Eq)]

@@ -1,12 +1,6 @@
 // What time it is.
-ghost use Rattle.std.specs.Prelude.{◌≡◌, ℕ};
-ghost use Rattle.outside_io.specs.Moment.{IsLegalMoment};
-
-/// The first moment that a clock answers, in seconds since the Unix epoch.
-pub const FIRST_MOMENT: u64 = 31_536_000;
-
-/// The last moment that a clock answers, in seconds since the Unix epoch.
-pub const LAST_MOMENT: u64 = 4_000_000_000;
+ghost use Rattle.std.specs.Prelude.{◌≡◌, ℕ, true};
+ghost use Rattle.fixed_num.specs.Moment.{is_moment};
 
 /// A clock of whole seconds.
 pub trait Clock {
@@ -16,11 +10,11 @@ pub trait Clock {
     /// The moment now, in seconds since the Unix epoch: from 31,536,000 to 4,000,000,000.
     fn now(&self) -> u64
         ensures moment { moments self.now result }
-        ensures legal { IsLegalMoment result };
+        ensures legal { is_moment result ≡ true };
 
     /// Waits for a short while. A clock that stands still returns at once.
     fn pause(&self);
 
     // Each of its moments is a legal one.
-    ghost legal_moments: { (clock : Self) (moment : ℕ) → moments clock moment → IsLegalMoment moment };
+    ghost legal_moments: { (clock : Self) (moment : ℕ) → moments clock moment → is_moment moment ≡ true };
 }

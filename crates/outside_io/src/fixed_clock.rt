@@ -1,6 +1,6 @@
 // A clock that stands still.
-ghost use Rattle.std.specs.Prelude.{◌≡◌};
-ghost use Rattle.outside_io.specs.Moment.{IsLegalMoment};
+ghost use Rattle.std.specs.Prelude.{◌≡◌, true};
+ghost use Rattle.fixed_num.specs.Moment.{is_moment};
 
 use crate::clock::Clock;
 
@@ -8,13 +8,13 @@ use crate::clock::Clock;
 #[derive(Clone, Copy, Debug)]
 pub struct FixedClock {
     moment: u64,
-    ghost legal: { IsLegalMoment moment },
+    ghost legal: { is_moment moment ≡ true },
 }
 
 impl FixedClock {
     /// The clock of this moment, in seconds since the Unix epoch.
     pub fn new(moment: u64) -> Self
-        requires { IsLegalMoment moment }
+        requires { is_moment moment ≡ true }
         ensures { ⟦<FixedClock as Clock>⟧.moments result moment }
     {
         FixedClock { moment }

@@ -25,7 +25,7 @@ mod source;
 mod std_streams;
 
 pub use calls::FailingCalls;
-pub use clock::{Clock, FIRST_MOMENT, LAST_MOMENT};
+pub use clock::Clock;
 pub use closed_net::ClosedNet;
 pub use disk::{Disk, DiskFailed, NamesFault};
 pub use disk_calls::DiskCalls;

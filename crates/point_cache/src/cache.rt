@@ -1,4 +1,4 @@
-ghost use Rattle.std.specs.Prelude.{◌≡◌, ◌<◌, ◌≤◌, [], IfOk, IfSome, Some, is_some, length, position, slice_get};
+ghost use Rattle.std.specs.Prelude.{◌≡◌, ◌==◌, ◌<◌, ◌≤◌, [], IfOk, IfSome, Some, is_some, length, position, slice_get};
 ghost use Rattle.std.specs.List.{IsDistinct};
 ghost use Rattle.std.specs.List.Sorted.{IsPermutation};
 ghost use Rattle.std.specs.Str.{bytes_eq};
@@ -66,6 +66,13 @@ impl PointCache {
         ensures within { result ≤ self.now.limit }
     {
         self.count
+    }
+
+    /// Whether as many points are pending as may be.
+    pub fn is_full(&self) -> bool
+        ensures { result ≡ (points_count self.now.metrics == self.now.limit) }
+    {
+        self.count == self.limit
     }
 
     /// How many metrics have pending points, and so how many places there are: at each is one of them.

@@ -4,7 +4,7 @@ ghost use Rattle.point_cache.specs.Pending.{PutsPoint, ReplacesPoint, added};
 
 use crate::Put;
 use fixed_num::Milli;
-use std::alloc::Global;
+use std::alloc::{AllocError, Global};
 use std::marker::Model;
 
 /// The points of one metric, by time: pairs of a moment in seconds since the Unix epoch and a value in thousandths.
@@ -25,6 +25,7 @@ impl Model for Points {
 }
 
 impl Points {
+    ghost use Rattle.std.specs.Prelude.{IfOk};
     ghost use Rattle.point_cache.specs.Points.{IsRising};
 
     /// No points.
@@ -34,6 +35,15 @@ impl Points {
         Points {
             pairs: Vec::new(alloc),
         }
+    }
+
+    /// These points, whose times rise.
+    pub fn of_rising(alloc: Global, points: &[(u32, Milli)]) -> Result<Points, AllocError>
+        requires { IsRising points.now }
+        ensures { IfOk result (λ copy. copy ≡ points.now) }
+    {
+        let pairs = points.to_vec(alloc)?;
+        Ok(Points { pairs })
     }
 
     /// The pairs of time and value, in rising time.

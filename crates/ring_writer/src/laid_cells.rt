@@ -4,8 +4,8 @@ ghost use Rattle.std.specs.List.Sorted.{IsStrictlySortedBy};
 ghost use Rattle.ring_format.specs.Patch.{Cells, IsPlace, place_cmp};
 ghost use Rattle.ring_writer.specs.Written.{HoldsCells};
 
-use fixed_num::{CELL_BYTES, Milli};
-use ring_format::{Patch, write_cell};
+use fixed_num::Milli;
+use ring_format::{CELL_BYTES, Patch, write_cell};
 use std::alloc::{AllocError, Global};
 
 // Cells in rising archive and slot: where each stands, and the bytes of all of them.

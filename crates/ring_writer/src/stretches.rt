@@ -8,9 +8,9 @@ ghost use Rattle.ring_format.specs.Patch.{IsPlace, place_cmp};
 ghost use Rattle.ring_archive.specs.Ring.{OnFile, cell_offset};
 ghost use Rattle.ring_writer.specs.Written.{IsStretch, KeepsFrame, WritesCells, place_at};
 
-use fixed_num::CELL_BYTES;
 use outside_io::{Disk, DiskFailed};
 use ring_archive::RingView;
+use ring_format::CELL_BYTES;
 
 // Writes cells to their places, each stretch of neighbouring slots in one piece.
 pub(crate) fn write_cells<D: Disk>(

@@ -1,7 +1,7 @@
 //! The values of a window.
 ghost use Rattle.std.specs.Prelude.{◌≡◌, ◌≤◌, ℕ, true, All, IfOk, IsErrOf, length};
 ghost use Rattle.outside_io.specs.Frames.{ReadsOnly};
-ghost use Rattle.metric_line.specs.Moment.{is_moment};
+ghost use Rattle.fixed_num.specs.Moment.{is_moment};
 ghost use Rattle.point_cache.specs.Points.{IsRising};
 ghost use Rattle.ring_archive.specs.Ring.{ReadsAs, Rings};
 ghost use Rattle.ring_archive.specs.View.{IsThere, OnRing};

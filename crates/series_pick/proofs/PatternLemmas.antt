@@ -12,7 +12,7 @@ use Rattle.regex_syntax.specs.Grammar.{Names, group_count, read}
 use Rattle.regex_syntax.specs.Brackets.{Nested}
 use Rattle.regex_syntax.specs.declared.error.ErrorKind.{ErrorKind}
 use Rattle.regex_syntax.specs.declared.error.ErrorKind.TheVariants.{OutOfMemory}
-use Rattle.series_pick.specs.Patterns.{is_found, is_readable}
+use Rattle.series_pick.specs.Patterns.{SearchesFor, is_found, is_readable}
 
 read_within : (o : Option (Nested Re × Names)) (hir : Hir) (names : Names)
     → IsSomeAnd o (λ (re, found). (re.depth ≤ 250) × SameCaptures (meaning hir) re.value × (names ≡ found) × (group_count (meaning hir) ≤ length names))
@@ -41,15 +41,23 @@ pub not_readable : (text : List ℕ) (k : ErrorKind) → k ≢ OutOfMemory → R
 unfolding Refuses is_readable
 not_readable text k other refused = not_within (read default_config (chars text)) (why_refused (read default_config (chars text)) k _ other refused)
 
-by_reading : (o : Option (Nested Re × Names)) (hir : Hir) (names : Names) (name : List ℕ)
-    → IsSomeAnd o (λ (re, found). (re.depth ≤ 250) × SameCaptures (meaning hir) re.value × (names ≡ found) × (group_count (meaning hir) ≤ length names))
-    → ((k : ℕ) → slice_index_or name k 0 < 256)
-    → is_some (find_str (meaning hir) name 0) ≡ option_map_or (λ (re, _). is_some (find_str re.value name 0)) o false
-by_reading None hir names name reads bytes = absurd reads
-by_reading (Some (re, found)) hir names name reads bytes = is_match_alike reads.1 name bytes true 0
+by_search : (o : Option (Nested Re × Names)) (re : Re) (name : List ℕ) → IsSomeAnd o (λ (found, _). SameCaptures re found.value) → ((k : ℕ) → slice_index_or name k 0 < 256)
+    → is_some (find_str re name 0) ≡ option_map_or (λ (found, _). is_some (find_str found.value name 0)) o false
+by_search None re name searches bytes = absurd searches
+by_search (Some (found, names)) re name searches bytes = is_match_alike searches name bytes true 0
 
 -- a pattern is found as its text says
-pub found_by_text : (text : List ℕ) (hir : Hir) (names : Names) (name : List ℕ) → Reads default_config text hir names → ((k : ℕ) → slice_index_or name k 0 < 256)
-    → is_some (find_str (meaning hir) name 0) ≡ is_found text name
-unfolding Reads is_found
-found_by_text text hir names name reads bytes = by_reading (read default_config (chars text)) hir names name reads bytes
+pub found_by_text : (text : List ℕ) (re : Re) (name : List ℕ) → SearchesFor text re → ((k : ℕ) → slice_index_or name k 0 < 256) → is_some (find_str re name 0) ≡ is_found text name
+unfolding is_found
+found_by_text text re name searches bytes = by_search (read default_config (chars text)) re name searches bytes
+
+by_reading : (o : Option (Nested Re × Names)) (hir : Hir) (names : Names)
+    → IsSomeAnd o (λ (re, found). (re.depth ≤ 250) × SameCaptures (meaning hir) re.value × (names ≡ found) × (group_count (meaning hir) ≤ length names))
+    → IsSomeAnd o (λ (found, _). SameCaptures (meaning hir) found.value)
+by_reading None hir names reads = absurd reads
+by_reading (Some (re, found)) hir names reads = reads.1
+
+-- what was read searches for its text
+pub searches_for_text : (text : List ℕ) (hir : Hir) (names : Names) → Reads default_config text hir names → SearchesFor text (meaning hir)
+unfolding Reads
+searches_for_text text hir names reads = by_reading (read default_config (chars text)) hir names reads

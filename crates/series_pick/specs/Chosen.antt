@@ -1,5 +1,5 @@
 -- Which series are left of a list, in which order and under which names.
-use Rattle.std.specs.Prelude.{◌≡◌, ℕ, ℤ, Bool, not, List, filter, map, take, string_bytes}
+use Rattle.std.specs.Prelude.{◌≡◌, ℕ, ℤ, Bool, not, List, filter, map, take}
 use Rattle.std.specs.List.Sorted.{IsPermutation, IsSortedBy, IsStableBy}
 use Rattle.std.specs.Cmp.Lexicographic.{slice_cmp}
 use Rattle.std.specs.Ordering.{is_lt, nat_cmp}
@@ -10,9 +10,10 @@ use Rattle.series_pick.specs.declared.measures.First.TheVariants.{Greatest, Leas
 use Rattle.series_pick.specs.declared.matching.Keep.{Keep}
 use Rattle.series_pick.specs.declared.matching.Keep.TheVariants.{Matching, Others}
 use Rattle.series_pick.specs.declared.kinds.Choose.{Choose}
-use Rattle.series_pick.specs.declared.kinds.Choose.TheVariants.{Alias, AliasByNode, AliasByMetric, Limit, SortByName, SortByMaxima, SortByTotal, SortByMinima, HighestMax, HighestCurrent, HighestAverage, LowestCurrent, LowestAverage, MaximumAbove, MinimumAbove, CurrentAbove, AverageAbove, MaximumBelow, MinimumBelow, CurrentBelow, AverageBelow, RemoveEmptySeries, Grep, Exclude}
+use Rattle.series_pick.specs.declared.kinds.Choose.TheVariants.{Alias, AliasByNode, AliasByMetric, Limit, SortByName, SortByMaxima, SortByTotal, SortByMinima, HighestMax, HighestCurrent, HighestAverage, LowestCurrent, LowestAverage, MaximumAbove, MinimumAbove, CurrentAbove, AverageAbove, MaximumBelow, MinimumBelow, CurrentBelow, AverageBelow, RemoveEmptySeries, Grep, Exclude, AliasSub}
 use Rattle.series_pick.specs.Measures.{by_measure, has_known, is_beside}
 use Rattle.series_pick.specs.Patterns.{is_found}
+use Rattle.series_pick.specs.Substitution.{substituted}
 use Rattle.series_pick.specs.Nodes.{last_node, name_by_nodes}
 
 -- ---- orders
@@ -39,6 +40,10 @@ renamed name s = record s { name = name }
 abbrev pub renamed_by_nodes : List ℤ → SeriesValue → SeriesValue
 renamed_by_nodes numbers s = renamed (name_by_nodes numbers s.path) s
 
+-- under the name in which each match of a pattern is replaced
+abbrev pub renamed_by_pattern : List ℕ → List ℕ → SeriesValue → SeriesValue
+renamed_by_pattern pattern replacement s = renamed (substituted pattern replacement s.name) s
+
 -- ---- matches
 
 -- whether a series stays by whether its name has a match
@@ -52,8 +57,8 @@ is_kept keep pattern s = stays keep (is_found pattern s.name)
 -- ---- the functions
 
 abbrev pub Chooses : Choose → List SeriesValue → List SeriesValue → Type 0
-Chooses (Alias name) set chosen = chosen ≡ map (renamed (string_bytes name)) set
-Chooses (AliasByNode numbers) set chosen = chosen ≡ map (renamed_by_nodes numbers.items) set
+Chooses (Alias name) set chosen = chosen ≡ map (renamed name) set
+Chooses (AliasByNode numbers) set chosen = chosen ≡ map (renamed_by_nodes numbers) set
 Chooses AliasByMetric set chosen = chosen ≡ map (renamed_by_nodes last_node) set
 Chooses (Limit most) set chosen = chosen ≡ take most set
 Chooses SortByName set chosen = Sorts by_name set chosen
@@ -76,3 +81,4 @@ Chooses (AverageBelow bound) set chosen = chosen ≡ filter (is_beside Average B
 Chooses RemoveEmptySeries set chosen = chosen ≡ filter has_known set
 Chooses (Grep pattern) set chosen = chosen ≡ filter (is_kept Matching pattern) set
 Chooses (Exclude pattern) set chosen = chosen ≡ filter (is_kept Others pattern) set
+Chooses (AliasSub pattern replacement) set chosen = chosen ≡ map (renamed_by_pattern pattern replacement) set

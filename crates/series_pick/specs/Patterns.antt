@@ -1,8 +1,8 @@
 -- Patterns, by their texts alone.
-use Rattle.std.specs.Prelude.{◌≡◌, ◌<◌, ℕ, Bool, false, nat_le, List, is_some, slice_index_or}
+use Rattle.std.specs.Prelude.{ℕ, Bool, false, nat_le, List, IsSomeAnd, is_some}
 use Rattle.std.specs.Option.{option_map_or}
 use Rattle.std.specs.Str.{chars}
-use Rattle.regex.specs.Patterns.{find_str}
+use Rattle.regex.specs.Patterns.{SameCaptures, find_str}
 use Rattle.regex_hir.specs.Re.{Re}
 use Rattle.regex_syntax.specs.Grammar.{read}
 use Rattle.regex_syntax.specs.Verdict.{default_config}
@@ -15,6 +15,6 @@ is_readable text = option_map_or (λ (re, _). nat_le re.depth 250) (read default
 unfoldable pub is_found : List ℕ → List ℕ → Bool
 is_found text name = option_map_or (λ (re, _). is_some (find_str re.value name 0)) (read default_config (chars text)) false
 
--- what is searched for finds in each name what the pattern with this text does
+-- what is searched for has the matches, and the groups in them, that the pattern with this text has
 abbrev pub SearchesFor : List ℕ → Re → Type 0
-SearchesFor text re = (name : List ℕ) → ((k : ℕ) → slice_index_or name k 0 < 256) → is_some (find_str re name 0) ≡ is_found text name
+SearchesFor text re = IsSomeAnd (read default_config (chars text)) (λ (found, _). SameCaptures re found.value)

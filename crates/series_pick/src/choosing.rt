@@ -8,6 +8,7 @@ use crate::matching::{Keep, kept};
 use crate::measures::{First, Measure, Side};
 use crate::naming::{all_named, named_by_nodes};
 use crate::sorting::{first_sorted, sorted, sorted_by_name};
+use crate::substitution::substituted;
 use series_set::SeriesSet;
 use std::alloc::{AllocError, Global};
 
@@ -20,7 +21,7 @@ pub fn choose(alloc: Global, kind: &Choose, set: SeriesSet) -> Result<SeriesSet,
     use Side::{Above, Below};
 
     match kind {
-        Choose::Alias { name } => all_named(set, name),
+        Choose::Alias { name } => all_named(set, name.text()),
         Choose::AliasByNode { nodes } => named_by_nodes(alloc, set, nodes.as_slice()),
         Choose::AliasByMetric => named_by_nodes(alloc, set, &[-1]),
         Choose::Limit { most } => Ok(first_of(set, *most)),
@@ -44,5 +45,9 @@ pub fn choose(alloc: Global, kind: &Choose, set: SeriesSet) -> Result<SeriesSet,
         Choose::RemoveEmptySeries => Ok(with_known(set)),
         Choose::Grep { pattern } => kept(alloc, set, pattern, Keep::Matching),
         Choose::Exclude { pattern } => kept(alloc, set, pattern, Keep::Others),
+        Choose::AliasSub {
+            pattern,
+            replacement,
+        } => substituted(alloc, set, pattern, replacement.text().as_str()),
     }
 }

@@ -1,5 +1,6 @@
 //! The functions by kind, each with its arguments.
 use crate::pattern::Pattern;
+use crate::words::{Name, SignedNodes};
 use fixed_num::Milli;
 
 /// Which series are left of a list, in which order and under which names.
@@ -10,10 +11,10 @@ use fixed_num::Milli;
 #[derive(Drop)]
 pub enum Choose {
     /// This name for each series: `alias(a.b,'Load')`.
-    Alias { name: String },
+    Alias { name: Name },
     /// The nodes of its path with these numbers, joined by dots, for each series: `aliasByNode(a.*.c,1,-1)`. The first node is 0, and a
     /// negative number counts from the end, where -1 is the last. Numbers that the path lacks are passed over.
-    AliasByNode { nodes: Vec<i32> },
+    AliasByNode { nodes: SignedNodes },
     /// The last node of its path for each series: `aliasByMetric(a.b)`.
     AliasByMetric,
     /// The first so many series: `limit(a.*,10)`.
@@ -58,4 +59,7 @@ pub enum Choose {
     Grep { pattern: Pattern },
     /// The series whose name has none: `exclude(a.*,'idle$')`.
     Exclude { pattern: Pattern },
+    /// Each series under its name in which each match of a pattern is replaced: `aliasSub(a.*,'^a[.]b(\d)','b \1')`. In the replacement
+    /// `\1` to `\9` are what the groups matched, nothing where the pattern lacks the group or it took no part.
+    AliasSub { pattern: Pattern, replacement: Name },
 }

@@ -9,10 +9,13 @@ mod measures;
 mod naming;
 mod pattern;
 mod sorting;
+mod substitution;
+mod words;
 
 pub use choosing::choose;
 pub use kinds::Choose;
 pub use pattern::Pattern;
+pub use words::{Name, SignedNodes};
 
 #[cfg(test)]
 mod tests;

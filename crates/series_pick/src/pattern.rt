@@ -1,7 +1,9 @@
 //! Patterns, which are searched in names.
-ghost use Rattle.std.specs.Prelude.{◌≡◌, Some, None, IfOk, if◌then◌else◌};
+ghost use Rattle.std.specs.Prelude.{◌≡◌, Some, None, IfOk, string_bytes, if◌then◌else◌};
 ghost use Rattle.series_pick.specs.Patterns.{is_found, is_readable};
+ghost use Rattle.series_pick.specs.Substitution.{substituted};
 
+use crate::substitution::written;
 use regex::{Error, Matcher, Regex};
 use std::alloc::{AllocError, Global};
 use std::marker::Model;
@@ -77,5 +79,24 @@ impl<'r> Search<'r> {
         ensures same { self.new ≡ self.old }
     {
         self.matcher.is_match(name)
+    }
+
+    /// A name in which each match is replaced.
+    pub(crate) fn substituted(
+        &mut self,
+        alloc: Global,
+        name: &str,
+        replacement: &str,
+    ) -> Result<String, AllocError>
+        ensures value { IfOk result (λ new.
+            string_bytes new ≡ substituted self.old replacement.now name.now) }
+        ensures same { self.new ≡ self.old }
+    {
+        let new = self.matcher.replace_all_with(
+            alloc,
+            name,
+            |captures| written(alloc, captures, replacement),
+        )?;
+        Ok(new)
     }
 }

@@ -115,10 +115,10 @@ fn series_are_named_by_nodes(rt: HostRuntime) -> Result<(), Fail> {
         (&[-2, 7], " one two  four y"),
     ];
     for (numbers, want) in table {
-        let nodes = Vec::from_slice(alloc, numbers)?;
+        let nodes = SignedNodes::from_vec(Vec::from_slice(alloc, numbers)?);
         assert_chosen(&rt, alloc, &Choose::AliasByNode { nodes }, &ROWS, want)?;
     }
-    let name = String::from_str(alloc, "n")?;
+    let name = Name::from_string(String::from_str(alloc, "n")?);
     assert_chosen(&rt, alloc, &Choose::Alias { name }, &ROWS, " n n n n n")?;
     Ok(())
 }
@@ -138,6 +138,53 @@ fn series_are_chosen_by_patterns(rt: HostRuntime) -> Result<(), Fail> {
         assert_chosen(&rt, alloc, &Choose::Exclude { pattern }, &ROWS, exclude)?;
     }
     assert!(rt; Pattern::new(alloc, "(")?.is_none());
+    Ok(())
+}
+
+static PLACE_ROWS: [Row; 2] = [("ip.hostTCP80", "x", &[]), ("a.b.né$", "x", &[])];
+
+fn assert_substituted(
+    rt: &impl Abort,
+    alloc: Global,
+    text: &str,
+    replacement: &str,
+    want: &str,
+) -> Result<(), Fail> {
+    let pattern = Pattern::new(alloc, text)?.ok_or("no pattern")?;
+    let replacement = Name::from_string(String::from_str(alloc, replacement)?);
+    let kind = Choose::AliasSub {
+        pattern,
+        replacement,
+    };
+    assert_chosen(rt, alloc, &kind, &PLACE_ROWS, want)?;
+    Ok(())
+}
+
+// The first row is from Graphite's documentation.
+#[test]
+fn names_have_their_matches_replaced(rt: HostRuntime) -> Result<(), Fail> {
+    let alloc = rt.alloc();
+    let table: [(&str, &str, &str); 8] = [
+        ("^.*TCP(\\d+)", "\\1", " 80 a.b.né$"),
+        ("[.]", "$1/", " ip$1/hostTCP80 a$1/b$1/né$"),
+        ("(a)|(b)", "<\\1\\2>", " ip.hostTCP80 <a>.<b>.né$"),
+        (
+            "(h)(o)(s)(t)(T)(C)(P)(8)(0)",
+            "\\9\\1\\0\\\\",
+            " ip.0h\\0\\\\ a.b.né$",
+        ),
+        (
+            "(é)(x)?",
+            "\\\\1 e\\2é\\é\\",
+            " ip.hostTCP80 a.b.n\\é eé\\é\\$",
+        ),
+        ("$", "\\10", " ip.hostTCP800 a.b.né$0"),
+        ("T*", "-", " -i-p-.-h-o-s-t-C-P-8-0- -a-.-b-.-n-é-$-"),
+        ("^.*$", "", "  "),
+    ];
+    for (text, replacement, want) in table {
+        assert_substituted(&rt, alloc, text, replacement, want)?;
+    }
     Ok(())
 }
 

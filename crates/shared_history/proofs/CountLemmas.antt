@@ -2,7 +2,7 @@
 use Rattle.std.proofs.Common.{◌≡◌, ◌≢◌, ℕ, zero, suc, ◌+◌, ◌*◌, ◌%◌, ◌^◌, ◌<◌, ◌≤◌, Bool, cond, List, [], ◌∷◌, length, refl, ap, arith, eq-eqb, ne_eqb}
 use native.Mathlib.Decide.{ℕ_discrete, dec_le}
 use Rattle.carbon_history.specs.declared.entry.Entry.{Entry}
-use Rattle.shared_history.specs.Entries.{NamesPasses, of_pass, pass_of}
+use Rattle.carbon_history.specs.Entries.{NamesPasses, of_pass, pass_of}
 use Rattle.shared_history.specs.Rule.{Book, Known, whole}
 
 -- how many entries the first passes have, so many

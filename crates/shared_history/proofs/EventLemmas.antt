@@ -3,7 +3,7 @@ use Rattle.std.proofs.Common.{◌≡◌, ◌≢◌, ◌==◌, ℕ, ◌+◌, ◌-
 use Rattle.carbon_history.specs.declared.entry.Entry.{Entry}
 use Rattle.shared_history.specs.declared.event.Event.{Event}
 use Rattle.shared_history.specs.declared.event.Event.TheVariants.{Put, Drain, Fault}
-use Rattle.shared_history.specs.Entries.{ask_number, pass_of}
+use Rattle.carbon_history.specs.Entries.{ask_number, pass_of}
 use Rattle.shared_history.specs.Events.{entry_of}
 use Rattle.shared_history.specs.Parts.{greatest_ask}
 

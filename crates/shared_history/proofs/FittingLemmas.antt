@@ -8,7 +8,7 @@ use Rattle.shared_history.specs.declared.view.Lead.{Lead}
 use Rattle.shared_history.specs.declared.view.Branch.{Branch}
 use Rattle.shared_history.specs.declared.view.View.{View}
 use Rattle.shared_history.specs.Views.{nobody}
-use Rattle.shared_history.specs.Entries.{about_class, is_about, listed, of_pass, pass_of}
+use Rattle.carbon_history.specs.Entries.{about_class, is_about, listed, of_pass, pass_of}
 use Rattle.shared_history.specs.Rule.{Book, Fits, FitsLead, FitsBranch, Known}
 use Rattle.shared_history.proofs.ListLemmas.{at_end, none_of, prefix_nil, upd, upd_else}
 

@@ -14,7 +14,7 @@ use Rattle.shared_history.specs.declared.view.Branch.{Branch}
 use Rattle.shared_history.specs.declared.view.View.{View}
 use Rattle.carbon_history.specs.declared.entry.Entry.TheVariants.{Put, Drain, Ask, Fault}
 use Rattle.metric_path.specs.Class.{class_of}
-use Rattle.shared_history.specs.Entries.{pass_of, is_about, is_drain, of_pass, about_class, drains, listed}
+use Rattle.carbon_history.specs.Entries.{pass_of, is_about, is_drain, of_pass, about_class, drains, listed}
 use Rattle.shared_history.specs.Views.{view, lead, branch, awaiting, entered, branch_with, look_at}
 use Rattle.shared_history.specs.Plays.{Awaits, Enters}
 use Rattle.shared_history.specs.Rule.{Book, LookFits, OneOwed, Fits, FitsOwn, FitsLead, FitsBranch, Kept, Known, word_of, IsOfClass}

@@ -12,7 +12,7 @@ use Rattle.shared_history.specs.declared.view.Own.{Own}
 use Rattle.shared_history.specs.declared.view.Lead.{Lead}
 use Rattle.shared_history.specs.declared.view.Branch.{Branch}
 use Rattle.shared_history.specs.declared.view.View.{View}
-use Rattle.shared_history.specs.Entries.{listed, pass_of, is_about, of_pass, about_class, drains}
+use Rattle.carbon_history.specs.Entries.{listed, pass_of, is_about, of_pass, about_class, drains}
 use Rattle.shared_history.specs.Views.{view, branch, look, sighted, own_sees, marked, look_at}
 use Rattle.shared_history.specs.Plays.{Sees, Learns, Agrees, Settles, Runs, Marks, HasOwn, Closes}
 use Rattle.shared_history.specs.Rule.{IsOfPass, Book, LookFits, OneOwed, Fits, FitsOwn, FitsBranch, Kept, Known, whole, word_of}

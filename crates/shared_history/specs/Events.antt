@@ -4,7 +4,7 @@ use Rattle.carbon_history.specs.declared.entry.Entry.{Entry}
 use Rattle.carbon_history.specs.declared.entry.Entry.TheVariants as entry
 use Rattle.shared_history.specs.declared.event.Event.{Event}
 use Rattle.shared_history.specs.declared.event.Event.TheVariants.{Put, Drain, Fault}
-use Rattle.shared_history.specs.Entries.{drains, is_about, is_drain}
+use Rattle.carbon_history.specs.Entries.{drains, is_about, is_drain}
 use Rattle.shared_history.specs.Parts.{PassValue, TailValue, greatest_ask, own_entries}
 
 -- the entry of a pass in a class

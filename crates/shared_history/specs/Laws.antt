@@ -10,7 +10,7 @@ use Rattle.shared_history.specs.declared.view.Own.{Own}
 use Rattle.shared_history.specs.declared.view.Lead.{Lead}
 use Rattle.shared_history.specs.declared.view.Branch.{Branch}
 use Rattle.shared_history.specs.declared.view.View.{View}
-use Rattle.shared_history.specs.Entries.{NamesPasses, about_class, is_about, listed, of_pass, pass_of}
+use Rattle.carbon_history.specs.Entries.{NamesPasses, about_class, is_about, listed, of_pass, pass_of}
 use Rattle.shared_history.specs.Rule.{IsOfClass, IsOfPass, OneOwed, has_lead}
 use Rattle.shared_history.specs.Views.{look_at}
 

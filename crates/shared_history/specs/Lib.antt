@@ -1,4 +1,3 @@
-pub mod Entries
 pub mod Events
 pub mod Views
 pub mod Rule

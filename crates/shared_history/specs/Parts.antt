@@ -7,7 +7,7 @@ use Rattle.shared_history.specs.declared.view.Look.{Look}
 use Rattle.shared_history.specs.declared.view.Own.{Own}
 use Rattle.shared_history.specs.declared.view.Branch.{Branch}
 use Rattle.shared_history.specs.declared.view.View.{View}
-use Rattle.shared_history.specs.Entries.{about_class, of_pass, ask_number}
+use Rattle.carbon_history.specs.Entries.{about_class, of_pass, ask_number}
 use Rattle.shared_history.specs.Views.{view, own, lead, branch, look, look_at}
 
 -- the table that it is of, the history, and how many passes and classes were made

@@ -7,7 +7,7 @@ use Rattle.shared_history.specs.declared.view.Own.{Own}
 use Rattle.shared_history.specs.declared.view.Lead.{Lead}
 use Rattle.shared_history.specs.declared.view.Branch.{Branch}
 use Rattle.shared_history.specs.declared.view.View.{View}
-use Rattle.shared_history.specs.Entries.{NamesPasses, of_pass, about_class}
+use Rattle.carbon_history.specs.Entries.{NamesPasses, of_pass, about_class}
 use Rattle.shared_history.specs.Views.{view, awaiting, entered, sighted, settled, ran, marked, all_of, look_at}
 
 -- what was seen has the pass's own entries, each once

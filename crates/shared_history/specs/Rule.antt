@@ -10,7 +10,7 @@ use Rattle.shared_history.specs.declared.view.Own.{Own}
 use Rattle.shared_history.specs.declared.view.Lead.{Lead}
 use Rattle.shared_history.specs.declared.view.Branch.{Branch}
 use Rattle.shared_history.specs.declared.view.View.{View}
-use Rattle.shared_history.specs.Entries.{of_pass, about_class, drains, listed}
+use Rattle.carbon_history.specs.Entries.{of_pass, about_class, drains, listed}
 use Rattle.shared_history.specs.Views.{look_at}
 
 -- What no thread holds whole. The history is the base, and then the entry that waits for its class to count it. The leader is the seat with

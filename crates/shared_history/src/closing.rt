@@ -1,6 +1,6 @@
 //! The end of a history.
 ghost use Rattle.std.specs.Prelude.{◌≡◌, ◌<◌, [], Some, length, slice_get};
-ghost use Rattle.shared_history.specs.Entries.{NamesPasses, about_class};
+ghost use Rattle.carbon_history.specs.Entries.{NamesPasses, about_class};
 ghost use Rattle.shared_history.specs.Parts.{AllAgree, PassesOfTable, AllSeen, HasSeen, TailsOfTable};
 
 use crate::parts::{Order, Pass, Tail};

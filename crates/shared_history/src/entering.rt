@@ -1,7 +1,7 @@
 //! Entries.
 ghost use Rattle.std.specs.Prelude.{◌≡◌, ◌≢◌, ◌+◌, ◌<◌, ◌++◌, ◌∷◌, [], length};
 ghost use mathlib.Core.List.{IsPrefix};
-ghost use Rattle.shared_history.specs.Entries.{NamesPasses, pass_of};
+ghost use Rattle.carbon_history.specs.Entries.{NamesPasses, pass_of};
 ghost use Rattle.shared_history.specs.Events.{MayAsk, MayEnter, ask_by, entry_by, next_number};
 ghost use Rattle.shared_history.specs.Parts.{order_with, own_entries, pass_seeing, tail_with};
 

@@ -90,7 +90,7 @@ pub struct Pass {
 impl Model for Pass {
     ghost use Rattle.std.specs.Prelude.{◌≡◌, ◌+◌, ◌<◌, ◌≤◌, ◌^◌, [], length};
     ghost use Rattle.std.specs.Arc.{arc_value};
-    ghost use Rattle.shared_history.specs.Entries.{of_pass};
+    ghost use Rattle.carbon_history.specs.Entries.{of_pass};
     ghost use Rattle.shared_history.specs.Parts.{PassValue, greatest_ask, pass_view, mine_of, looks_of, sights_of};
 
     ghost Value = { PassValue };

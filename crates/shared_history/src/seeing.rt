@@ -1,7 +1,7 @@
 //! What a pass sees of the history.
 ghost use Rattle.std.specs.Prelude.{◌≡◌, ◌⊎◌, ◌+◌};
 ghost use mathlib.Core.List.{IsPrefix};
-ghost use Rattle.shared_history.specs.Entries.{NamesPasses, about_class};
+ghost use Rattle.carbon_history.specs.Entries.{NamesPasses, about_class};
 ghost use Rattle.shared_history.specs.Parts.{own_entries, pass_seeing, pass_sighting};
 
 use crate::parts::{Note, Order, Pass, Tail};

@@ -1,7 +1,7 @@
 //! What was written of a class's drains, and what a pass sees of that.
 ghost use Rattle.std.specs.Prelude.{◌≡◌, ◌+◌, ◌<◌, ◌∷◌};
 ghost use mathlib.Core.List.{IsPrefix};
-ghost use Rattle.shared_history.specs.Entries.{about_class, drains};
+ghost use Rattle.carbon_history.specs.Entries.{about_class, drains};
 ghost use Rattle.shared_history.specs.Rule.{OneOwed};
 ghost use Rattle.shared_history.specs.Parts.{IsNoMore, look_now, pass_looking, tail_ran, tail_settled};
 ghost use Rattle.shared_history.specs.Views.{look_at};

@@ -64,7 +64,7 @@ struct ClassDesk<N: Named> {
 
 impl<N: Named> Model for ClassDesk<N> {
     ghost use Rattle.std.specs.Prelude.{◌≡◌, ℕ};
-    ghost use Rattle.shared_history.specs.Entries.{drains};
+    ghost use Rattle.carbon_history.specs.Entries.{drains};
 
     ghost Value = { ℕ };
 

@@ -1,5 +1,5 @@
 use Rattle.std.proofs.Common.{◌≡◌, ◌∙◌, map, ap, subst, sym}
-use Rattle.shard_core.specs.Shards.{DisksStand, disk_faults, faults_at}
+use Rattle.whole_shard.specs.Shards.{DisksStand, disk_faults, faults_at}
 use Rattle.carbon_run.proofs.RunLemmas.{disks_stand, faults_of}
 use Rattle.carbon_run.proofs.scripts.report.Goals as goal
 

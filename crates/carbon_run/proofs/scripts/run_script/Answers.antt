@@ -1,5 +1,5 @@
 use Rattle.std.proofs.Common.{inr}
-use Rattle.shard_core.specs.Opening.{settings_of}
+use Rattle.whole_shard.specs.Opening.{settings_of}
 use Rattle.carbon_run.specs.Runs.{answer_of, streams_of}
 use Rattle.carbon_run.proofs.RunLemmas.{scripted}
 use Rattle.carbon_run.proofs.scripts.run_script.Goals as goal

@@ -2,7 +2,7 @@ use Rattle.std.proofs.Common.{rules, ◌≡◌, ◌∙◌, sym, subst, List}
 use Rattle.std.proofs.lemmas.Iterator.Adapters.{YieldsList-from_vec}
 use Rattle.std.proofs.lemmas.Iterator.Consumers.{YieldsList-end}
 use Rattle.carbon_history.specs.declared.entry.Entry.{Entry}
-use Rattle.shared_history.specs.Entries.{about_class}
+use Rattle.carbon_history.specs.Entries.{about_class}
 use Rattle.shared_history.specs.Parts.{AllAgree, OrderValue, TailValue}
 use Rattle.shared_history.proofs.ListLemmas.{map_same, pushed}
 use Rattle.shared_history.proofs.closing.agree_all.Goals as goal

@@ -4,7 +4,7 @@ use Rattle.atomic_table.specs.Table.{Me, Allows, step}
 use Rattle.carbon_history.specs.declared.entry.Entry.{Entry}
 use Rattle.shared_history.specs.declared.view.View.{View}
 use Rattle.shared_history.specs.Views.{view, own, lead, lead_of, led, all_of}
-use Rattle.shared_history.specs.Entries.{ask_number, pass_of, is_about}
+use Rattle.carbon_history.specs.Entries.{ask_number, pass_of, is_about}
 use Rattle.shared_history.specs.Events.{MayAsk}
 use Rattle.shared_history.specs.Parts.{PassValue, greatest_ask, mine_of, looks_of, own_entries, sights_of}
 use Rattle.shared_history.specs.Plays.{Enters}

@@ -4,7 +4,7 @@ use Rattle.atomic_table.specs.Table.{Me, Allows, step}
 use Rattle.carbon_history.specs.declared.entry.Entry.{Entry}
 use Rattle.shared_history.specs.declared.view.View.{View}
 use Rattle.shared_history.specs.Views.{view, own, lead, branch, lead_of, led, branch_of, grafted, awaiting, all_of}
-use Rattle.shared_history.specs.Entries.{ask_number, pass_of, is_about, drains}
+use Rattle.carbon_history.specs.Entries.{ask_number, pass_of, is_about, drains}
 use Rattle.shared_history.specs.Parts.{PassValue, TailValue, mine_of, looks_of, sights_of, list_of, own_entries, settled_of, runs_of}
 use Rattle.shared_history.specs.Events.{MayEnter}
 use Rattle.shared_history.specs.Plays.{Awaits, Enters}

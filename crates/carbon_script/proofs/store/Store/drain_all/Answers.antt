@@ -1,5 +1,5 @@
 use Rattle.std.proofs.Common.{ℕ, add-one, arith}
-use Rattle.shard_core.proofs.ShardsLemmas.{fewer_more, fewer_none}
+use Rattle.whole_shard.proofs.ShardsLemmas.{fewer_more, fewer_none}
 use Rattle.carbon_script.proofs.StoreLemmas.{causes_as, clears_all, clears_ends, clears_more, clears_none, counts_later}
 use Rattle.carbon_script.proofs.store.Store.drain_all.Goals as goal
 

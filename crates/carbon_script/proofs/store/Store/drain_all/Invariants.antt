@@ -1,4 +1,4 @@
-use Rattle.shard_core.specs.Shards.{NoFewer}
+use Rattle.whole_shard.specs.Shards.{NoFewer}
 use Rattle.carbon_script.proofs.StoreLemmas.{Clears}
 use Rattle.carbon_script.proofs.store.Store.drain_all.Given as goal
 

@@ -1,5 +1,5 @@
 use Rattle.std.proofs.Common.{Bool}
-use Rattle.shard_core.proofs.ShardsLemmas.{fewer_more, fewer_none}
+use Rattle.whole_shard.proofs.ShardsLemmas.{fewer_more, fewer_none}
 use Rattle.carbon_script.proofs.StoreLemmas.{causes_as, class_done, class_ends, class_more, class_none, counts_later}
 use Rattle.carbon_script.proofs.store.Store.drain_class.Goals as goal
 

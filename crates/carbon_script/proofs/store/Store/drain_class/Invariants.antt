@@ -1,4 +1,4 @@
-use Rattle.shard_core.specs.Shards.{NoFewer, pending_at}
+use Rattle.whole_shard.specs.Shards.{NoFewer, pending_at}
 use Rattle.carbon_script.proofs.StoreLemmas.{Drains}
 use Rattle.carbon_script.proofs.store.Store.drain_class.Given as goal
 

@@ -2,7 +2,7 @@ use Rattle.std.proofs.Common.{ℕ, List, [], ◌∷◌, ◌++◌, ◌∙◌, ap,
 use Rattle.metric_line.specs.Seen.{seen}
 use Rattle.point_cache.specs.declared.put.Put.{Put}
 use Rattle.carbon_history.specs.declared.entry.Entry.{Entry}
-use Rattle.shard_core.specs.Shards.{PutsAt}
+use Rattle.whole_shard.specs.Shards.{PutsAt}
 use Rattle.carbon_script.specs.PutEnds.{put_of}
 use Rattle.carbon_script.specs.Script.{put_entry}
 use Rattle.carbon_script.proofs.StoreLemmas.{put_stays, puts_store}
