@@ -1,0 +1,9 @@
+use Rattle.std.proofs.Common.{◌≡◌, drop, map}
+use Rattle.std.specs.List.{list_any}
+use Rattle.httparse.specs.Spans.{header_bytes}
+use Rattle.http_wire.specs.Fields.{says_close}
+use Rattle.http_wire.proofs.fields.some_says_close.Given as goal
+
+abbrev pub invariant-loop-header : goal.invariant-loop-header
+invariant-loop-header l =
+    list_any says_close (map (header_bytes l.bytes) (drop l.header-index l.headers)) ≡ list_any says_close (map (header_bytes l.bytes) l.headers)
