@@ -1,0 +1,15 @@
+pub mod PendingLemmas
+pub mod FileLemmas
+pub mod ReadingLemmas
+pub mod StartingLemmas
+pub mod StandLemmas
+pub mod PlanLemmas
+pub mod PlannedLemmas
+pub mod WriteLemmas
+pub mod TableLemmas
+pub mod BeginLemmas
+pub mod PutLemmas
+pub mod LookLemmas
+pub mod ReadLemmas
+pub mod PickLemmas
+pub mod KeptLemmas

@@ -1,0 +1,20 @@
+use Rattle.std.proofs.Common.{◌≡◌, ◌∙◌, None, ℕ, List, ap, subst}
+use Rattle.std.specs.Prelude.{not}
+use Rattle.metric_path.specs.Path.{path_fault}
+use Rattle.carbon_model.specs.RingFiles.{IsOfClass}
+use Rattle.shard_core.specs.View.{inside_of}
+use Rattle.shard_core.proofs.ReadLemmas.{fetched_beside, fetched_through}
+use Rattle.shard_core.proofs.ReadingLemmas.{if_ok_both, no_cells}
+use Rattle.shard_core.proofs.shard.Shard.fetch_looked.Goals as goal
+
+pub returns-in-Some-clause-shows : goal.returns-in-Some-clause-shows
+returns-in-Some-clause-shows g c =
+    let one : IsOfClass c.args.self.now.class c.args.looked.now.path = record { legal = subst (λ (text : List ℕ). path_fault text ≡ None) c.text.ensures.value c.text.ensures.legal; here = c.requires.may.here } in
+    if_ok_both c.fetch_under.result _ _ _ c.fetch_under.ensures.pending c.fetch_under.ensures.told (λ values pending told.
+    fetched_through (inside_of c.args.self.now) c.in-Some.patch.now c.args.looked.now values.items c.in-Some.ensures one c.args.self.now.writing pending told)
+
+pub returns-in_ok-path-in-None-clause-shows : goal.returns-in_ok-path-in-None-clause-shows
+returns-in_ok-path-in-None-clause-shows g c =
+    let one : IsOfClass c.args.self.now.class c.args.looked.now.path = record { legal = subst (λ (text : List ℕ). path_fault text ≡ None) c.text.ensures.value c.text.ensures.legal; here = c.requires.may.here } in
+    if_ok_both c.fetch_under-in-None.result _ _ _ c.fetch_under-in-None.ensures.pending c.fetch_under-in-None.ensures.told (λ values pending told.
+    fetched_beside (inside_of c.args.self.now) c.args.looked.now values.items c.args.is_kept _ c.in-None.ensures one c.requires.may c.requires.kept (c.new-patch.ensures ∙ ap (λ (path : List ℕ). no_cells path c.args.looked.now.layout (not c.args.is_kept)) c.in_ok-path-in-None.ensures) pending told)

@@ -1,0 +1,13 @@
+pub mod Table
+pub mod Shard
+pub mod Puts
+pub mod Plans
+pub mod Writes
+pub mod Looks
+pub mod Reads
+pub mod Opened
+pub mod Started
+pub mod StartFaults
+pub mod Starting
+pub mod View
+pub mod Props

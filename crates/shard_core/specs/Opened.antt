@@ -1,0 +1,39 @@
+-- What a shard finds when it starts.
+use Rattle.std.specs.Prelude.{◌≡◌, ℕ, true, false, List, Option, None, IfSome, IsSomeAnd}
+use Rattle.std.specs.Ordering.{nat_cmp, is_le}
+use Rattle.std.specs.Cmp.Lexicographic.{slice_cmp}
+use Rattle.outside_io.specs.Image.{Image}
+use Rattle.metric_path.specs.Class.{class_of}
+use Rattle.metric_path.specs.FileName.{file_name_of}
+use Rattle.carbon_model.specs.State.{Kept}
+use Rattle.carbon_model.specs.RingFiles.{IsOfClass, is_sound, kept_on}
+use Rattle.metric_index.specs.Index.{entry_of}
+use Rattle.shard_core.specs.Shard.{HoldsKept}
+use Rattle.shard_core.specs.Table.{Table}
+
+-- the file of a path of the class is damaged
+abbrev pub IsDamaged : Image → List ℕ → Type 0
+IsDamaged image path = IsSomeAnd (image (file_name_of path)) (λ file. is_sound file ≡ false)
+
+-- the first damaged file, in byte order of its name
+pub record FirstDamaged (class : ℕ) (image : Image) (name : List ℕ) : Type 0 where
+  pub path : List ℕ
+  pub one : IsOfClass class path
+  pub named : file_name_of path ≡ name
+  pub damaged : IsDamaged image path
+  pub first : (other : List ℕ) → IsOfClass class other → IsDamaged image other → is_le (slice_cmp nat_cmp name (file_name_of other)) ≡ true
+
+-- no file of the class is damaged
+abbrev pub IsSoundDisk : ℕ → Image → Type 0
+IsSoundDisk class image = (path : List ℕ) → IsOfClass class path → IfSome (image (file_name_of path)) (λ file. is_sound file ≡ true)
+
+-- The table and the disk stand for something that is kept, which is what the disk shows, where it tells its image.
+pub record Opens (class : ℕ) (told : Option Image) (table : Table) : Type 0 where
+  pub kept : List ℕ → Option Kept
+  pub shown : IfSome told (λ image. (path : List ℕ) → IsOfClass class path → kept path ≡ kept_on image path)
+  pub holds : HoldsKept told class table None told kept
+
+-- each known metric is of the class, is kept, and was not drained
+abbrev pub IsOpened : ℕ → Table → Type 0
+IsOpened class table =
+    (path : List ℕ) → IfSome (entry_of table path) (λ known. (class_of path ≡ class) × ((known.is_kept ≡ true) × (known.drains ≡ 0)))

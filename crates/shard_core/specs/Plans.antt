@@ -1,0 +1,88 @@
+-- What a plan makes of a shard.
+use Rattle.std.specs.Prelude.{◌≡◌, ◌≢◌, ◌↔◌, ◌<◌, ◌-◌, ◌^◌, ℕ, ℤ, List, [], All, length, not, slice_get, Option, None, Some, IfSome, IsSome, IsSomeAnd}
+use Rattle.std.specs.Map.{remove_entry}
+use Rattle.std.specs.Str.{bytes_eq}
+use Rattle.outside_io.specs.Image.{Image}
+use Rattle.metric_path.specs.Class.{class_of}
+use Rattle.metric_path.specs.FileName.{file_name_of}
+use Rattle.ring_format.specs.Layout.{layout_fault}
+use Rattle.ring_format.specs.Patch.{PatchValue}
+use Rattle.ring_archive.specs.Ring.{ReadsAs, Rings, UnderPatch}
+use Rattle.archive_update.specs.Batch.{batch, home_of}
+use Rattle.metric_index.specs.Index.{entry_of}
+use Rattle.metric_table.specs.declared.known.Known.{Known}
+use Rattle.point_cache.specs.Pending.{Cache, points_of}
+use Rattle.drain_order.specs.Pick.{pick, queue_after}
+use Rattle.drain_order.specs.Picking.{Follows, Picking, settled_with}
+use Rattle.carbon_model.specs.State.{State, picked}
+use Rattle.carbon_model.specs.Replay.{drained}
+use Rattle.shard_core.specs.Shard.{Holds, Inside, Stays}
+use Rattle.shard_core.specs.Table.{kept_layout}
+use Rattle.shard_core.specs.declared.planned.Planned.{Planned}
+use Rattle.shard_core.specs.declared.planned.Planned.TheVariants.{Took, Busy, Idle, DiskFault, NoMemory}
+
+-- whatever state the shard stood for, its class picks this path, and it stands for the state after its drain
+abbrev pub Drains : Inside → Inside → List ℕ → ℕ → Type 0
+Drains old new path now =
+    (told : Option Image) (s : State) → Holds told old s → (picked s old.class ≡ Some path) × Holds told new (drained s path now)
+
+-- no cell is to be written: something is kept of the metric, and each pending point is older than all that its archives reach back
+abbrev pub NeedsNoWrite : Inside → List ℕ → ℕ → Type 0
+NeedsNoWrite shard path now =
+    IsSomeAnd (kept_layout shard.table path) (λ layout. All (λ p. home_of layout.archives now p.0 ≡ None) (points_of shard.cache.metrics path))
+
+-- A drain of the metric begins: it is drained for all that the shard says from now on, and its patch is on the shelf, unless there is nothing
+-- to write.
+pub record Begins (old new : Inside) (path : List ℕ) (now : ℕ) : Type 0 where
+  pub empty : old.shelf ≡ None
+  pub here : class_of path ≡ old.class
+  pub drains : Drains old new path now
+  pub shelf : IfSome new.shelf (λ drain. (drain.patch.path ≡ path) × (length drain.left < 5000000))
+  pub nothing : (new.shelf ≡ None) ↔ NeedsNoWrite old path now
+  pub fewer : length new.cache.metrics < length old.cache.metrics
+
+-- A drain was to begin and does not: the pending points, the shelf and what is known of the metrics are as before.
+pub record Refuses (old new : Inside) : Type 0 where
+  pub empty : old.shelf ≡ None
+  pub some : old.cache.metrics ≢ []
+  pub cache : new.cache ≡ old.cache
+  pub shelf : new.shelf ≡ old.shelf
+  pub table : new.table ≡ old.table
+  pub stays : Stays old new
+
+-- each answer, exactly where it comes
+abbrev pub PlansTo : Planned → Inside → Inside → ℕ → Type 0
+PlansTo (Took path) old new now = Begins old new path now
+PlansTo Busy old new now = IsSome old.shelf × (new ≡ old)
+PlansTo Idle old new now = (old.shelf ≡ None) × ((old.cache.metrics ≡ []) × (new ≡ old))
+PlansTo DiskFault old new now = Refuses old new
+PlansTo NoMemory old new now = Refuses old new
+
+-- ---- inside a plan
+
+-- the metric at a place is picked
+pub record IsPicked (picker : Picking) (cache : Cache) (place : ℕ) : Type 0 where
+  pub within : place < length cache.places
+  pub told : slice_get cache.places place ≡ pick picker.strategy picker.queue cache.metrics
+  pub settled : picker.settled ≡ Some (queue_after picker.strategy picker.queue cache.metrics)
+  pub rest : (path : List ℕ) → slice_get cache.places place ≡ Some path
+      → Follows (settled_with picker (queue_after picker.strategy picker.queue cache.metrics)) (remove_entry (bytes_eq path) cache.metrics)
+
+-- The patch makes the batch of these points of a metric of which this is known, over whatever its file reads as. It is fresh where nothing is
+-- kept of the metric.
+pub record PlansFor (known : Known) (image : Option Image) (path : List ℕ) (points : List (ℕ × ℤ)) (now : ℕ) (patch : PatchValue) : Type 0 where
+  pub own : patch.path ≡ path
+  pub layout : patch.layout ≡ known.layout
+  pub fresh : patch.fresh ≡ not known.is_kept
+  pub batch : UnderPatch patch.fresh image (file_name_of path) (λ file. (rings : Rings)
+      → ReadsAs (record { path = path; layout = patch.layout; fresh = patch.fresh; cells = [] }) file rings
+      → ReadsAs patch file (batch patch.layout now points rings))
+  pub cells : (patch.cells ≡ []) ↔ All (λ p. home_of patch.layout.archives now p.0 ≡ None) points
+
+-- the same of the pending points of a metric, which was not drained too often
+pub record MakesBatch (shard : Inside) (path : List ℕ) (now : ℕ) (patch : PatchValue) : Type 0 where
+  pub known : Known
+  pub there : entry_of shard.table path ≡ Some known
+  pub few : known.drains < 2 ^ 64 - 1
+  pub lawful : layout_fault known.layout.archives known.layout.factor ≡ None
+  pub plans : PlansFor known shard.known path (points_of shard.cache.metrics path) now patch

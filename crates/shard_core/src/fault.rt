@@ -1,0 +1,16 @@
+//! Why a shard did not start.
+use thiserror::Error;
+
+/// Why a shard did not start.
+#[derive(Debug, Drop, Error)]
+pub enum StartFault {
+    /// A ring file of the class is damaged: the first by its name, in byte order.
+    #[error("the file {0} is damaged")]
+    Damaged(String),
+    /// The disk failed.
+    #[error("the disk failed")]
+    DiskFault,
+    /// There was no memory.
+    #[error("there was no memory")]
+    NoMemory,
+}

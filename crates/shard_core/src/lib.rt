@@ -1,0 +1,21 @@
+//! One class of metrics over its disk: pending points in memory, drained points in ring files, and between them the drain that is being
+//! written, run by run.
+#![tactic(auto)]
+
+mod fault;
+mod laws;
+mod looked;
+mod looking;
+mod planned;
+mod planning;
+mod putting;
+mod reading;
+mod shard;
+mod starting;
+mod writing;
+
+pub use fault::StartFault;
+pub use laws::what_was_looked_at_may_be_read_later;
+pub use looked::{LookFault, Looked};
+pub use planned::{Planned, Wrote};
+pub use shard::Shard;

@@ -1,0 +1,77 @@
+//! Looking at metrics.
+use crate::looked::Looked;
+use crate::shard::Shard;
+use metric_table::FoundMetric;
+use outside_io::Disk;
+use path_glob::Glob;
+use point_cache::Points;
+use series_fetch::{Window, window_of};
+use std::alloc::AllocError;
+
+impl<D: Disk> Shard<D> {
+    ghost use Rattle.std.specs.Prelude.{◌≡◌, ◌≤◌, All, IfOk, map};
+    ghost use Rattle.metric_index.specs.Found.{IsFitted};
+    ghost use Rattle.metric_table.specs.Table.{seen};
+    ghost use Rattle.series_fetch.specs.Window.{IsWindow};
+    ghost use Rattle.point_cache.specs.Points.{IsRising};
+    ghost use Rattle.shard_core.specs.Looks.{IsSoundLook, LooksAt, MayRead, looked_as, looked_in};
+    ghost use Rattle.shard_core.specs.View.{inside_of};
+
+    /// The metrics that a glob fits, at the moment `now`, for a question from a moment until another, all in seconds since the Unix epoch: in
+    /// byte order of their paths, and without those of which the question has no bucket. The disk is not read.
+    pub fn look(
+        &self,
+        glob: &Glob,
+        from: u64,
+        until: u64,
+        now: u64,
+    ) -> Result<Vec<Looked>, AllocError>
+        requires order { from ≤ until }
+        requires now { now ≤ 4_000_000_000 }
+        ensures looks { IfOk result (λ looked. LooksAt (inside_of self.now) (IsFitted glob.now) now from until looked.items) }
+        ensures readable { IfOk result (λ looked. All (MayRead (inside_of self.now)) looked.items) }
+    {
+        // Each path is legal, and they rise.
+        let _ = self.table.len();
+        let found = self.table.find(self.alloc, glob)?;
+        self.look_at(&found, from, until, now)
+    }
+
+    // The found metrics of which the question has buckets.
+    fn look_at(
+        &self,
+        found: &[FoundMetric<'_>],
+        from: u64,
+        until: u64,
+        now: u64,
+    ) -> Result<Vec<Looked>, AllocError>
+        requires order { from ≤ until }
+        requires now { now ≤ 4_000_000_000 }
+        ensures looked { IfOk result (λ looked. looked.items ≡ looked_in self.now.cache.metrics now from until (map seen found.now)) }
+        ensures sound { IfOk result (λ looked. All IsSoundLook looked.items) }
+    {
+        let mut looked = Vec::new(self.alloc);
+        for metric in found {
+            let window = window_of(metric.layout, now, from, until);
+            if window != Window::Empty {
+                looked.push(self.look_at_one(metric, window)?)?;
+            }
+        }
+        Ok(looked)
+    }
+
+    // What there is to say of a metric, for a question about this window.
+    fn look_at_one(&self, metric: &FoundMetric<'_>, window: Window) -> Result<Looked, AllocError>
+        requires { IsWindow metric.now.layout.now window }
+        ensures looked { IfOk result (λ looked. looked ≡ looked_as self.now.cache.metrics window (seen metric.now)) }
+        ensures sound { IfOk result IsSoundLook }
+    {
+        Ok(Looked {
+            path: metric.path.copy()?,
+            layout: *metric.layout,
+            window,
+            pending: Points::of_rising(self.alloc, self.cache.points_of(metric.path))?,
+            drains: metric.drains,
+        })
+    }
+}

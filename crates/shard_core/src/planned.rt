@@ -1,0 +1,30 @@
+//! How plans and writes end.
+use metric_path::MetricPath;
+
+/// How a plan ended.
+#[derive(Drop)]
+pub enum Planned {
+    /// This metric's points left the cache, and are to be written.
+    Took(MetricPath),
+    /// A drain is being written, and no other was begun.
+    Busy,
+    /// Nothing is pending and nothing is to be written.
+    Idle,
+    /// The disk failed. All is as before.
+    DiskFault,
+    /// There was no memory. All is as before.
+    NoMemory,
+}
+
+/// How the write of a run ended.
+#[derive(Clone, Copy, Debug, PartialEq, Eq)]
+pub enum Wrote {
+    /// A run was written, and more are left.
+    Run,
+    /// The last run of a drain was written.
+    Finished,
+    /// There was nothing to write.
+    Nothing,
+    /// The disk failed. The run is written again.
+    DiskFault,
+}

@@ -1,0 +1,92 @@
+//! Puts of points.
+ghost use Rattle.std.specs.Prelude.{◌≡◌, Some, false, OnErr, OnOk};
+ghost use Rattle.metric_index.specs.Index.{Sets};
+ghost use Rattle.metric_table.specs.Table.{undrained};
+ghost use Rattle.schema_rules.specs.LayoutBy.{layout_by};
+
+use crate::shard::Shard;
+use metric_line::Datum;
+use metric_path::MetricPath;
+use metric_table::MetricTable;
+use outside_io::Disk;
+use point_cache::Put;
+use schema_rules::Rules;
+use std::alloc::{AllocError, Global};
+
+impl<D: Disk> Shard<D> {
+    ghost use Rattle.std.specs.Prelude.{◌≡◌, None, IsSome};
+    ghost use Rattle.metric_path.specs.Class.{class_of};
+    ghost use Rattle.metric_index.specs.Index.{entry_of};
+    ghost use Rattle.point_cache.specs.Pending.{HasRoom};
+    ghost use Rattle.shard_core.specs.Puts.{TakesPoint};
+    ghost use Rattle.shard_core.specs.Shard.{KeepsLayouts};
+    ghost use Rattle.shard_core.specs.View.{OnlyPuts, inside_of};
+
+    /// Puts a point of a metric line, whose path is of this class. The layout of a metric is settled at its first stored point: it
+    /// is that of what is kept of it, or else what the rules give it. The disk stays as it is.
+    pub fn put(&mut self, datum: &Datum) -> Put
+        requires { class_of datum.now.path ≡ self.old.class }
+        ensures put { TakesPoint (inside_of self.old) (inside_of self.new) datum.now.path datum.now.time datum.now.value result }
+        ensures layouts { KeepsLayouts (inside_of self.old) (inside_of self.new) }
+        ensures others { OnlyPuts self.old self.new }
+    {
+        // No more points are pending than may be.
+        let _ = self.cache.count();
+        if self.cache.is_full() {
+            return self.put_listed(datum);
+        }
+        match self.table.get(&datum.path) {
+            Some(_) => self.put_listed(datum),
+            None => self.put_first(datum),
+        }
+    }
+
+    // Puts a point of a metric that is known, or that finds no room.
+    fn put_listed(&mut self, datum: &Datum) -> Put
+        requires here { class_of datum.now.path ≡ self.old.class }
+        requires known { HasRoom self.old.cache → IsSome (entry_of self.old.table datum.now.path) }
+        ensures put { TakesPoint (inside_of self.old) (inside_of self.new) datum.now.path datum.now.time datum.now.value result }
+        ensures layouts { KeepsLayouts (inside_of self.old) (inside_of self.new) }
+        ensures others { OnlyPuts self.old self.new }
+    {
+        let _ = datum.path.text();
+        self.cache.put(&datum.path, datum.time, datum.value)
+    }
+
+    // Puts the first point of a metric that is not known: it is known first, and is so no more where the point is not stored.
+    fn put_first(&mut self, datum: &Datum) -> Put
+        requires here { class_of datum.now.path ≡ self.old.class }
+        requires room { HasRoom self.old.cache }
+        requires new { entry_of self.old.table datum.now.path ≡ None }
+        ensures put { TakesPoint (inside_of self.old) (inside_of self.new) datum.now.path datum.now.time datum.now.value result }
+        ensures layouts { KeepsLayouts (inside_of self.old) (inside_of self.new) }
+        ensures others { OnlyPuts self.old self.new }
+    {
+        let _ = datum.path.text();
+        match list_metric(self.alloc, &mut self.table, &self.rules, &datum.path) {
+            Ok(()) => {}
+            Err(_) => return Put::NoMemory,
+        }
+        match self.cache.put(&datum.path, datum.time, datum.value) {
+            Put::Stored => Put::Stored,
+            put => {
+                self.table.remove(&datum.path);
+                put
+            }
+        }
+    }
+}
+
+// A metric is known from now on, in the layout that the rules give it.
+fn list_metric(
+    alloc: Global,
+    table: &mut MetricTable,
+    rules: &Rules,
+    path: &MetricPath,
+) -> Result<(), AllocError>
+    ensures ok { OnOk result (Sets table.old table.new path.now (Some (undrained (layout_by rules.now path.now) false))) }
+    ensures err { OnErr result (table.new ≡ table.old) }
+{
+    let layout = rules.layout_of(alloc, path)?;
+    table.insert(path.copy()?, layout, false)
+}
