@@ -1,0 +1,14 @@
+pub mod Given
+pub mod GivenLaws
+pub mod Settled
+pub mod Functions
+pub mod Arguments
+pub mod Terms
+pub mod Sound
+pub mod Checked
+pub mod Planned
+pub mod Asked
+pub mod Needed
+pub mod Ready
+pub mod Values
+pub mod Bounds
