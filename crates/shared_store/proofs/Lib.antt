@@ -1,0 +1,5 @@
+mod DeskLemmas
+mod ClassLemmas
+mod LookLemmas
+mod StartLemmas
+mod CloseLemmas

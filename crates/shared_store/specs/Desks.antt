@@ -1,0 +1,38 @@
+-- What the lock of a class keeps.
+use Rattle.std.specs.Prelude.{Bool, ◌≡◌, ◌↔◌, ◌<◌, ◌≤◌, ◌+◌, ◌*◌, ℕ, List, length, Option, None, count_by}
+use Rattle.std.specs.Option.{option_map_or}
+use Rattle.atomic_table.specs.Seated.{TableId}
+use Rattle.outside_io.specs.Image.{Image}
+use Rattle.carbon_history.specs.declared.entry.Entry.{Entry}
+use Rattle.carbon_history.specs.Entries.{drains}
+use Rattle.write_shelf.specs.Shelf.{DrainValue}
+use Rattle.carbon_model.specs.State.{State}
+use Rattle.carbon_model.specs.Replay.{replay}
+use Rattle.shard_core.specs.Shard.{Holds, Inside}
+use Rattle.shared_history.specs.Parts.{TailValue}
+use Rattle.shared_history.specs.Rule.{OneOwed}
+use Rattle.shared_store.specs.Tallies.{capped, is_fault}
+
+-- how many runs a drain that is being written may still need: one more than are left
+abbrev pub runs_ahead : Option DrainValue → ℕ
+runs_ahead shelf = option_map_or (λ drain. length drain.left + 1) shelf 0
+
+-- What the lock of a class keeps: its shard stands for the class's part of the state after its entries; no drain is being written exactly where
+-- all of them are settled, and all but one are where one is; the runs that were written and those that may come are at most 5,000,000 for each
+-- drain; and of its entries no more are faults than its disk counted since the start.
+pub record KeepsClass (table : TableId) (told : ℕ → Option Image) (start : State) (earlier : ℕ → ℕ) (shard : Inside) (failed : ℕ) (tail : TailValue) : Type 0 where
+  pub same : tail.table ≡ table
+  pub class : tail.class ≡ shard.class
+  pub within : shard.class < 16
+  pub holds : Holds (told shard.class) shard (replay start tail.list)
+  pub settled : (shard.shelf ≡ None) ↔ (drains tail.list ≡ tail.settled)
+  pub owed : OneOwed tail.settled tail.list
+  pub runs : tail.runs + runs_ahead shard.shelf ≤ 5000000 * drains tail.list
+  pub faults : capped (earlier shard.class + count_by is_fault tail.list) ≤ failed
+
+-- what contracts see of it
+pub record DeskValue : Type 0 where
+  pub class : ℕ
+  pub list : List Entry
+  -- whether a drain is being written
+  pub shelved : Bool

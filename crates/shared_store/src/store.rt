@@ -1,0 +1,105 @@
+//! The store.
+ghost use Rattle.std.specs.Prelude.{◌≡◌, ◌≤◌, vec_capacity, vec_len};
+
+use crate::class_desk::ClassDesk;
+use crate::named::Named;
+use crate::order_desk::OrderDesk;
+use crate::step::Step;
+use metric_line::Datum;
+use outside_io::Disk;
+use point_cache::Put;
+use shard_core::{Planned, Wrote};
+use shared_history::{Pass, Tail};
+use std::sync::{Mutex, MutexGuard, Wait};
+
+/// The shards of all classes, each behind a lock of its own, and their one history behind another. Locks are taken in rising class, that of the
+/// order last, and no disk is called while the order is locked.
+#[derive(Drop)]
+pub struct Store<D: Disk, N: Named> {
+    pub(crate) order: Mutex<OrderDesk<N>>,
+    pub(crate) classes: Vec<Mutex<ClassDesk<D, N>>>,
+    // Room for what a close hands out.
+    pub(crate) disks: Vec<D>,
+    pub(crate) tails: Vec<Tail>,
+    ghost all: { vec_len classes ≡ 16 },
+    ghost no_disk: { vec_len disks ≡ 0 },
+    ghost disk_room: { 16 ≤ vec_capacity disks },
+    ghost no_tail: { vec_len tails ≡ 0 },
+    ghost tail_room: { 16 ≤ vec_capacity tails },
+}
+
+impl<D: Disk, N: Named> Store<D, N> {
+    ghost use Rattle.std.specs.Prelude.{◌≡◌, ◌<◌};
+    ghost use Rattle.std.specs.Sync.Mutex.{mutex_guard_value};
+    ghost use Rattle.carbon_history.specs.Entries.{listed};
+    ghost use Rattle.shared_store.specs.Passes.{Enters, HasRoom, LooksAgain, SameLooks};
+    ghost use Rattle.shared_store.specs.Steps.{AfterPlan, AfterWrite, StepsTo, plan_entry, put_entry, write_entry};
+
+    // The lock of a class.
+    fn lock_class<'a>(&'a self, rt: &impl Wait, class: u32) -> MutexGuard<'a, ClassDesk<D, N>>
+        requires { class < 16 }
+        ensures { (mutex_guard_value result).class ≡ class }
+    {
+        for _ in rt.forever() {
+            let desk = self.classes[class as usize].lock(rt);
+            if desk.class() == class {
+                return desk;
+            }
+        }
+        unreachable!()
+    }
+
+    /// Puts the point of a metric line: one entry with its outcome, or none where there is no memory, and then all is as before.
+    pub fn put(&self, rt: &impl Wait, pass: &mut Pass, datum: &Datum) -> Put
+        requires one { pass.old.table ≡ N.table }
+        requires room { HasRoom pass.old }
+        ensures enters { Enters N.start N.passes
+            (listed (put_entry pass.old.number datum.now.path datum.now.time datum.now.value result))
+            pass.old pass.new }
+        ensures looks { SameLooks pass.old pass.new }
+    {
+        let mut desk = self.lock_class(rt, datum.path.class());
+        desk.put(rt, &self.order, pass, datum)
+    }
+
+    /// Begins the drain of the metric of a class that goes next, at the moment `now`, unless one is being written: one entry where a metric was
+    /// taken, and one where the disk failed.
+    pub fn plan_step(&self, rt: &impl Wait, pass: &mut Pass, class: u32, now: u32) -> Planned
+        requires class { class < 16 }
+        requires one { pass.old.table ≡ N.table }
+        requires room { HasRoom pass.old }
+        ensures enters { Enters N.start N.passes
+            (listed (plan_entry pass.old.number class now result)) pass.old pass.new }
+        ensures after { AfterPlan N.start class now result pass.old pass.new }
+        ensures looks { LooksAgain class pass.old pass.new }
+    {
+        let mut desk = self.lock_class(rt, class);
+        desk.plan(rt, &self.order, pass, now)
+    }
+
+    /// Writes the next run of the drain of a class that is being written: one entry where the disk failed. No memory is taken.
+    pub fn write_step(&self, rt: &impl Wait, pass: &mut Pass, class: u32) -> Wrote
+        requires class { class < 16 }
+        requires one { pass.old.table ≡ N.table }
+        requires room { HasRoom pass.old }
+        ensures enters { Enters N.start N.passes
+            (listed (write_entry pass.old.number class result)) pass.old pass.new }
+        ensures after { AfterWrite class result pass.old pass.new }
+        ensures looks { LooksAgain class pass.old pass.new }
+    {
+        let mut desk = self.lock_class(rt, class);
+        desk.write(rt, &self.order, pass)
+    }
+
+    /// One step of draining a class at the moment `now`: the next run of the drain that is being written, or else the begin of one.
+    pub fn drain_step(&self, rt: &impl Wait, pass: &mut Pass, class: u32, now: u32) -> Step
+        requires class { class < 16 }
+        requires one { pass.old.table ≡ N.table }
+        requires room { HasRoom pass.old }
+        ensures steps { StepsTo N.start N.passes class now result pass.old pass.new }
+        ensures looks { LooksAgain class pass.old pass.new }
+    {
+        let mut desk = self.lock_class(rt, class);
+        desk.step(rt, &self.order, pass, now)
+    }
+}
