@@ -9,3 +9,4 @@ mod SoundLemmas
 mod RangeLemmas
 mod TakenLemmas
 mod ValueLemmas
+mod RowLemmas

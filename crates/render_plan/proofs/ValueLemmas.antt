@@ -1,5 +1,5 @@
 -- The values of targets, one after the other.
-use Rattle.std.proofs.Common.{◌≡◌, ℕ, zero, suc, ◌+◌, ◌-◌, ◌*◌, ◌^◌, ◌≤◌, ◌<◌, List, [], ◌∷◌, ◌++◌, All, drop, get_or, length, Option, Result, Ok, Err, refl, sym, ap, subst, ◌∙◌, append_assoc, arith}
+use Rattle.std.proofs.Common.{◌≡◌, ℕ, zero, suc, ◌+◌, ◌-◌, ◌*◌, ◌^◌, ◌≤◌, ◌<◌, List, [], ◌∷◌, ◌++◌, All, drop, get_or, length, Option, None, Result, Ok, Err, refl, sym, ap, subst, ◌∙◌, append_assoc, arith}
 use Rattle.std.proofs.lemmas.List.{append-nil, drop-drop, drop_all, length-append}
 use Rattle.std.proofs.Math.Seq.{drop-cons}
 use Rattle.std.proofs.lemmas.List.Elements.{All-append, All-cons, All-head, All-nil, All-tail, All-weaker}
@@ -10,9 +10,11 @@ use Rattle.series_funcs.specs.Combined.{most_series}
 use Rattle.target_parse.specs.Bytes.{most_depth}
 use Rattle.time_range.specs.SpanOf.{latest}
 use Rattle.render_plan.specs.declared.operation.Operation.{Operation}
+use Rattle.render_plan.specs.declared.settings.Format.{Format}
+use Rattle.render_plan.specs.declared.settings.Format.TheVariants.{Csv}
 use Rattle.render_plan.specs.declared.target.Target.{Target}
 use Rattle.render_plan.specs.Sound.{AreSound}
-use Rattle.render_plan.specs.Bounds.{AreLimited, AreMadeOf, AreRows, IsEarly, IsMade, end_within, greatest_end, latest_row_end}
+use Rattle.render_plan.specs.Bounds.{AreLimited, AreMadeOf, AreRows, IsEarly, IsMade, end_within, greatest_end, latest_csv_end, latest_row_end}
 use Rattle.render_plan.specs.Terms.{Term, Terms, Fetch, Apply, NoTerms, WithTerm, all_terms, term_of, terms_of}
 use Rattle.render_plan.specs.Values.{Answers, Applies, HasValue, HaveValues, Rows, concat, most_of, nth, path_count, path_counts, set_before, thinned_all}
 use Rattle.render_plan.specs.Planned.{Plan}
@@ -184,3 +186,13 @@ answer_stop plan rows fault have = (Err fault, have, refl)
 pub thinnable : (rows left : Rows) (set : List SeriesValue) → AreMadeOf rows left (end_within most_depth) set → All (λ s. 2 * end_of s ≤ latest_end) set
 unfolding end_within
 thinnable rows left set made = All-weaker (IsEarly (end_within most_depth)) (λ s. 2 * end_of s ≤ latest_end) (λ s e. omega (arith, e.early)) set made.early
+
+-- an answer as comma-separated values has the series as they were made
+pub answer_dated : (format : Format) (points most : Option ℕ) (rows left sets : Rows) (all answer : List SeriesValue) → AreMadeOf rows left (end_within most_depth) (concat sets)
+    → all ≡ concat sets → most ≡ most_of format points → answer ≡ thinned_all most all → format ≡ Csv → All (λ s. end_of s ≤ latest_csv_end) answer
+unfolding end_within
+answer_dated format points most rows left sets all answer made joined some is csv =
+    let none : most ≡ None = some ∙ ap (λ (f : Format). most_of f points) csv in
+    let whole : answer ≡ concat sets = is ∙ ap (λ (n : Option ℕ). thinned_all n all) none ∙ joined in
+    let early = All-weaker (IsEarly (end_within most_depth)) (λ s. end_of s ≤ latest_csv_end) (λ s e. omega (arith, e.early)) (concat sets) made.early in
+    subst (λ (set : List SeriesValue). All (λ s. end_of s ≤ latest_csv_end) set) (sym whole) early

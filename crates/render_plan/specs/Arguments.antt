@@ -62,12 +62,15 @@ most_node = 64
 
 -- the number of digits alone, up to this one
 unfoldable pub count_up_to : ℕ → List ℕ → Option ℕ
-count_up_to most text = if is_digits text && nat_le (digits_value 10 text) most then Some (digits_value 10 text) else None
+count_up_to most text =
+    if is_digits text && nat_le (digits_value 10 text) most then Some (digits_value 10 text)
+    else None
 
 -- the number of a node: digits, and a minus before them or none
 unfoldable pub node_of : List ℕ → Option ℤ
 node_of text =
-    if starts_with_minus text then option_map (λ number. neg_ℤ (pos number)) (count_up_to most_node (without_leading_sign text))
+    if starts_with_minus text then
+    option_map (λ number. neg_ℤ (pos number)) (count_up_to most_node (without_leading_sign text))
     else option_map pos (count_up_to most_node text)
 
 abbrev pub not_below_zero : ℤ → Option ℕ
@@ -87,11 +90,15 @@ factor_of text = result_ok (nano_result text)
 
 -- a span that is not 0
 unfoldable pub span_of_text : List ℕ → Option Span
-span_of_text text = option_and_then (λ span. if span.seconds == 0 then None else Some span) (result_ok (span_of text))
+span_of_text text =
+    option_and_then (λ span. if span.seconds == 0 then None else Some span)
+    (result_ok (span_of text))
 
 -- the seconds of a span that may be a step, whatever its sign
 unfoldable pub step_of : List ℕ → Option ℕ
-step_of text = option_and_then (λ span. if nat_le span.seconds widest_step then Some span.seconds else None) (span_of_text text)
+step_of text =
+    option_and_then (λ span. if nat_le span.seconds widest_step then Some span.seconds else None)
+    (span_of_text text)
 
 unfoldable pub gather_of : List ℕ → Option Gather
 gather_of text =
@@ -113,16 +120,26 @@ combine_of text =
 -- an argument as one of a kind, if it is one
 unfoldable pub argument_of : Kind → Tree → Option Argument
 argument_of kind.Series tree = if is_series tree then Some argument.Series else None
-argument_of kind.Count tree = option_and_then (λ text. option_map argument.Count (count_up_to most_count text)) (number_in tree)
-argument_of kind.Value tree = option_and_then (λ text. option_map argument.Value (value_of_text text)) (number_in tree)
-argument_of kind.Factor tree = option_and_then (λ text. option_map argument.Factor (factor_of text)) (number_in tree)
-argument_of kind.Span tree = option_and_then (λ text. option_map argument.Span (span_of_text text)) (quoted_in tree)
-argument_of kind.Step tree = option_and_then (λ text. option_map argument.Step (step_of text)) (quoted_in tree)
-argument_of kind.Gather tree = option_and_then (λ text. option_map argument.Gather (gather_of text)) (quoted_in tree)
+argument_of kind.Count tree =
+    option_and_then (λ text. option_map argument.Count (count_up_to most_count text))
+    (number_in tree)
+argument_of kind.Value tree =
+    option_and_then (λ text. option_map argument.Value (value_of_text text)) (number_in tree)
+argument_of kind.Factor tree =
+    option_and_then (λ text. option_map argument.Factor (factor_of text)) (number_in tree)
+argument_of kind.Span tree =
+    option_and_then (λ text. option_map argument.Span (span_of_text text)) (quoted_in tree)
+argument_of kind.Step tree =
+    option_and_then (λ text. option_map argument.Step (step_of text)) (quoted_in tree)
+argument_of kind.Gather tree =
+    option_and_then (λ text. option_map argument.Gather (gather_of text)) (quoted_in tree)
 argument_of kind.False tree = if is_false tree then Some argument.False else None
-argument_of kind.Node tree = option_and_then (λ text. option_map argument.Node (node_of text)) (number_in tree)
-argument_of kind.Place tree = option_and_then (λ text. option_map argument.Place (place_of text)) (number_in tree)
-argument_of kind.Combine tree = option_and_then (λ text. option_map argument.Combine (combine_of text)) (quoted_in tree)
+argument_of kind.Node tree =
+    option_and_then (λ text. option_map argument.Node (node_of text)) (number_in tree)
+argument_of kind.Place tree =
+    option_and_then (λ text. option_map argument.Place (place_of text)) (number_in tree)
+argument_of kind.Combine tree =
+    option_and_then (λ text. option_map argument.Combine (combine_of text)) (quoted_in tree)
 argument_of kind.Text tree = option_map (λ text. argument.Text) (quoted_in tree)
 
 -- ---- ranges
@@ -150,10 +167,13 @@ needs_more (Maybe kind ∷ takes) = false
 needs_more (Any kind ∷ takes) = false
 
 abbrev pub one_before : Option Argument → Option (List Argument) → Option (List Argument)
-one_before first others = option_and_then (λ argument. option_map (λ arguments. argument ∷ arguments) others) first
+one_before first others =
+    option_and_then (λ argument. option_map (λ arguments. argument ∷ arguments) others) first
 
--- The arguments of a call as its function takes them, in order: each is of the kind that stands at its place, and none is missing or too many.
+-- The arguments of a call as its function takes them, in order: each is of the kind that stands at
+-- its place, and none is missing or too many.
 abbrev pub arguments_of : List Takes → Trees → Option (List Argument)
 arguments_of takes End = if needs_more takes then None else Some []
 arguments_of takes (Then tree trees) =
-    option_and_then (λ next. one_before (argument_of next.0 tree) (arguments_of next.1 trees)) (next_kind takes)
+    option_and_then (λ next. one_before (argument_of next.0 tree) (arguments_of next.1 trees))
+    (next_kind takes)

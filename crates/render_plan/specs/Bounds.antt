@@ -10,7 +10,8 @@ use Rattle.render_plan.specs.Values.{Rows, concat}
 abbrev pub latest_row_end : ℕ
 latest_row_end = 5000000000
 
--- a call moves an end by less than the longest shift: so late a series ends in calls that nest so deep
+-- a call moves an end by less than the longest shift: so late a series ends in calls that nest so
+-- deep
 unfoldable pub end_within : ℕ → ℕ
 end_within levels = latest_row_end + levels * latest
 
@@ -24,7 +25,8 @@ pub record AreRows (rows : Rows) : Type 0 where
   pub few : length (concat rows) ≤ most_series
   pub early : All (IsEarly latest_row_end) (concat rows)
 
--- series made of the first of some rows, of which others are left: there are no more than were taken, and they end so early
+-- series made of the first of some rows, of which others are left: there are no more than were
+-- taken, and they end so early
 pub record AreMadeOf (rows left : Rows) (by : ℕ) (set : List SeriesValue) : Type 0 where
   pub few : length set + length (concat left) ≤ length (concat rows)
   pub early : All (IsEarly by) set
@@ -42,3 +44,7 @@ pub record AreLimited (set : List SeriesValue) : Type 0 where
 pub record IsMade (others set : List SeriesValue) : Type 0 where
   pub few : length set ≤ length others
   pub soon : (by : ℕ) → All (IsEarly by) others → All (IsEarly (by + latest)) set
+
+-- the latest end of a series whose moments have dates, as those of comma-separated values
+abbrev pub latest_csv_end : ℕ
+latest_csv_end = 253402207200

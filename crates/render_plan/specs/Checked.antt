@@ -15,11 +15,13 @@ abbrev pub or_bad_argument : {A : Type 0} → Option A → Result A Refusal
 or_bad_argument (Some x) = Ok x
 or_bad_argument None = Err BadArgument
 
-abbrev pub check_then : {A B : Type 0} → Result A Refusal → (A → Result B Refusal) → Result B Refusal
+abbrev pub check_then : {A B : Type 0} → Result A Refusal → (A → Result B Refusal)
+    → Result B Refusal
 check_then (Ok x) next = next x
 check_then (Err refusal) next = Err refusal
 
--- What a call makes of its series: there has to be a function of its name, which takes its arguments.
+-- What a call makes of its series: there has to be a function of its name, which takes its
+-- arguments.
 unfoldable pub call_operation : Tree → List ℕ → Trees → Result Operation Refusal
 call_operation call name arguments =
     option_map_or (λ row.
@@ -28,7 +30,8 @@ call_operation call name arguments =
     (row_of name) (Err UnknownFunction)
 
 abbrev pub with_term : Result Term Refusal → Result Terms Refusal → Result Terms Refusal
-with_term first others = check_then first (λ term. check_then others (λ terms. Ok (WithTerm term terms)))
+with_term first others =
+    check_then first (λ term. check_then others (λ terms. Ok (WithTerm term terms)))
 
 abbrev mutual
   -- what a target asks to be done, or the first refusal of its calls
@@ -44,7 +47,8 @@ abbrev mutual
   -- what the arguments that are series ask
   pub checked_all : Trees → Result Terms Refusal
   checked_all End = Ok NoTerms
-  checked_all (Then tree trees) = if is_series tree then with_term (checked tree) (checked_all trees) else checked_all trees
+  checked_all (Then tree trees) =
+      if is_series tree then with_term (checked tree) (checked_all trees) else checked_all trees
 
 -- ---- what the code has of it
 

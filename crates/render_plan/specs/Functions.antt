@@ -18,7 +18,8 @@ use Rattle.render_plan.specs.declared.function.Beside.TheVariants as sides
 use Rattle.render_plan.specs.declared.function.Match.TheVariants as matches
 use Rattle.render_plan.specs.declared.function.Regrouping.TheVariants as groupings
 
--- A row of the table: the names of a function, what it makes of its series, and the arguments that it takes, in order.
+-- A row of the table: the names of a function, what it makes of its series, and the arguments that
+-- it takes, in order.
 pub record Row : Type 0 where
   pub names : List (List ℕ)
   pub function : Function
@@ -130,4 +131,8 @@ row_of name = find (has_name name) functions
 
 -- what the code has of it
 abbrev pub row_seen : Line → Row
-row_seen line = record { names = line.name.now ∷ option_map_or (λ alias. alias.now ∷ []) line.alias []; function = line.function; takes = line.takes.now }
+row_seen line = record {
+  names = line.name.now ∷ option_map_or (λ alias. alias.now ∷ []) line.alias [];
+  function = line.function;
+  takes = line.takes.now;
+}

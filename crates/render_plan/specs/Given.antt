@@ -21,7 +21,8 @@ key_of name =
     (if bytes_eq name (codes "format") then Some Format else
     (if bytes_eq name (codes "maxDataPoints") then Some Points else None))))
 
--- A further text of a parameter: a target comes to the others, any other takes the place of the one before.
+-- A further text of a parameter: a target comes to the others, any other takes the place of the one
+-- before.
 abbrev pub with_key : Parameters → Key → List ℕ → Parameters
 with_key given Target text = record given { targets = given.targets ++ text ∷ [] }
 with_key given From text = record given { from = Some text }
@@ -32,12 +33,14 @@ with_key given Points text = record given { points = Some text }
 -- a further parameter; one that is empty says nothing
 unfoldable pub with_pair : Parameters → List ℕ → List ℕ → Parameters
 with_pair given name value =
-    if length value == 0 then given else option_map_or (λ key. with_key given key value) (key_of name) given
+    if length value == 0 then given else
+    option_map_or (λ key. with_key given key value) (key_of name) given
 
 -- the further parameters of pairs of a form, from the first to the last
 abbrev pub with_pairs : Parameters → List (List ℕ × List ℕ) → Parameters
 with_pairs given [] = given
-with_pairs given (pair ∷ pairs) = with_pairs (with_pair given (form_text pair.0) (form_text pair.1)) pairs
+with_pairs given (pair ∷ pairs) =
+    with_pairs (with_pair given (form_text pair.0) (form_text pair.1)) pairs
 
 abbrev pub no_parameters : Parameters
 no_parameters = record { targets = []; from = None; until = None; format = None; points = None }

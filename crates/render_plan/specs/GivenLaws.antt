@@ -31,7 +31,8 @@ last_text (text ∷ texts) = option_or (last_text texts) (Some text)
 abbrev pub pairs_in : List ℕ → List ℕ → List (List ℕ × List ℕ)
 pairs_in query body = raw_pairs query ++ raw_pairs body
 
--- All targets that are not empty are read, in order; and of any other parameter the last text that is not empty.
+-- All targets that are not empty are read, in order; and of any other parameter the last text that
+-- is not empty.
 pub record AreGiven (query body : List ℕ) : Type 0 where
   pub targets : (parameters_in query body).targets ≡ texts_of Target (pairs_in query body)
   pub from : (parameters_in query body).from ≡ last_text (texts_of From (pairs_in query body))

@@ -17,30 +17,36 @@ no_shift = record { later = 0; earlier = 0 }
 -- a span more, in its direction
 abbrev pub with_shape : Shift → Shape → Shift
 with_shape shift (TimeShift past seconds) =
-    if past then record { later = shift.later; earlier = shift.earlier + seconds } else record { later = shift.later + seconds; earlier = shift.earlier }
+    if past then record { later = shift.later; earlier = shift.earlier + seconds }
+    else record { later = shift.later + seconds; earlier = shift.earlier }
 with_shape shift _ = shift
 
 abbrev pub with_operation : Shift → Operation → Shift
 with_operation shift (operation.Shape kind function tail) = with_shape shift kind
 with_operation shift _ = shift
 
--- A moment that is moved once by all spans. It is the epoch where it would be before it, and the latest where it would be after that.
+-- A moment that is moved once by all spans. It is the epoch where it would be before it, and the
+-- latest where it would be after that.
 abbrev pub moved : Shift → ℕ → ℕ
 moved shift moment = min (moment + shift.later - shift.earlier) latest
 
 -- the series that a path needs within calls that shift it so
 abbrev pub need_at : ℕ → ℕ → Shift → Said → Need
-need_at from until shift glob = record { glob = glob; from = moved shift from; until = moved shift until }
+need_at from until shift glob =
+    record { glob = glob; from = moved shift from; until = moved shift until }
 
--- The needs of a target, one for each of its paths, from the left. The spans of nested shifts are added up, and then the ends are moved once.
+-- The needs of a target, one for each of its paths, from the left. The spans of nested shifts are
+-- added up, and then the ends are moved once.
 abbrev mutual
   pub needs_in : ℕ → ℕ → Shift → Term → List Need
   needs_in from until shift (Fetch glob) = need_at from until shift glob ∷ []
-  needs_in from until shift (Apply operation terms) = needs_in_all from until (with_operation shift operation) terms
+  needs_in from until shift (Apply operation terms) =
+      needs_in_all from until (with_operation shift operation) terms
 
   pub needs_in_all : ℕ → ℕ → Shift → Terms → List Need
   needs_in_all from until shift NoTerms = []
-  needs_in_all from until shift (WithTerm term terms) = needs_in from until shift term ++ needs_in_all from until shift terms
+  needs_in_all from until shift (WithTerm term terms) =
+      needs_in from until shift term ++ needs_in_all from until shift terms
 
 -- the needs of a query, in the order of its targets
 unfoldable pub needs_of : Plan → List Need

@@ -48,14 +48,17 @@ target_at n text = or_parse_fault n (read_target text)
 abbrev pub targets_from : ℕ → List (List ℕ) → Result (List Term) QueryFault
 targets_from n [] = Ok []
 targets_from n (text ∷ texts) =
-    where_good (target_at n text) (λ term. where_good (targets_from (n + 1) texts) (λ terms. Ok (term ∷ terms)))
+    where_good (target_at n text) (λ term.
+    where_good (targets_from (n + 1) texts) (λ terms.
+    Ok (term ∷ terms)))
 
 abbrev pub targets_or_fault : List (List ℕ) → Result (List Term) QueryFault
 targets_or_fault texts =
     if length texts == 0 then Err NoTarget else
     (if nat_lt most_targets (length texts) then Err TooManyTargets else targets_from 1 texts)
 
--- What a query asks: what its targets ask, in order, from which moment until which, in which form and with how many values.
+-- What a query asks: what its targets ask, in order, from which moment until which, in which form
+-- and with how many values.
 pub record Plan : Type 0 where
   pub targets : List Term
   pub from : ℕ
@@ -64,7 +67,13 @@ pub record Plan : Type 0 where
   pub points : Option ℕ
 
 abbrev pub plan_of : List Term → Settings → Plan
-plan_of terms settings = record { targets = terms; from = settings.from; until = settings.until; format = settings.format; points = settings.points }
+plan_of terms settings = record {
+  targets = terms;
+  from = settings.from;
+  until = settings.until;
+  format = settings.format;
+  points = settings.points;
+}
 
 -- what a query asks at a moment, or its first fault: that of a target before any of the others
 unfoldable pub read_plan : List ℕ → List ℕ → ℕ → Result Plan QueryFault

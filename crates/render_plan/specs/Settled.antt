@@ -13,7 +13,8 @@ use Rattle.render_plan.specs.declared.settings.Format.TheVariants.{Json, Raw, Cs
 use Rattle.render_plan.specs.declared.settings.Settings.{Settings}
 
 -- what follows where nothing was refused so far
-abbrev pub where_good : {A B : Type 0} → Result A QueryFault → (A → Result B QueryFault) → Result B QueryFault
+abbrev pub where_good : {A B : Type 0} → Result A QueryFault
+    → (A → Result B QueryFault) → Result B QueryFault
 where_good (Ok x) next = next x
 where_good (Err fault) next = Err fault
 
@@ -48,9 +49,11 @@ points_of text =
 
 unfoldable pub points_or_all : Option (List ℕ) → Result (Option ℕ) QueryFault
 points_or_all None = Ok None
-points_or_all (Some text) = option_map_or (λ points. Ok (Some points)) (points_of text) (Err BadPoints)
+points_or_all (Some text) =
+    option_map_or (λ points. Ok (Some points)) (points_of text) (Err BadPoints)
 
--- What the parameters say at a moment, or the first that is refused: `from` and then `until`, both together, the format, the number of points.
+-- What the parameters say at a moment, or the first that is refused: `from` and then `until`, both
+-- together, the format, the number of points.
 unfoldable pub settled : Parameters → ℕ → Result Settings QueryFault
 settled given now =
     where_good (time_or given.from now (now - default_span)) (λ from.

@@ -24,7 +24,8 @@ IsSoundOperation _ = ⊤
 abbrev mutual
   pub IsSound : ℕ → Term → Type 0
   IsSound levels (Fetch glob) = ⊤
-  IsSound levels (Apply operation terms) = (1 ≤ levels) × IsSoundOperation operation × AreSound (levels - 1) terms
+  IsSound levels (Apply operation terms) =
+      (1 ≤ levels) × IsSoundOperation operation × AreSound (levels - 1) terms
 
   pub AreSound : ℕ → Terms → Type 0
   AreSound levels NoTerms = ⊤

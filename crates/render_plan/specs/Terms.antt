@@ -1,7 +1,9 @@
--- What a target asks to be done: a tree of calls, each with what it makes of the series of its arguments.
+-- What a target asks to be done: a tree of calls, each with what it makes of the series of its
+-- arguments.
 use Rattle.std.specs.Prelude.{ℕ, ℤ, pos, List, [], ◌∷◌, filter_map, map, Option, Some, None, option_map, slice_get, if◌then◌else◌}
 use Rattle.std.specs.Option.{option_and_then, unwrap_or}
 use Rattle.path_glob.specs.Faults.{Said}
+use Rattle.name_pattern.specs.Patterns.{is_readable}
 use Rattle.time_range.specs.declared.span.Span.{Span}
 use Rattle.series_funcs.specs.declared.kinds.Gather.{Gather}
 use Rattle.series_funcs.specs.declared.kinds.Gather.TheVariants.{Sum}
@@ -9,7 +11,6 @@ use Rattle.series_funcs.specs.declared.kinds.Shape.{Shape}
 use Rattle.series_funcs.specs.declared.kinds.Shape.TheVariants as shape
 use Rattle.series_funcs.specs.declared.kinds.Regroup.{Regroup}
 use Rattle.series_funcs.specs.declared.kinds.Regroup.TheVariants as regroup
-use Rattle.series_pick.specs.Patterns.{is_readable}
 use Rattle.series_pick.specs.declared.kinds.Choose.{Choose}
 use Rattle.series_pick.specs.declared.kinds.Choose.TheVariants as choose
 use Rattle.target_parse.specs.Tree.{Tree, Call, Path, Number, Flag, Quoted, Trees, End, Then, further_texts, text_of}
@@ -77,12 +78,17 @@ shape_of shapings.Scale second third = option_map shape.Scale (factor_in second)
 shape_of shapings.Offset second third = option_map shape.Offset (value_in second)
 shape_of shapings.Delay second third = option_map shape.Delay (count_in second)
 shape_of shapings.KeepLastValue second third = Some (shape.KeepLastValue (count_in second))
-shape_of shapings.TransformNull second third = Some (shape.TransformNull (unwrap_or (value_in second) (pos 0)))
-shape_of shapings.RemoveAboveValue second third = option_map shape.RemoveAboveValue (value_in second)
-shape_of shapings.RemoveBelowValue second third = option_map shape.RemoveBelowValue (value_in second)
+shape_of shapings.TransformNull second third =
+    Some (shape.TransformNull (unwrap_or (value_in second) (pos 0)))
+shape_of shapings.RemoveAboveValue second third =
+    option_map shape.RemoveAboveValue (value_in second)
+shape_of shapings.RemoveBelowValue second third =
+    option_map shape.RemoveBelowValue (value_in second)
 shape_of shapings.ScaleToSeconds second third = option_map shape.ScaleToSeconds (count_in second)
-shape_of shapings.Summarize second third = option_map (λ step. shape.Summarize step (unwrap_or (gather_in third) Sum)) (step_in second)
-shape_of shapings.TimeShift second third = option_map (λ span. shape.TimeShift span.past span.seconds) (span_in second)
+shape_of shapings.Summarize second third =
+    option_map (λ step. shape.Summarize step (unwrap_or (gather_in third) Sum)) (step_in second)
+shape_of shapings.TimeShift second third =
+    option_map (λ span. shape.TimeShift span.past span.seconds) (span_in second)
 
 -- the first of all paths of a tree, from the left
 abbrev pub leftmost : Tree → Tree
@@ -179,7 +185,8 @@ abbrev pub alias_of : List ℕ → Choose
 alias_of name = choose.Alias name
 
 unfoldable pub alias_sub : List ℕ → List ℕ → Option Choose
-alias_sub pattern replacement = if is_readable pattern then Some (choose.AliasSub pattern replacement) else None
+alias_sub pattern replacement =
+    if is_readable pattern then Some (choose.AliasSub pattern replacement) else None
 
 abbrev pub node_in : Argument → Option ℤ
 node_in (argument.Node node) = Some node
@@ -188,13 +195,18 @@ node_in _ = None
 -- which series a call leaves
 unfoldable pub choose_of : Choosing → Tree → List Argument → Option Choose
 choose_of (choices.Plain kind) call arguments = Some (plain kind)
-choose_of (choices.First kind) call arguments = option_map (so_many kind) (count_in (slice_get arguments 1))
-choose_of (choices.Beside kind) call arguments = option_map (beside kind) (value_in (slice_get arguments 1))
-choose_of (choices.Match kind) call arguments = option_and_then (matching_choice kind) (text_of_second call)
+choose_of (choices.First kind) call arguments =
+    option_map (so_many kind) (count_in (slice_get arguments 1))
+choose_of (choices.Beside kind) call arguments =
+    option_map (beside kind) (value_in (slice_get arguments 1))
+choose_of (choices.Match kind) call arguments =
+    option_and_then (matching_choice kind) (text_of_second call)
 choose_of choices.Alias call arguments = option_map alias_of (text_of_second call)
 choose_of choices.AliasSub call arguments =
-    option_and_then (λ pattern. option_and_then (alias_sub pattern) (text_of_third call)) (text_of_second call)
-choose_of choices.AliasByNode call arguments = Some (choose.AliasByNode (filter_map node_in arguments))
+    option_and_then (λ pattern. option_and_then (alias_sub pattern) (text_of_third call))
+    (text_of_second call)
+choose_of choices.AliasByNode call arguments =
+    Some (choose.AliasByNode (filter_map node_in arguments))
 
 -- ---- groups
 
@@ -203,14 +215,18 @@ place_in (argument.Place place) = Some place
 place_in _ = None
 
 abbrev pub group_by : Option Argument → Option Argument → Option Regroup
-group_by (Some (argument.Node node)) (Some (argument.Combine kind)) = Some (regroup.GroupByNode node kind)
+group_by (Some (argument.Node node)) (Some (argument.Combine kind)) =
+    Some (regroup.GroupByNode node kind)
 group_by _ _ = None
 
 -- how a call groups series
 unfoldable pub regroup_of : Regrouping → List Argument → Option Regroup
-regroup_of groupings.GroupByNode arguments = group_by (slice_get arguments 1) (slice_get arguments 2)
-regroup_of groupings.SumSeriesWithWildcards arguments = Some (regroup.SumSeriesWithWildcards (filter_map place_in arguments))
-regroup_of groupings.AverageSeriesWithWildcards arguments = Some (regroup.AverageSeriesWithWildcards (filter_map place_in arguments))
+regroup_of groupings.GroupByNode arguments =
+    group_by (slice_get arguments 1) (slice_get arguments 2)
+regroup_of groupings.SumSeriesWithWildcards arguments =
+    Some (regroup.SumSeriesWithWildcards (filter_map place_in arguments))
+regroup_of groupings.AverageSeriesWithWildcards arguments =
+    Some (regroup.AverageSeriesWithWildcards (filter_map place_in arguments))
 
 -- ---- all calls
 
@@ -220,15 +236,20 @@ chosen_call = option_map operation.Choose
 abbrev pub grouped_call : Option Regroup → Option Operation
 grouped_call = option_map operation.Regroup
 
--- What a call makes of its series. Combined series are named as the call is written, and have the path that stands leftmost in it.
+-- What a call makes of its series. Combined series are named as the call is written, and have the
+-- path that stands leftmost in it.
 unfoldable pub operation_of : Function → Tree → List Argument → Option Operation
-operation_of (function.Combine kind) call arguments = Some (operation.Combine kind (text_of call) (text_of (leftmost call)))
+operation_of (function.Combine kind) call arguments =
+    Some (operation.Combine kind (text_of call) (text_of (leftmost call)))
 operation_of function.Divide call arguments = Some operation.Divide
 operation_of function.Group call arguments = Some operation.Group
 operation_of function.Fallback call arguments = Some operation.Fallback
-operation_of (function.Shape shaping) call arguments = shaped_call (shape_of shaping (slice_get arguments 1) (slice_get arguments 2)) call
-operation_of (function.Choose choosing) call arguments = chosen_call (choose_of choosing call arguments)
-operation_of (function.Regroup regrouping) call arguments = grouped_call (regroup_of regrouping arguments)
+operation_of (function.Shape shaping) call arguments =
+    shaped_call (shape_of shaping (slice_get arguments 1) (slice_get arguments 2)) call
+operation_of (function.Choose choosing) call arguments =
+    chosen_call (choose_of choosing call arguments)
+operation_of (function.Regroup regrouping) call arguments =
+    grouped_call (regroup_of regrouping arguments)
 
 -- ---- the tree
 

@@ -53,18 +53,21 @@ IsOkWith (Err fault) P = ⊥
 
 -- What a call makes of the series of its arguments, or why these have no value together.
 abbrev pub Applies : Operation → Rows → Result (List SeriesValue) EvalFault → Type 0
-Applies (operation.Combine kind name path) sets result = combine kind (concat sets) name path ≡ result
+Applies (operation.Combine kind name path) sets result =
+    combine kind (concat sets) name path ≡ result
 Applies operation.Divide sets result = divide (nth sets 0) (nth sets 1) ≡ result
 Applies operation.Group sets result = Ok (concat sets) ≡ result
 Applies operation.Fallback sets result = Ok (or_else (nth sets 0) (nth sets 1)) ≡ result
-Applies (operation.Shape kind function tail) sets result = shape kind function tail (nth sets 0) ≡ result
+Applies (operation.Shape kind function tail) sets result =
+    shape kind function tail (nth sets 0) ≡ result
 Applies (operation.Choose kind) sets result = IsOkWith result (Chooses kind (nth sets 0))
 Applies (operation.Regroup kind) sets result = regroup kind (nth sets 0) ≡ result
 
 -- ---- targets
 
 -- what follows from what came first, or its fault
-abbrev pub GoesOn : {A B : Type 0} → Result A EvalFault → (A → Result B EvalFault → Type 0) → Result B EvalFault → Type 0
+abbrev pub GoesOn : {A B : Type 0} → Result A EvalFault → (A → Result B EvalFault → Type 0)
+    → Result B EvalFault → Type 0
 GoesOn (Ok x) next result = next x result
 GoesOn (Err fault) next result = result ≡ Err fault
 
@@ -72,19 +75,24 @@ abbrev pub set_before : List SeriesValue → Result Rows EvalFault → Result Ro
 set_before set (Ok sets) = Ok (set ∷ sets)
 set_before set (Err fault) = Err fault
 
--- The value of a target over the series of its paths, one list for each from the left. A call has what its function makes of the values of its
--- arguments. These come before it and from the left, and the first fault that is met is the value of all.
+-- The value of a target over the series of its paths, one list for each from the left. A call has
+-- what its function makes of the values of its
+-- arguments. These come before it and from the left, and the first fault that is met is the value
+-- of all.
 abbrev mutual
   pub HasValue : Term → Rows → Result (List SeriesValue) EvalFault → Type 0
   HasValue (Fetch glob) rows result = result ≡ Ok (nth rows 0)
   HasValue (Apply operation terms) rows result =
-      (sets : Result Rows EvalFault) × HaveValues terms rows sets × GoesOn sets (Applies operation) result
+      (sets : Result Rows EvalFault) × HaveValues terms rows sets
+      × GoesOn sets (Applies operation) result
 
   pub HaveValues : Terms → Rows → Result Rows EvalFault → Type 0
   HaveValues NoTerms rows result = result ≡ Ok []
   HaveValues (WithTerm term terms) rows result =
       (first : Result (List SeriesValue) EvalFault) × HasValue term rows first
-      × GoesOn first (λ set whole. (others : Result Rows EvalFault) × HaveValues terms (drop (path_count term) rows) others × (whole ≡ set_before set others)) result
+      × GoesOn first (λ set whole. (others : Result Rows EvalFault)
+      × HaveValues terms (drop (path_count term) rows) others
+      × (whole ≡ set_before set others)) result
 
 -- ---- queries
 
@@ -99,8 +107,12 @@ thinned_all None set = set
 thinned_all (Some most) set = map (thinned most) set
 
 abbrev pub answer_of : Plan → Result Rows EvalFault → Result (List SeriesValue) EvalFault
-answer_of plan values = result_map_both (λ sets. thinned_all (most_of plan.format plan.points) (concat sets)) (λ fault. fault) values
+answer_of plan values =
+    result_map_both (λ sets. thinned_all (most_of plan.format plan.points) (concat sets))
+    (λ fault. fault) values
 
 -- The answer to a query over the series of its needs: the series of its targets, in order.
 abbrev pub Answers : Plan → Rows → Result (List SeriesValue) EvalFault → Type 0
-Answers plan rows result = (values : Result Rows EvalFault) × HaveValues (all_terms plan.targets) rows values × (result ≡ answer_of plan values)
+Answers plan rows result =
+    (values : Result Rows EvalFault) × HaveValues (all_terms plan.targets) rows values
+    × (result ≡ answer_of plan values)

@@ -4,10 +4,11 @@ ghost use Rattle.series_set.specs.Series.{end_of, latest_end};
 ghost use Rattle.series_set.specs.Thinned.{thinned};
 ghost use Rattle.series_set.specs.declared.grid.EvalFault.TheVariants.{NoMemory};
 ghost use Rattle.target_parse.specs.Bytes.{most_depth};
-ghost use Rattle.render_plan.specs.Bounds.{AreRows};
+ghost use Rattle.render_plan.specs.Bounds.{AreRows, latest_csv_end};
 ghost use Rattle.render_plan.specs.Planned.{plan_of};
 ghost use Rattle.render_plan.specs.Sound.{AreSound};
 ghost use Rattle.render_plan.specs.Terms.{term_of, terms_of};
+ghost use Rattle.render_plan.specs.declared.settings.Format.TheVariants.{Csv};
 ghost use Rattle.render_plan.specs.Values.{Answers, most_of, thinned_all};
 
 use crate::apply::concat;
@@ -35,6 +36,8 @@ pub(crate) fn answer_of(
         Answers (plan_of (map term_of targets.now.items) settings.now) rows.now (Ok set)) }
     ensures err { IfErr result (λ fault. fault ≢ NoMemory
         → Answers (plan_of (map term_of targets.now.items) settings.now) rows.now (Err fault)) }
+    ensures early { IfOk result (λ set. settings.now.format ≡ Csv
+        → All (λ s. end_of s ≤ latest_csv_end) set) }
 {
     let values = values_of(alloc, targets, rows, MOST_DEPTH)?;
     let all = concat(alloc, values.sets)?;

@@ -9,8 +9,9 @@ use crate::argument::{Argument, argument_at, quoted_in};
 use crate::function::{Beside, Choosing, First, Match, Plain, Regrouping};
 use crate::shape::{count_in, value_in};
 use fixed_num::Milli;
+use name_pattern::Pattern;
 use series_funcs::{Combine, NodeNumbers, Regroup};
-use series_pick::{Choose, Name, Pattern, SignedNodes};
+use series_pick::{Choose, Name, SignedNodes};
 use std::alloc::{AllocError, Global};
 use target_parse::Expr;
 

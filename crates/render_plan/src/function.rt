@@ -153,7 +153,7 @@ pub(crate) struct Line {
 }
 
 #[rattlefmt::skip]
-static FUNCTIONS: [Line; 56] = [
+pub(crate) static FUNCTIONS: [Line; 56] = [
     // Functions that combine all series of their arguments to one.
     Line { name: "sumSeries", alias: Some("sum"), function: Function::Combine(Combine::Sum), takes: &[Takes::One(Kind::Series), Takes::Any(Kind::Series)] },
     Line { name: "averageSeries", alias: Some("avg"), function: Function::Combine(Combine::Average), takes: &[Takes::One(Kind::Series), Takes::Any(Kind::Series)] },

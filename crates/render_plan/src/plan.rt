@@ -37,12 +37,14 @@ impl Model for RenderPlan {
 }
 
 impl RenderPlan {
-    ghost use Rattle.std.specs.Prelude.{◌≡◌, ◌≢◌, All, IfErr, IfOk, Ok, Err};
+    ghost use Rattle.std.specs.Prelude.{◌≡◌, ◌≢◌, ◌≤◌, All, IfErr, IfOk, Ok, Err};
     ghost use Rattle.render_plan.specs.Asked.{plan_seen};
     ghost use Rattle.render_plan.specs.Needed.{AreEnds, needs_of};
-    ghost use Rattle.render_plan.specs.Bounds.{AreRows};
+    ghost use Rattle.render_plan.specs.Bounds.{AreRows, latest_csv_end};
     ghost use Rattle.render_plan.specs.Planned.{read_plan};
     ghost use Rattle.render_plan.specs.Values.{Answers};
+    ghost use Rattle.render_plan.specs.declared.settings.Format.TheVariants as format;
+    ghost use Rattle.series_set.specs.Series.{end_of};
     ghost use Rattle.series_set.specs.declared.grid.EvalFault.TheVariants as eval;
     ghost use Rattle.render_plan.specs.declared.fault.QueryFault.TheVariants.{NoMemory};
 
@@ -91,7 +93,7 @@ impl RenderPlan {
 
     /// The series of the targets in order, made of those of the needs: one list for each need, in the order of the needs. A JSON answer with a
     /// number of values has no more of them a series. Lists may hold 10,000 series in all, with steps of at most 31,536,000 seconds, which end at
-    /// 5,000,000,000 or before.
+    /// 5,000,000,000 or before; the series of an answer as CSV then end at 253,402,207,200 or before, so that all their moments have dates.
     ///
     /// # Errors
     ///
@@ -101,6 +103,8 @@ impl RenderPlan {
         ensures ok { IfOk result (λ set. Answers (plan_seen self.now) rows.now (Ok set)) }
         ensures err { IfErr result (λ fault. fault ≢ eval.NoMemory
             → Answers (plan_seen self.now) rows.now (Err fault)) }
+        ensures early { IfOk result (λ set. (plan_seen self.now).format ≡ format.Csv
+            → All (λ s. end_of s ≤ latest_csv_end) set) }
     {
         answer_of(alloc, &self.targets, &self.settings, rows.as_slice())
     }

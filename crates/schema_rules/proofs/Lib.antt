@@ -1,10 +1,8 @@
 pub mod TextLemmas
 pub mod UnitLemmas
 pub mod SplitLemmas
-pub mod PatternLemmas
 pub mod FactorLemmas
 pub mod LayoutLemmas
 pub mod FinderLemmas
 pub mod RetentionLemmas
-pub mod Cross
 pub mod RulesCross

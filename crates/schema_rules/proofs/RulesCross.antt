@@ -2,8 +2,7 @@
 use Rattle.std.proofs.Crossing as own
 use denote.Param.Send.{IsSync, IsSend, sendable}
 use denote.Param.SendFields.{declared_sync, declared_send}
-use Rattle.schema_rules.specs.contracts.pattern.Pattern as Pattern
-use Rattle.schema_rules.specs.contracts.pattern.Pattern.TheInside as PatternInside
+use Rattle.name_pattern.proofs.Cross.{pattern-send, pattern-sync}
 use Rattle.schema_rules.specs.contracts.schema.Schema as Schema
 use Rattle.schema_rules.specs.contracts.schema.Schema.TheInside as SchemaInside
 use Rattle.schema_rules.specs.contracts.aggregation.Aggregation as Aggregation
@@ -12,13 +11,6 @@ use Rattle.schema_rules.specs.contracts.lists.Lists as Lists
 use Rattle.schema_rules.specs.contracts.lists.Lists.TheInside as ListsInside
 use Rattle.schema_rules.specs.contracts.rules.Rules as Rules
 use Rattle.schema_rules.specs.contracts.rules.Rules.TheInside as RulesInside
-use Rattle.schema_rules.proofs.Cross.{regex-send, regex-sync}
-
-pattern-send : IsSend Pattern.the_row
-pattern-send = let inside : IsSend PatternInside.the_row = declared_send PatternInside.the_type (regex-send, tt) in search (inside, sendable) depth 10
-
-pattern-sync : IsSync Pattern.the_row
-pattern-sync = let inside : IsSync PatternInside.the_row = declared_sync PatternInside.the_type (regex-sync, tt) in search (inside, sendable) depth 10
 
 schema-send : IsSend Schema.the_row
 schema-send = let inside : IsSend SchemaInside.the_row = declared_send SchemaInside.the_type (pattern-send, (search (own.crosses, sendable) depth 30, tt)) in search (inside, sendable) depth 10

@@ -3,7 +3,7 @@ use Rattle.std.specs.Prelude.{ℕ, List, [], ◌∷◌, find, map, Option}
 use Rattle.std.specs.Option.{option_map_or}
 use Rattle.ring_format.specs.declared.archive.Archive.{Archive}
 use Rattle.ring_format.specs.Layout.{LayoutValue}
-use Rattle.schema_rules.specs.Patterns.{is_found}
+use Rattle.name_pattern.specs.Patterns.{is_found}
 use Rattle.schema_rules.specs.RuleSections.{SchemaValue, AggregationValue, default_factor, default_method}
 use Rattle.schema_rules.specs.RulesOf.{RulesValue}
 

@@ -1,7 +1,6 @@
 pub mod RuleLines
 pub mod Retentions
 pub mod RetentionLaws
-pub mod Patterns
 pub mod RuleSections
 pub mod RulesOf
 pub mod LayoutBy

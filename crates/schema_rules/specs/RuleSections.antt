@@ -7,11 +7,11 @@ use Rattle.ring_format.specs.declared.archive.Archive.{Archive}
 use Rattle.ring_format.specs.declared.archive.Method.{Method}
 use Rattle.ring_format.specs.declared.archive.Method.TheVariants.{Average, Sum, Last, Max, Min, AvgZero, AbsMax, AbsMin}
 use Rattle.ring_format.specs.Layout.{layout_fault}
+use Rattle.name_pattern.specs.Patterns.{is_readable}
 use Rattle.schema_rules.specs.declared.fault.RuleCause.{RuleCause}
 use Rattle.schema_rules.specs.declared.fault.RuleCause.TheVariants.{BadPattern, BadRetention, BadLayout, BadFactor, BadMethod}
 use Rattle.schema_rules.specs.RuleLines.{SectionValue}
 use Rattle.schema_rules.specs.Retentions.{archives_of}
-use Rattle.schema_rules.specs.Patterns.{is_readable}
 
 -- the layout of a metric for which no section says more: an average, of which half must be known
 abbrev pub default_factor : ℕ

@@ -5,10 +5,10 @@ ghost use Rattle.schema_rules.specs.RuleSections.{aggregation_result, aggregatio
 ghost use Rattle.schema_rules.specs.RulesOf.{Stops};
 
 use crate::fault::{RuleCause, Stop};
-use crate::pattern::{Pattern, Search};
 use crate::schema::{DEFAULT_FACTOR, DEFAULT_METHOD, push_rule};
 use crate::section::Section;
 use fixed_num::read_millionths;
+use name_pattern::{Pattern, Search};
 use ring_format::Method;
 use std::alloc::{AllocError, Global};
 use std::marker::Model;

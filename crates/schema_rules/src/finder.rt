@@ -2,14 +2,14 @@
 ghost use Rattle.std.specs.Prelude.{◌≡◌, None, IfOk, map, take};
 ghost use Rattle.std.specs.List.{position_or_len};
 ghost use Rattle.ring_format.specs.Layout.{layout_fault};
+ghost use Rattle.name_pattern.specs.Patterns.{is_found};
 ghost use Rattle.schema_rules.specs.LayoutBy.{layout_by, patterns_of_aggregations, patterns_of_schemas};
-ghost use Rattle.schema_rules.specs.Patterns.{is_found};
 
 use crate::aggregation::Aggregation;
 use crate::lists::{Lists, layout_under};
-use crate::pattern::Search;
 use crate::schema::Schema;
 use metric_path::MetricPath;
+use name_pattern::Search;
 use ring_format::Layout;
 use std::alloc::{AllocError, Global};
 use std::marker::Model;
@@ -71,7 +71,7 @@ fn place_in(searches: &mut Vec<Search<'_>>, path: &MetricPath) -> usize
     ensures same { searches.new.items ≡ searches.old.items }
 {
     for place in 0..searches.len() {
-        if searches[place].is_found(path) {
+        if searches[place].is_found(path.as_str()) {
             return place;
         }
     }

@@ -11,7 +11,6 @@ mod file;
 mod finder;
 mod laws;
 mod lists;
-mod pattern;
 mod retention;
 mod rules;
 mod schema;

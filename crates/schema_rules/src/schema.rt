@@ -4,9 +4,9 @@ ghost use Rattle.schema_rules.specs.RuleSections.{lawful_schema, schema_result, 
 ghost use Rattle.schema_rules.specs.RulesOf.{Stops};
 
 use crate::fault::{RuleCause, Stop};
-use crate::pattern::{Pattern, Search};
 use crate::retention::archives_of;
 use crate::section::Section;
+use name_pattern::{Pattern, Search};
 use ring_format::{Archive, Layout, Method};
 use std::alloc::{AllocError, Global};
 use std::marker::Model;

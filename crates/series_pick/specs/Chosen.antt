@@ -4,6 +4,8 @@ use Rattle.std.specs.List.Sorted.{IsPermutation, IsSortedBy, IsStableBy}
 use Rattle.std.specs.Cmp.Lexicographic.{slice_cmp}
 use Rattle.std.specs.Ordering.{is_lt, nat_cmp}
 use Rattle.series_set.specs.Series.{SeriesValue}
+use Rattle.name_pattern.specs.Patterns.{is_found}
+use Rattle.name_pattern.specs.Substitution.{substituted}
 use Rattle.series_pick.specs.declared.measures.Measure.TheVariants.{Max, Min, Current, Average, Total}
 use Rattle.series_pick.specs.declared.measures.Side.TheVariants.{Above, Below}
 use Rattle.series_pick.specs.declared.measures.First.TheVariants.{Greatest, Least}
@@ -12,8 +14,6 @@ use Rattle.series_pick.specs.declared.matching.Keep.TheVariants.{Matching, Other
 use Rattle.series_pick.specs.declared.kinds.Choose.{Choose}
 use Rattle.series_pick.specs.declared.kinds.Choose.TheVariants.{Alias, AliasByNode, AliasByMetric, Limit, SortByName, SortByMaxima, SortByTotal, SortByMinima, HighestMax, HighestCurrent, HighestAverage, LowestCurrent, LowestAverage, MaximumAbove, MinimumAbove, CurrentAbove, AverageAbove, MaximumBelow, MinimumBelow, CurrentBelow, AverageBelow, RemoveEmptySeries, Grep, Exclude, AliasSub}
 use Rattle.series_pick.specs.Measures.{by_measure, has_known, is_beside}
-use Rattle.series_pick.specs.Patterns.{is_found}
-use Rattle.series_pick.specs.Substitution.{substituted}
 use Rattle.series_pick.specs.Nodes.{last_node, name_by_nodes}
 
 -- ---- orders

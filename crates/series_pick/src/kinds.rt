@@ -1,7 +1,7 @@
 //! The functions by kind, each with its arguments.
-use crate::pattern::Pattern;
 use crate::words::{Name, SignedNodes};
 use fixed_num::Milli;
+use name_pattern::Pattern;
 
 /// Which series are left of a list, in which order and under which names.
 ///

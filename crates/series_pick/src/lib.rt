@@ -7,14 +7,12 @@ mod kinds;
 mod matching;
 mod measures;
 mod naming;
-mod pattern;
 mod sorting;
 mod substitution;
 mod words;
 
 pub use choosing::choose;
 pub use kinds::Choose;
-pub use pattern::Pattern;
 pub use words::{Name, SignedNodes};
 
 #[cfg(test)]

@@ -2,7 +2,7 @@
 ghost use Rattle.std.specs.Prelude.{◌≡◌, IfOk, filter};
 ghost use Rattle.series_pick.specs.Chosen.{is_kept, stays};
 
-use crate::pattern::Pattern;
+use name_pattern::Pattern;
 use series_set::SeriesSet;
 use std::alloc::{AllocError, Global};
 

@@ -1,12 +1,8 @@
-//! Names in which the matches of a pattern are replaced.
-ghost use Rattle.std.specs.Prelude.{◌≡◌, ◌++◌, ℕ, List, false, true, map, IfOk, OnOk, string_bytes};
-ghost use Rattle.regex.specs.Replace.{bytes_of};
-ghost use Rattle.regex.specs.Strings.{captures_haystack, captures_span};
+//! The function that replaces matches of a pattern in names.
+ghost use Rattle.std.specs.Prelude.{◌≡◌, IfOk, map};
 ghost use Rattle.series_pick.specs.Chosen.{renamed_by_pattern};
-ghost use Rattle.series_pick.specs.Substitution.{Writes, group_called, opened, written};
 
-use crate::pattern::Pattern;
-use regex::Captures;
+use name_pattern::Pattern;
 use series_set::SeriesSet;
 use std::alloc::{AllocError, Global};
 
@@ -28,99 +24,4 @@ pub(crate) fn substituted(
         named.push(one.renamed(name))?;
     }
     Ok(SeriesSet::from_vec(named))
-}
-
-/// What a replacement writes at a match.
-pub(crate) fn written(
-    alloc: Global,
-    captures: &Captures<'_, '_>,
-    replacement: &str,
-) -> Result<String, AllocError>
-    ensures { IfOk result (λ text. string_bytes text ≡ written
-        (λ n. bytes_of (captures_haystack captures.now) (captures_span captures.now n))
-        replacement.now) }
-{
-    let mut out = String::new(alloc);
-    let mut is_open = false;
-    for c in replacement.chars() {
-        is_open = push_next(&mut out, captures, is_open, c)?;
-    }
-    push_opened(&mut out, is_open)?;
-    Ok(out)
-}
-
-fn push_opened(out: &mut String, is_open: bool) -> Result<(), AllocError>
-    ensures { OnOk result (string_bytes out.new ≡ string_bytes out.old ++ opened is_open) }
-{
-    if is_open {
-        return out.push('\\');
-    }
-    Ok(())
-}
-
-// Writes what a character adds, where a backslash stands open before it or none. Answers whether one is open
-// behind it.
-fn push_next(
-    out: &mut String,
-    captures: &Captures<'_, '_>,
-    is_open: bool,
-    c: char,
-) -> Result<bool, AllocError>
-    ensures { IfOk result (Writes
-        (λ n. bytes_of (captures_haystack captures.now) (captures_span captures.now n))
-        is_open c (string_bytes out.old) (string_bytes out.new)) }
-{
-    if is_open {
-        let is_next_open = push_behind(out, captures, c)?;
-        return Ok(is_next_open);
-    }
-    let is_next_open = push_char(out, c)?;
-    Ok(is_next_open)
-}
-
-// The same where one stands open.
-fn push_behind(out: &mut String, captures: &Captures<'_, '_>, c: char) -> Result<bool, AllocError>
-    ensures { IfOk result (Writes
-        (λ n. bytes_of (captures_haystack captures.now) (captures_span captures.now n))
-        true c (string_bytes out.old) (string_bytes out.new)) }
-{
-    if let Some(group) = group_called(c) {
-        push_group(out, captures, group)?;
-        return Ok(false);
-    }
-    out.push('\\')?;
-    let is_next_open = push_char(out, c)?;
-    Ok(is_next_open)
-}
-
-// The same where none stands open.
-fn push_char(out: &mut String, c: char) -> Result<bool, AllocError>
-    ensures { IfOk result (λ is_open. (group : ℕ → List ℕ)
-        → Writes group false c (string_bytes out.old) (string_bytes out.new) is_open) }
-{
-    if c == '\\' {
-        return Ok(true);
-    }
-    out.push(c)?;
-    Ok(false)
-}
-
-fn push_group(out: &mut String, captures: &Captures<'_, '_>, group: usize) -> Result<(), AllocError>
-    ensures { OnOk result (string_bytes out.new ≡ string_bytes out.old
-        ++ bytes_of (captures_haystack captures.now) (captures_span captures.now group)) }
-{
-    match captures.get(group) {
-        Some(found) => return out.push_str(found.as_str()),
-        None => return Ok(()),
-    }
-}
-
-// The group that a digit calls.
-fn group_called(digit: char) -> Option<usize>
-    ensures { result ≡ group_called digit }
-{
-    if '1' <= digit && digit <= '9' {
-        return Some(digit as usize - 48);
-    }
-    None
 }

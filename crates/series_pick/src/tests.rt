@@ -1,6 +1,7 @@
 // Series that are chosen, sorted and named. Values are in thousandths, worked by hand.
 use super::*;
 use fixed_num::Milli;
+use name_pattern::Pattern;
 use series_set::{Series, SeriesSet};
 use std::alloc::{AllocError, Global};
 use std::process::Abort;

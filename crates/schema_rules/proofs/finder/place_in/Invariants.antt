@@ -1,6 +1,6 @@
 use Rattle.std.proofs.Common.{◌≡◌, ◌+◌, drop}
 use Rattle.std.specs.List.{position_or_len}
-use Rattle.schema_rules.specs.Patterns.{is_found}
+use Rattle.name_pattern.specs.Patterns.{is_found}
 use Rattle.schema_rules.proofs.finder.place_in.Given as goal
 
 abbrev pub invariant-loop-place : goal.invariant-loop-place

@@ -1,7 +1,7 @@
 use Rattle.std.proofs.Common.{◌≡◌, ℕ, List, slice_get, option_copied, ap, ap₂, ◌∙◌}
 use Rattle.std.specs.List.{position_or_len}
+use Rattle.name_pattern.specs.Patterns.{is_found}
 use Rattle.schema_rules.specs.LayoutBy.{aggregation_for, layout_by, layout_under, schema_for}
-use Rattle.schema_rules.specs.Patterns.{is_found}
 use Rattle.schema_rules.specs.RulesOf.{RulesValue}
 use Rattle.schema_rules.proofs.FinderLemmas.{first_at}
 use Rattle.schema_rules.proofs.finder.LayoutFinder.layout_of.Goals as goal

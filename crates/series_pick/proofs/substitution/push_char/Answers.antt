@@ -1,8 +1,0 @@
-use Rattle.std.proofs.Common.{rules, ◌≢◌, string_bytes}
-use Rattle.series_pick.proofs.SubstitutionLemmas.{writes_plain}
-use Rattle.series_pick.proofs.substitution.push_char.Goals as goal
-
-pub returns : goal.returns
-returns c =
-    let other : c.args.c ≢ 92 = search rules in
-    λ group. writes_plain group c.args.c (string_bytes c.args.out.now) (string_bytes c.push.new.self) other c.in_ok-push.ensures.bytes
