@@ -8,7 +8,7 @@ use Rattle.httparse.specs.Grammar.{HasNoRequest, MayBecomeRequest, ReadsRequest,
 use Rattle.httparse.specs.Spans.{RequestOverflows}
 use Rattle.httparse.proofs.GrammarLemmas.{ReadsRequest-append}
 use Rattle.http_wire.specs.Requests.{Asked, Begins, HasNoHead, HeadAt, fields_of, most_head_bytes}
-use Rattle.http_wire.specs.Fields.{Named, agreed_length, agrees, body_length, content_length, first_value, is_named, length_by, length_in, most_body_bytes, transfer_encoding}
+use Rattle.http_wire.specs.Fields.{Field, agreed_length, agrees, body_length, content_length, first_value, is_named, length_by, length_in, most_body_bytes, transfer_encoding}
 use Rattle.http_wire.specs.Routes.{is_post}
 use Rattle.std.specs.List.{list_all, list_any}
 use Rattle.http_wire.specs.Cuts.{AreOf, AreWithin, Awaits, IsHeadOf, IsPlaced, IsRefused, asked_at, most_open_bytes}
@@ -80,7 +80,7 @@ slice_range-append xs ys from to ordered within =
     ap (take (to - from)) (drop-append-le from xs ys (omega arith)) ∙ take-append-le (to - from) (drop from xs) ys (omega (arith, length-drop from xs))
 
 -- what is read of a front is read of the bytes
-of_front : (front rest : List ℕ) (spans : HeadSpans) → 0 < length front → length front ≤ most_head_bytes → AreWithin front spans → ((head : RequestHead) × AreOf front spans head)
+of_front : (front rest : List ℕ) (spans : HeadSpans) → 0 < length front → spans.len ≤ most_head_bytes → AreWithin front spans → ((head : RequestHead) × AreOf front spans head)
     → IsHeadOf (front ++ rest) spans
 of_front front rest spans some short within of =
     let head = of.0 in
@@ -89,7 +89,7 @@ of_front front rest spans some short within of =
     subst (λ (l : List ℕ). ReadsRequest (front ++ rest) head l) (sym (drop-append-le spans.len front rest within.len)) (ReadsRequest-append front head (drop spans.len front) rest o.reads) in (
       omega (arith, some, length-append front rest),
       record { len = omega (arith, within.len, length-append front rest); method = within.method; target = within.target },
-      omega (arith, within.len, short),
+      short,
       (
         head,
         record {
@@ -109,7 +109,7 @@ pub IsHeadOf-from_front : (n : ℕ) (bytes : List ℕ) (spans : HeadSpans) → 0
     → ((head : RequestHead) × AreOf (take n bytes) spans head) → IsHeadOf bytes spans
 IsHeadOf-from_front n bytes spans some short within of =
     subst (λ (l : List ℕ). IsHeadOf l spans) (take-append-drop n bytes)
-    (of_front (take n bytes) (drop n bytes) spans some (omega (arith, short, length-take n bytes)) within of)
+    (of_front (take n bytes) (drop n bytes) spans some (omega (arith, within.len, short, length-take n bytes)) within of)
 
 head_at : (bytes : List ℕ) (spans : HeadSpans) → (h : IsHeadOf bytes spans) → HeadAt bytes h.3.0 (drop spans.len bytes)
 head_at bytes spans h = record { reads = h.3.1.reads; short = omega (arith, h.2, h.3.1.len); few = h.3.1.few }
@@ -141,7 +141,7 @@ by_agreement : (agree : Bool) (said count : ℕ)
 by_agreement true said count answer = by_size (nat_lt most_body_bytes said) said count refl answer
 by_agreement false said count answer = absurd cc
 
-agreed_within : (fields : List Named) (first : Option ℕ) (count : ℕ) → agreed_length fields first ≡ Ok count → count ≤ most_body_bytes
+agreed_within : (fields : List Field) (first : Option ℕ) (count : ℕ) → agreed_length fields first ≡ Ok count → count ≤ most_body_bytes
 agreed_within fields None count answer = absurd cc
 agreed_within fields (Some said) count answer = by_agreement (list_all (agrees said) fields) said count answer
 
@@ -149,17 +149,17 @@ by_post : (post : Bool) (count : ℕ) → ◌≡◌ {A = Result ℕ Refusal} (co
 by_post true count answer = absurd cc
 by_post false count answer = let same : 0 ≡ count = cc in omega (arith, same)
 
-by_first : (method : List ℕ) (fields : List Named) (first : Option (List ℕ)) (count : ℕ) → length_by method fields first ≡ Ok count → count ≤ most_body_bytes
+by_first : (method : List ℕ) (fields : List Field) (first : Option (List ℕ)) (count : ℕ) → length_by method fields first ≡ Ok count → count ≤ most_body_bytes
 by_first method fields None count answer = by_post (is_post method) count answer
 by_first method fields (Some value) count answer = agreed_within fields (length_in value) count answer
 
-by_coding : (coded : Bool) (method : List ℕ) (fields : List Named) (first : Option (List ℕ)) (count : ℕ)
+by_coding : (coded : Bool) (method : List ℕ) (fields : List Field) (first : Option (List ℕ)) (count : ℕ)
     → ◌≡◌ {A = Result ℕ Refusal} (cond coded (Err NotImplemented) (length_by method fields first)) (Ok count) → count ≤ most_body_bytes
 by_coding true method fields first count answer = absurd cc
 by_coding false method fields first count answer = by_first method fields first count answer
 
 -- a body that is not refused is no longer than a body may be
-body_within : (method : List ℕ) (fields : List Named) (count : ℕ) → body_length method fields ≡ Ok count → count ≤ most_body_bytes
+body_within : (method : List ℕ) (fields : List Field) (count : ℕ) → body_length method fields ≡ Ok count → count ≤ most_body_bytes
 unfolding body_length
 body_within method fields count answer =
     by_coding (list_any (is_named transfer_encoding) fields) method fields (first_value content_length fields) count answer

@@ -1,2 +1,4 @@
 mod CutLemmas
 mod RequestLemmas
+mod AnswerLemmas
+mod LengthLemmas

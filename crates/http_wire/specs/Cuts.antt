@@ -82,5 +82,6 @@ pub record IsPlaced (bytes : List ℕ) (place : Place) : Type 0 where
 -- what the bytes begin with
 abbrev pub Cuts : List ℕ → Cut → Type 0
 Cuts bytes cut.Open = Awaits bytes
+Cuts bytes (cut.OpenBody spans) = Awaits bytes × IsHeadOf bytes spans
 Cuts bytes (cut.Refused why) = IsRefused bytes why
 Cuts bytes (cut.Whole place) = IsPlaced bytes place × Begins bytes (asked_at bytes place) (drop place.len bytes)

@@ -10,15 +10,15 @@ use Rattle.http_wire.specs.declared.refusal.Refusal.{Refusal}
 use Rattle.http_wire.specs.declared.refusal.Refusal.TheVariants.{BadRequest, ContentTooLarge, LengthRequired, NotImplemented}
 
 -- a field: its name, and its value without the blanks around it
-abbrev pub Named : Type 0
-Named = List ℕ × List ℕ
+abbrev pub Field : Type 0
+Field = List ℕ × List ℕ
 
 -- the most bytes of a body
 abbrev pub most_body_bytes : ℕ
 most_body_bytes = 1048576
 
 -- whether a field has a name, in any case
-abbrev pub is_named : List ℕ → Named → Bool
+abbrev pub is_named : List ℕ → Field → Bool
 is_named name field = str_eq_ignore_ascii_case field.0 name
 
 unfoldable pub transfer_encoding : List ℕ
@@ -31,7 +31,7 @@ unfoldable pub connection : List ℕ
 connection = codes "Connection"
 
 -- the value of the first field of a name
-abbrev pub first_value : List ℕ → List Named → Option (List ℕ)
+abbrev pub first_value : List ℕ → List Field → Option (List ℕ)
 first_value name fields = option_map (λ field. field.1) (find (is_named name) fields)
 
 -- the length that a value says: 1 to 18 digits
@@ -43,25 +43,25 @@ unfoldable pub says_length : ℕ → List ℕ → Bool
 says_length n value = option_map_or (λ said. said == n) (length_in value) false
 
 -- whether a field says this length, or nothing of the length
-abbrev pub agrees : ℕ → Named → Bool
+abbrev pub agrees : ℕ → Field → Bool
 agrees n field = not (is_named content_length field) || says_length n field.1
 
 -- how long the body is where the first field says so
-abbrev pub agreed_length : List Named → Option ℕ → Result ℕ Refusal
+abbrev pub agreed_length : List Field → Option ℕ → Result ℕ Refusal
 agreed_length fields None = Err BadRequest
 agreed_length fields (Some n) =
     if not (list_all (agrees n) fields) then Err BadRequest else
     (if nat_lt most_body_bytes n then Err ContentTooLarge else Ok n)
 
 -- the same, where the first field may be missing
-abbrev pub length_by : List ℕ → List Named → Option (List ℕ) → Result ℕ Refusal
+abbrev pub length_by : List ℕ → List Field → Option (List ℕ) → Result ℕ Refusal
 length_by method fields None = if is_post method then Err LengthRequired else Ok 0
 length_by method fields (Some value) = agreed_length fields (length_in value)
 
 -- How long the body of a request is, or why it is refused. A transfer coding comes first. Then each
 -- Content-Length must be a number, and all of them the same. One that is too great is refused, and a POST
 -- without one; any other request without one has no body.
-unfoldable pub body_length : List ℕ → List Named → Result ℕ Refusal
+unfoldable pub body_length : List ℕ → List Field → Result ℕ Refusal
 body_length method fields =
     if list_any (is_named transfer_encoding) fields then Err NotImplemented
     else length_by method fields (first_value content_length fields)
@@ -87,9 +87,9 @@ abbrev pub has_close : List ℕ → Bool
 has_close value = list_any is_close (slice_split is_comma value)
 
 -- whether a field says that the link ends
-abbrev pub says_close : Named → Bool
+abbrev pub says_close : Field → Bool
 says_close field = is_named connection field && has_close field.1
 
 -- Whether the link ends after a request: it is one of HTTP/1.0, or some Connection has the token `close`.
-abbrev pub ends_link : ℕ → List Named → Bool
+abbrev pub ends_link : ℕ → List Field → Bool
 ends_link minor fields = minor == 0 || list_any says_close fields

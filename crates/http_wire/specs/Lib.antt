@@ -2,6 +2,8 @@ pub mod Codes
 pub mod Replies
 pub mod Routes
 pub mod Fields
+pub mod Lengths
 pub mod Requests
 pub mod Cuts
 pub mod Reading
+pub mod Answers

@@ -1,9 +1,10 @@
 -- A reader of requests, and what its calls do.
 use Rattle.std.specs.Prelude.{◌≡◌, ℕ, ◌-◌, ◌≤◌, ◌<◌, ◌==◌, min, Bool, List, [], ◌∷◌, ◌++◌, length, take, drop, Option, Some, None, if◌then◌else◌}
 use Rattle.std.specs.Option.{ForSome, option_map}
-use Rattle.http_wire.specs.Cuts.{Awaits, IsPlaced, IsRefused, asked_at, most_open_bytes}
+use Rattle.http_wire.specs.Cuts.{Awaits, IsHeadOf, IsPlaced, IsRefused, asked_at, most_open_bytes}
 use Rattle.http_wire.specs.Requests.{Asked, Begins, HasItems, Item, Request, Refused}
 use Rattle.http_wire.specs.declared.cut.Place.{Place}
+use Rattle.http_wire.specs.declared.head.HeadSpans.{HeadSpans}
 use Rattle.http_wire.specs.declared.refusal.Refusal.{Refusal}
 use Rattle.http_wire.specs.declared.refusal.Refusal.TheVariants.{BadRequest}
 use Rattle.http_wire.specs.declared.reader.Handed.{Handed}
@@ -27,9 +28,11 @@ reading_of buffer at is_over start current = record {
   current = option_map (asked_at (drop start buffer)) current;
 }
 
--- The places are those of a reader, and it has no more bytes than a head and a body have.
-pub record IsLaidOut (buffer : List ℕ) (at start : ℕ) (current : Option Place) : Type 0 where
+-- The places are those of a reader, and it has no more bytes than a head and a body have. A head that was
+-- read stands at the front of what was not handed out.
+pub record IsLaidOut (buffer : List ℕ) (at : ℕ) (head : Option HeadSpans) (start : ℕ) (current : Option Place) : Type 0 where
   pub within : at ≤ length buffer
+  pub headed : ForSome head (IsHeadOf (drop at buffer))
   pub started : start ≤ length buffer
   pub placed : ForSome current (IsPlaced (drop start buffer))
   pub few : length buffer ≤ most_open_bytes

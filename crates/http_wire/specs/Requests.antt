@@ -2,7 +2,7 @@
 use Rattle.std.specs.Prelude.{◌≡◌, ◌≢◌, ◌⊎◌, ◌<◌, ◌≤◌, ℕ, Bool, true, false, List, [], ◌∷◌, ◌++◌, length, map, Result, Ok, Err}
 use Rattle.httparse.specs.Grammar.{ReadsRequest, RequestHead, print_request}
 use Rattle.httparse.specs.Spans.{name_and_value}
-use Rattle.http_wire.specs.Fields.{Named, body_length, ends_link}
+use Rattle.http_wire.specs.Fields.{Field, body_length, ends_link}
 use Rattle.http_wire.specs.declared.refusal.Refusal.{Refusal}
 use Rattle.http_wire.specs.declared.refusal.Refusal.TheVariants.{BadRequest}
 
@@ -36,7 +36,7 @@ pub record HeadAt (bytes : List ℕ) (head : RequestHead) (behind : List ℕ) : 
 abbrev pub HasNoHead : List ℕ → Type 0
 HasNoHead bytes = (head : RequestHead) (behind : List ℕ) → ¬ (HeadAt bytes head behind)
 
-abbrev pub fields_of : RequestHead → List Named
+abbrev pub fields_of : RequestHead → List Field
 fields_of head = map name_and_value head.fields
 
 -- how long the body behind a head is, or why the request is refused

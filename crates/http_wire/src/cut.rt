@@ -1,5 +1,6 @@
 // What the bytes that have come on a link begin with.
 ghost use Rattle.std.specs.Prelude.{◌≡◌, ◌<◌, Ok, length, take};
+ghost use Rattle.std.specs.Option.{ForSome};
 ghost use Rattle.httparse.specs.Grammar.{HasNoRequest, MayBecomeRequest};
 ghost use Rattle.http_wire.specs.Cuts.{Cuts, IsHeadOf};
 ghost use Rattle.http_wire.specs.Requests.{most_head_bytes};
@@ -25,13 +26,27 @@ pub(crate) struct Place {
 // What bytes begin with, whatever follows them.
 #[derive(Clone, Copy)]
 pub(crate) enum Cut {
-    // Nothing that is whole yet.
+    // No head is whole yet.
     Open,
+    // This head is whole, and its body is not.
+    OpenBody(HeadSpans),
     Refused(Refusal),
     Whole(Place),
 }
 
-pub(crate) fn cut_front(bytes: &[u8]) -> Cut
+// What bytes begin with of which this head was read before, where one was. Then only their number is
+// looked at, and no byte is read again.
+pub(crate) fn cut_read(bytes: &[u8], head: Option<HeadSpans>) -> Cut
+    requires { ForSome head (IsHeadOf bytes.now) }
+    ensures { Cuts bytes.now result }
+{
+    match head {
+        Some(spans) => cut_request(bytes, &spans),
+        None => cut_front(bytes),
+    }
+}
+
+fn cut_front(bytes: &[u8]) -> Cut
     ensures { Cuts bytes.now result }
 {
     if bytes.is_empty() {
@@ -76,7 +91,7 @@ fn cut_body(bytes: &[u8], spans: &HeadSpans, count: usize) -> Cut
     ensures { Cuts bytes.now result }
 {
     if bytes.len() - spans.len < count {
-        return Cut::Open;
+        return Cut::OpenBody(*spans);
     }
     Cut::Whole(Place {
         method: spans.method,

@@ -1,10 +1,15 @@
-//! What the requests of a link are. The functions do nothing: what they ensure are the laws.
-ghost use Rattle.std.specs.Prelude.{◌≡◌, ◌++◌, ℕ, List, [], Option, Some, take};
+//! What the requests of a link and their replies are. The functions do nothing: what they ensure are the laws.
+ghost use Rattle.std.specs.Prelude.{◌≡◌, ◌++◌, ◌∷◌, ℕ, List, [], Option, Result, Some, take};
 ghost use Rattle.std.specs.Option.{ForSome};
+ghost use Rattle.http_wire.specs.Answers.{KeepLink, response_of, responses_of};
 ghost use Rattle.http_wire.specs.Cuts.{Awaits};
+ghost use Rattle.http_wire.specs.Fields.{Field, body_length};
+ghost use Rattle.http_wire.specs.Lengths.{LengthIs};
 ghost use Rattle.http_wire.specs.Reading.{HandsNext, HandsOut, Reading, Takes, end_items, end_of, handed_items};
 ghost use Rattle.http_wire.specs.Requests.{HasItems, Item};
+ghost use Rattle.http_wire.specs.declared.answer.Answer.{Answer};
 ghost use Rattle.http_wire.specs.declared.reader.Handed.{Handed};
+ghost use Rattle.http_wire.specs.declared.refusal.Refusal.{Refusal};
 
 /// The whole bytes of a link come to one list of items.
 #[tactic(auto, using(crate::proofs::RequestLemmas::items_unique))]
@@ -33,4 +38,22 @@ pub fn the_end_tells_the_rest()
     ensures { (handed : List Item) (taken : List ℕ) (left : Option (List ℕ))
         → HandsOut handed taken left → ForSome left Awaits
         → HasItems taken (handed ++ end_items (end_of left)) }
+{}
+
+/// The reply to the next item stands behind those to the items before it, while the link goes on.
+#[tactic(auto, using(crate::proofs::AnswerLemmas::replies_more))]
+pub fn replies_stand_in_order()
+    ensures { (items : List Item) (answers : List Answer) (item : Item) (answer : Answer)
+        → KeepLink items answers
+        → responses_of (items ++ item ∷ []) (answers ++ answer ∷ [])
+        ≡ responses_of items answers ++ response_of item answer }
+{}
+
+/// How long a body is, or why its request is refused, is what the fields of the head say of it.
+#[tactic(auto, using(crate::proofs::LengthLemmas::lengths))]
+pub fn lengths_are_what_fields_say()
+    ensures is { (method : List ℕ) (fields : List Field)
+        → LengthIs method fields (body_length method fields) }
+    ensures one { (method : List ℕ) (fields : List Field) (result : Result ℕ Refusal)
+        → LengthIs method fields result → body_length method fields ≡ result }
 {}

@@ -2,6 +2,7 @@
 //! HTTP/1.1 as bytes alone: the requests that the bytes of a link come to, in whatever pieces they come, where
 //! each of them goes, and the bytes of replies.
 
+mod answer;
 mod cut;
 mod fields;
 mod head;
@@ -11,10 +12,14 @@ mod refusal;
 mod reply;
 mod routing;
 
+pub use answer::{Answer, Item, push_answer};
 pub use cut::MOST_HEAD_BYTES;
 pub use fields::MOST_BODY_BYTES;
 pub use head::MOST_FIELDS;
-pub use laws::{pieces_only_add, requests_are_one, the_end_tells_the_rest};
+pub use laws::{
+    lengths_are_what_fields_say, pieces_only_add, replies_stand_in_order, requests_are_one,
+    the_end_tells_the_rest,
+};
 pub use reader::{Handed, Request, RequestReader};
 pub use refusal::Refusal;
 pub use reply::{MediaType, Reply, push_reply};

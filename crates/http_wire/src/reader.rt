@@ -1,8 +1,9 @@
 //! The reader, which keeps the bytes that came and hands out their requests.
 ghost use Rattle.std.specs.Prelude.{◌≡◌, ◌≤◌, drop, length};
 
-use crate::cut::{Cut, MOST_HEAD_BYTES, Place, cut_front};
+use crate::cut::{Cut, MOST_HEAD_BYTES, Place, cut_read};
 use crate::fields::MOST_BODY_BYTES;
+use crate::head::HeadSpans;
 use crate::refusal::Refusal;
 use std::alloc::{AllocError, Global};
 use std::marker::Model;
@@ -38,6 +39,8 @@ pub struct RequestReader {
     buffer: Vec<u8>,
     // the bytes before this place were handed out
     at: usize,
+    // the head that stands at this place, while its body is awaited
+    head: Option<HeadSpans>,
     // whether the link ends with what was handed out
     is_over: bool,
     // where the request that was handed out last begins
@@ -53,7 +56,7 @@ impl Model for RequestReader {
 
     ghost view = { λ r. reading_of r.buffer.items r.at r.is_over r.start r.current };
 
-    ghost invariant = { λ r. IsLaidOut r.buffer.items r.at r.start r.current };
+    ghost invariant = { λ r. IsLaidOut r.buffer.items r.at r.head r.start r.current };
 }
 
 impl RequestReader {
@@ -67,6 +70,7 @@ impl RequestReader {
         RequestReader {
             buffer: Vec::new(alloc),
             at: 0,
+            head: None,
             is_over: false,
             start: 0,
             current: None,
@@ -75,7 +79,8 @@ impl RequestReader {
 
     /// Puts a front of a piece behind what was fed, and answers how many bytes it has: all, where there is
     /// room, which there is for some whenever [`RequestReader::next_request`] has answered `None`. The
-    /// request that was handed out last cannot be read any more.
+    /// request that was handed out last cannot be read any more. No bytes are moved where nothing was handed
+    /// out since the last piece.
     pub fn feed(&mut self, piece: &[u8]) -> Result<usize, AllocError>
         ensures ok { IfOk result (λ count. Takes self.old.left piece.now count self.new.left) }
         ensures within { IfOk result (λ count. count ≤ length piece.now) }
@@ -96,7 +101,9 @@ impl RequestReader {
     }
 
     /// Hands out the request that is next, or the refusal that ends the link. `None` where that wants more
-    /// bytes, or the link is over; then there is room for a byte more. It takes no memory.
+    /// bytes, or the link is over; then there is room for a byte more. It takes no memory. A head is read at
+    /// each call until it is whole, so that bytes that no head begins with are refused when they come. A
+    /// body that is awaited costs a look at the number of its bytes.
     pub fn next_request(&mut self) -> Option<Handed>
         ensures hands { HandsNext result self.old self.new }
         ensures room { IfNone result (HasRoom self.new.left) }
@@ -105,8 +112,14 @@ impl RequestReader {
         if self.is_over {
             return None;
         }
-        match cut_front(&self.buffer[self.at..]) {
+        let head = self.head;
+        self.head = None;
+        match cut_read(&self.buffer[self.at..], head) {
             Cut::Open => return None,
+            Cut::OpenBody(spans) => {
+                self.head = Some(spans);
+                return None;
+            }
             Cut::Refused(why) => {
                 self.is_over = true;
                 return Some(Handed::Refused(why));

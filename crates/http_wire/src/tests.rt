@@ -171,7 +171,7 @@ fn head_of_bytes(alloc: Global, count: usize) -> Result<Vec<u8>, NoMemory>
 }
 
 fn assert_is_read(rt: &impl Abort, alloc: Global, head: &[u8], is_read: bool) -> Result<(), Fail> {
-    for size in [7, 65_536] {
+    for size in [1, 7, 65_536] {
         let seen = read_in_pieces(alloc, head, size)?;
         assert!(rt;
             (seen.as_slice() == b"400|".as_slice()) != is_read,
@@ -202,6 +202,38 @@ fn post_of_bytes(alloc: Global, count: usize) -> Result<Vec<u8>, NoMemory> {
         post.push(b'b')?;
     }
     Ok(post)
+}
+
+fn push_copies(out: &mut Vec<u8>, byte: u8, count: usize) -> Result<(), NoMemory> {
+    for _ in 0..count {
+        out.push(byte)?;
+    }
+    Ok(())
+}
+
+// The longest request: a head of 16,384 bytes, most of them empty lines, and a body of 1 MiB.
+fn longest_post(alloc: Global) -> Result<Vec<u8>, NoMemory> {
+    let mut post = Vec::new(alloc);
+    push_copies(&mut post, b'\n', 16_339)?;
+    post.extend_from_slice(b"POST /x HTTP/1.1\r\nContent-Length: 1048576\r\n\r\n")?;
+    push_copies(&mut post, b'b', 1_048_576)?;
+    Ok(post)
+}
+
+#[test]
+fn the_longest_requests_may_come_byte_by_byte(rt: HostRuntime) -> Result<(), Fail> {
+    let alloc = rt.alloc();
+    let post = longest_post(alloc)?;
+    assert!(rt; post.len() == 1_064_960);
+    let mut stream = Vec::new(alloc);
+    for _ in 0..6 {
+        stream.extend_from_slice(post.as_slice())?;
+    }
+    let seen = read_in_pieces(alloc, stream.as_slice(), 1)?;
+    // before the body of each stands `POST /x 1 - `, and a bar behind it
+    assert!(rt; seen.len() == 6 * (12 + 1_048_576 + 1));
+    assert!(rt; &seen.as_slice()[1_048_586..1_048_604] == b"bb|POST /x 1 - bbb".as_slice());
+    Ok(())
 }
 
 // Feeds all bytes, as many at a time as there is room for, and counts the times: 9 where that is not enough.
@@ -285,6 +317,80 @@ fn a_reply_is_its_bytes(rt: HostRuntime) -> Result<(), Fail> {
     ];
     for (reply, is_last, want) in cases {
         assert_reply(&rt, alloc, &reply, is_last, want)?;
+    }
+    Ok(())
+}
+
+fn assert_answer(
+    rt: &impl Abort,
+    alloc: Global,
+    item: &Item<'_>,
+    answer: &Answer<'_>,
+    is_last: bool,
+    want: &str,
+) -> Result<(), Fail> {
+    let mut out = Vec::from_slice(alloc, b"before")?;
+    assert!(rt;
+        push_answer(alloc, &mut out, item, answer)? == is_last,
+        "{want}"
+    );
+    assert!(rt; out.as_slice() == want.as_bytes(), "{want}");
+    Ok(())
+}
+
+fn get(target: &[u8], is_last: bool) -> Item<'_> {
+    Item::Request(Request {
+        method: b"GET",
+        target,
+        minor: 1,
+        is_last,
+        body: b"",
+    })
+}
+
+#[test]
+fn an_answer_is_its_reply(rt: HostRuntime) -> Result<(), Fail> {
+    let alloc = rt.alloc();
+    let cases = [
+        (
+            get(b"/metrics/index.json", false),
+            Answer::Found(MediaType::Json, b"[\"a.b\"]"),
+            false,
+            "beforeHTTP/1.1 200 OK\r\nContent-Type: application/json\r\nContent-Length: 7\r\n\r\n[\"a.b\"]",
+        ),
+        (
+            get(b"/render", true),
+            Answer::Unanswerable(b"no target"),
+            true,
+            "beforeHTTP/1.1 400 Bad Request\r\nContent-Type: text/plain\r\nContent-Length: 10\r\nConnection: close\r\n\r\nno target\n",
+        ),
+        (
+            get(b"/x", false),
+            Answer::Refused(Refusal::NotFound),
+            false,
+            "beforeHTTP/1.1 404 Not Found\r\nContent-Length: 0\r\n\r\n",
+        ),
+        (
+            get(b"/render", false),
+            Answer::DiskFault,
+            false,
+            "beforeHTTP/1.1 500 Internal Server Error\r\nContent-Length: 0\r\n\r\n",
+        ),
+        (
+            get(b"/render", false),
+            Answer::NoMemory,
+            true,
+            "beforeHTTP/1.1 503 Service Unavailable\r\nContent-Length: 0\r\nConnection: close\r\n\r\n",
+        ),
+        (
+            Item::Refused(Refusal::LengthRequired),
+            Answer::Refused(Refusal::LengthRequired),
+            true,
+            "beforeHTTP/1.1 411 Length Required\r\nContent-Length: 0\r\nConnection: close\r\n\r\n",
+        ),
+    ];
+    for (item, answer, is_last, want) in cases {
+        assert_answer(&rt, alloc, &item, &answer, is_last, want)?;
     }
     Ok(())
 }
