@@ -2,5 +2,4 @@ pub mod DrainLemmas
 pub mod FoundLemmas
 pub mod HistoryLemmas
 pub mod PartLemmas
-pub mod RingLemmas
 pub mod SoundLemmas

@@ -1,5 +1,5 @@
 //! The values of many buckets.
-ghost use Rattle.std.specs.Prelude.{◌≡◌, ◌+◌, ◌*◌, ◌==◌, ◌^◌, ◌<◌, ◌≤◌, None, if◌then◌else◌, IfOk, IsErrOf, length, map, min, replicate};
+ghost use Rattle.std.specs.Prelude.{◌≡◌, ◌+◌, ◌*◌, ◌==◌, ◌^◌, ◌<◌, ◌≤◌, true, None, if◌then◌else◌, IfOk, IsErrOf, length, map, min, replicate};
 ghost use Rattle.std.specs.List.{range_with_len};
 ghost use Rattle.outside_io.specs.Frames.{ReadsOnly};
 ghost use Rattle.ring_archive.specs.Ring.{FitsFrom, value_for, values_from};
@@ -34,6 +34,7 @@ impl RingView<'_> {
             (λ values. OnRing self.now patch.now.fresh (D.image disk.old)
             (λ file. values.items ≡ values_from patch.now file archive first count)) }
         ensures count { IfOk result (λ values. length values.items ≡ count) }
+        ensures unread { patch.now.fresh ≡ true → disk.new ≡ disk.old }
         ensures frame { ReadsOnly D.Disk disk.old disk.new (IsErrOf result RingFault.DiskFault) }
     {
         let ring = self.layout.archive(archive);

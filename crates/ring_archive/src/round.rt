@@ -1,5 +1,5 @@
 //! The cells of a ring in memory.
-ghost use Rattle.std.specs.Prelude.{◌≡◌, ◌+◌, ◌*◌, ◌%◌, ◌<◌, ◌≤◌, false, IfOk, IsErrOf, OnOk, length, replicate, take, drop, IsErr};
+ghost use Rattle.std.specs.Prelude.{◌≡◌, ◌+◌, ◌*◌, ◌%◌, ◌<◌, ◌≤◌, true, false, IfOk, IsErrOf, OnOk, length, replicate, take, drop, IsErr};
 ghost use Rattle.outside_io.specs.Frames.{ReadsOnly};
 ghost use Rattle.ring_archive.specs.Ring.{OnFile, cell_offset};
 ghost use Rattle.ring_archive.specs.View.{IsThere, OnRing};
@@ -43,6 +43,7 @@ impl RingView<'_> {
         ensures cells { IfOk result
             (λ bytes. OnRing self.now fresh (D.image disk.old)
             (λ file. HoldsSlots fresh self.now.layout.archives file round bytes.items)) }
+        ensures unread { fresh ≡ true → disk.new ≡ disk.old }
         ensures frame { ReadsOnly D.Disk disk.old disk.new (IsErrOf result RingFault.DiskFault) }
     {
         let mut bytes = zeros(alloc, CELL_BYTES * count as usize)?;

@@ -1,5 +1,5 @@
 //! Looking up buckets in a ring file.
-ghost use Rattle.std.specs.Prelude.{◌≡◌, ◌<◌, ◌≤◌, false, IfOk, length, Some, IsErr};
+ghost use Rattle.std.specs.Prelude.{◌≡◌, ◌<◌, ◌≤◌, true, false, IfOk, length, Some, IsErr};
 ghost use Rattle.outside_io.specs.Frames.{ReadsOnly};
 ghost use Rattle.ring_format.specs.Patch.{IsPlace};
 ghost use Rattle.ring_archive.specs.Ring.{OnFile, is_bucket, ring_cell, stored_cell, value_for, value_of};
@@ -43,6 +43,7 @@ impl<'a> RingView<'a> {
         ensures value { IfOk result
             (λ base. OnRing self.now patch.now.fresh (D.image disk.old)
             (λ file. base ≡ base_of patch.now file archive)) }
+        ensures unread { patch.now.fresh ≡ true → disk.new ≡ disk.old }
         ensures frame { ReadsOnly D.Disk disk.old disk.new (IsErr result) }
     {
         let _ = self.layout.archive(archive);
@@ -66,6 +67,7 @@ impl<'a> RingView<'a> {
         ensures value { IfOk result
             (λ value. OnRing self.now patch.now.fresh (D.image disk.old)
             (λ file. value ≡ value_of patch.now file archive bucket)) }
+        ensures unread { patch.now.fresh ≡ true → disk.new ≡ disk.old }
         ensures frame { ReadsOnly D.Disk disk.old disk.new (IsErr result) }
     {
         let ring = self.layout.archive(archive);
@@ -99,6 +101,7 @@ impl<'a> RingView<'a> {
         ensures value { IfOk result
             (λ cell. OnRing self.now patch.now.fresh (D.image disk.old)
             (λ file. cell ≡ ring_cell patch.now file (archive, slot))) }
+        ensures unread { patch.now.fresh ≡ true → disk.new ≡ disk.old }
         ensures frame { ReadsOnly D.Disk disk.old disk.new (IsErr result) }
     {
         if let Some(cell) = patch.cell(archive, slot) {

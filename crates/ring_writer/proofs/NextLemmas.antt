@@ -8,11 +8,11 @@ use Rattle.ring_format.specs.Patch.{PatchValue}
 use Rattle.ring_archive.specs.Ring.{AgreeAside, IsRingFile, OnFile, ReadsAs, Rings, UnderPatch}
 use Rattle.ring_archive.proofs.AlikeLemmas.{aside_alike}
 use Rattle.write_shelf.specs.Runs.{runs_of}
-use Rattle.write_shelf.specs.Shelf.{ComesInTurn, DrainValue, IsBegun, IsFilled, IsRunOf, OfNext, StandsAt, drain_with, marked, next_run}
+use Rattle.write_shelf.specs.Shelf.{ComesInTurn, DrainValue, IsBegun, IsFilled, IsRunOf, OfNext, StandsAt, drain_with, marked, next_run, run_at, run_bytes}
 use Rattle.write_shelf.specs.declared.run.Run.{Run}
 use Rattle.write_shelf.specs.declared.run.Run.TheVariants.{Create, Cells, Head}
 use Rattle.write_shelf.proofs.BytesLemmas.{length-cells_bytes}
-use Rattle.ring_writer.specs.PartWritten.{Awaits, AwaitsNext, ComesTo, FailsNext, IsPartWritten, WritesNext}
+use Rattle.ring_writer.specs.PartWritten.{Awaits, AwaitsNext, ComesTo, FailsNext, IsPartWritten, PutsRun, RunTorn, RunWritten, TearsRun, WritesNext}
 use Rattle.ring_writer.proofs.KnownLemmas.{known_more, known_then}
 use Rattle.ring_writer.proofs.PartLemmas.{FollowsOn, cells_failed, cells_written, file_made, head_failed, head_written, ring_file_begun}
 
@@ -199,33 +199,77 @@ none_created run (Some next) e other =
     let same : run ≡ next = cc in
     subst IsNoCreation same other
 
+-- ---- the run that was written, and no other
+
+puts : (patch : PatchValue) (run : Run) (n at : ℕ) (bytes name : List ℕ) (x y : Image) → IsNoCreation run → IsFilled n bytes patch run → StandsAt at patch run
+    → Writes x y name at (take n bytes) → PutsRun patch name x y run
+puts patch (Create size) n at bytes name x y other filled stands writes = absurd other
+puts patch (Cells archive slot count) n at bytes name x y other filled stands writes =
+    subst (λ (m : ℕ). Writes x y name m (run_bytes patch (Cells archive slot count))) stands.place (subst (Writes x y name at) filled.front writes)
+puts patch Head n at bytes name x y other filled stands writes =
+    subst (λ (m : ℕ). Writes x y name m (run_bytes patch Head)) stands.place (subst (Writes x y name at) filled.front writes)
+
+tears : (patch : PatchValue) (run : Run) (n at : ℕ) (bytes name : List ℕ) (x y : Image) → IsNoCreation run → IsFilled n bytes patch run → StandsAt at patch run
+    → Tears x y name at (length (take n bytes)) → TearsRun patch name x y run
+tears patch (Create size) n at bytes name x y other filled stands torn = absurd other
+tears patch (Cells archive slot count) n at bytes name x y other filled stands torn =
+    subst (λ (m : ℕ). Tears x y name m (length (run_bytes patch (Cells archive slot count)))) stands.place (subst (Tears x y name at) (ap length filled.front) torn)
+tears patch Head n at bytes name x y other filled stands torn =
+    subst (λ (m : ℕ). Tears x y name m (length (run_bytes patch Head))) stands.place (subst (Tears x y name at) (ap length filled.front) torn)
+
+first_put : (patch : PatchValue) (found : Option Run) (run : Run) (n at : ℕ) (bytes name : List ℕ) (x y : Image) → Some run ≡ found → IfSome found IsNoCreation → IfSome found (IsFilled n bytes patch)
+    → IfSome found (StandsAt at patch) → Writes x y name at (take n bytes) → IsSomeAnd found (PutsRun patch name x y)
+first_put patch None run n at bytes name x y e other filled stands writes = absurd cc
+first_put patch (Some next) run n at bytes name x y e other filled stands writes = puts patch next n at bytes name x y other filled stands writes
+
+first_torn : (patch : PatchValue) (found : Option Run) (run : Run) (n at : ℕ) (bytes name : List ℕ) (x y : Image) → Some run ≡ found → IfSome found IsNoCreation → IfSome found (IsFilled n bytes patch)
+    → IfSome found (StandsAt at patch) → Tears x y name at (length (take n bytes)) → IsSomeAnd found (TearsRun patch name x y)
+first_torn patch None run n at bytes name x y e other filled stands torn = absurd cc
+first_torn patch (Some next) run n at bytes name x y e other filled stands torn = tears patch next n at bytes name x y other filled stands torn
+
+-- ---- a call for the next run
+
 pub next_written : (shelf : Option DrainValue) (run : Run) (n at : ℕ) (bytes name : List ℕ) (a b : Option Image) → TellsNext shelf run → IsNoCreation run → OfNext shelf (IsFilled n bytes) → OfNext shelf (StandsAt at)
     → IfSome a (λ image. AwaitsNext shelf (image name)) → WhereKnown a b (λ x y. Writes x y name at (take n bytes)) → WhereKnown a b (WritesNext shelf name)
 next_written None run n at bytes name a b tells other filled stands awaits writes = absurd (tells.some refl)
 next_written (Some drain) run n at bytes name a b tells other filled stands awaits writes =
-    known_more (λ image. Awaits drain.patch drain.left (image name)) (λ x y. Writes x y name at (take n bytes)) (ComesTo drain.patch (drop 1 drain.left) name)
-    (λ x y here written. write_done drain drain.left name n at bytes x y (first_of drain run tells) (none_created run (slice_get drain.left 0) tells.is other) filled stands here written) a b awaits writes
+    let no_creation = none_created run (slice_get drain.left 0) tells.is other in
+    known_more (λ image. Awaits drain.patch drain.left (image name)) (λ x y. Writes x y name at (take n bytes)) (RunWritten drain name)
+    (λ x y here written. record {
+      exact = first_put drain.patch (slice_get drain.left 0) run n at bytes name x y tells.is no_creation filled stands written;
+      comes = write_done drain drain.left name n at bytes x y (first_of drain run tells) no_creation filled stands here written;
+    }) a b awaits writes
 
 pub next_failed : (shelf : Option DrainValue) (run : Run) (n at : ℕ) (bytes name : List ℕ) (a b : Option Image) → TellsNext shelf run → IsNoCreation run → OfNext shelf (IsFilled n bytes) → OfNext shelf (StandsAt at)
     → IfSome a (λ image. AwaitsNext shelf (image name)) → WhereKnown a b (λ x y. Tears x y name at (length (take n bytes))) → WhereKnown a b (FailsNext shelf name)
 next_failed None run n at bytes name a b tells other filled stands awaits tears = absurd (tells.some refl)
 next_failed (Some drain) run n at bytes name a b tells other filled stands awaits tears =
-    known_more (λ image. Awaits drain.patch drain.left (image name)) (λ x y. Tears x y name at (length (take n bytes))) (ComesTo drain.patch drain.left name)
-    (λ x y here torn. write_fails drain drain.left name n at bytes x y (first_of drain run tells) (none_created run (slice_get drain.left 0) tells.is other) filled stands here torn) a b awaits tears
+    let no_creation = none_created run (slice_get drain.left 0) tells.is other in
+    known_more (λ image. Awaits drain.patch drain.left (image name)) (λ x y. Tears x y name at (length (take n bytes))) (RunTorn drain name)
+    (λ x y here torn. record {
+      exact = first_torn drain.patch (slice_get drain.left 0) run n at bytes name x y tells.is no_creation filled stands torn;
+      comes = write_fails drain drain.left name n at bytes x y (first_of drain run tells) no_creation filled stands here torn;
+    }) a b awaits tears
 
 pub next_created : (shelf : Option DrainValue) (size : ℕ) (name : List ℕ) (a b : Option Image) → TellsNext shelf (Create size)
     → IfSome a (λ image. AwaitsNext shelf (image name)) → WhereKnown a b (λ x y. Creates x y name size) → WhereKnown a b (WritesNext shelf name)
 next_created None size name a b tells awaits creates = absurd (tells.some refl)
 next_created (Some drain) size name a b tells awaits creates =
-    known_more (λ image. Awaits drain.patch drain.left (image name)) (λ x y. Creates x y name size) (ComesTo drain.patch (drop 1 drain.left) name)
-    (λ x y here made. create_done drain drain.left size name x y (first_of drain (Create size) tells) (sym tells.is) made) a b awaits creates
+    known_more (λ image. Awaits drain.patch drain.left (image name)) (λ x y. Creates x y name size) (RunWritten drain name)
+    (λ x y here made. record {
+      exact = subst (λ (found : Option Run). IsSomeAnd found (PutsRun drain.patch name x y)) tells.is made;
+      comes = create_done drain drain.left size name x y (first_of drain (Create size) tells) (sym tells.is) made;
+    }) a b awaits creates
 
 pub next_not_created : (shelf : Option DrainValue) (size : ℕ) (name : List ℕ) (a b : Option Image) → TellsNext shelf (Create size)
     → IfSome a (λ image. AwaitsNext shelf (image name)) → WhereKnown a b (λ x y. ChangesOnly x y name) → WhereKnown a b (FailsNext shelf name)
 next_not_created None size name a b tells awaits only = absurd (tells.some refl)
 next_not_created (Some drain) size name a b tells awaits only =
-    known_more (λ image. Awaits drain.patch drain.left (image name)) (λ x y. ChangesOnly x y name) (ComesTo drain.patch drain.left name)
-    (λ x y here others. create_fails drain drain.left size name x y (first_of drain (Create size) tells) (sym tells.is) others) a b awaits only
+    known_more (λ image. Awaits drain.patch drain.left (image name)) (λ x y. ChangesOnly x y name) (RunTorn drain name)
+    (λ x y here others. record {
+      exact = subst (λ (found : Option Run). IsSomeAnd found (TearsRun drain.patch name x y)) tells.is others;
+      comes = create_fails drain drain.left size name x y (first_of drain (Create size) tells) (sym tells.is) others;
+    }) a b awaits only
 
 -- ---- over several runs
 
@@ -234,13 +278,13 @@ pub written_awaits : (shelf : Option DrainValue) (name : List ℕ) (a b : Option
 written_awaits None name a b written = known_then (λ image. AwaitsNext (marked None) (image name)) (WritesNext None name) (λ x y _. tt) a b written
 written_awaits (Some drain) name a b written =
     known_then (λ image. AwaitsNext (marked (Some drain)) (image name)) (WritesNext (Some drain) name)
-    (λ x y comes. drain_awaits drain.patch (drop 1 drain.left) (y name) comes.far) a b written
+    (λ x y comes. drain_awaits drain.patch (drop 1 drain.left) (y name) comes.comes.far) a b written
 
 -- where it was not, it is awaited still
 pub failed_awaits : (shelf : Option DrainValue) (name : List ℕ) (a b : Option Image) → WhereKnown a b (FailsNext shelf name) → IfSome b (λ image. AwaitsNext shelf (image name))
 failed_awaits None name a b failed = known_then (λ image. AwaitsNext None (image name)) (FailsNext None name) (λ x y _. tt) a b failed
 failed_awaits (Some drain) name a b failed =
-    known_then (λ image. AwaitsNext (Some drain) (image name)) (FailsNext (Some drain) name) (λ x y comes. comes.far) a b failed
+    known_then (λ image. AwaitsNext (Some drain) (image name)) (FailsNext (Some drain) name) (λ x y comes. comes.comes.far) a b failed
 
 -- what is awaited of the file of a patch that was just put on a shelf
 begins_by : (fresh : Bool) (patch : PatchValue) (held : Option (List ℕ)) → patch.fresh ≡ fresh → (fresh ≡ false → IsSomeAnd held (IsRingFile patch.layout)) → Awaits patch (runs_of patch) held

@@ -9,8 +9,10 @@ use outside_io::{Disk, DiskFailed};
 use ring_format::RUN_BYTES;
 use write_shelf::{Run, Shelf};
 
-/// Writes the next run of a shelf to the file of its patch, in one call of the disk. No memory is taken. At
-/// `Err` the run may be written again, and meanwhile the file reads under the patch as it did before.
+/// Writes the next run of a shelf to the file of its patch, in one call of the disk: exactly its
+/// bytes are written, or the file is created. No memory is taken. At `Err` any bytes stand where
+/// the run's were to be written; it may be written again, and meanwhile the file reads under the
+/// patch as it did before.
 pub fn write_run<D: Disk>(disk: &mut D, name: &str, shelf: &Shelf) -> Result<(), DiskFailed>
     requires some { shelf.now ≢ None }
     requires file { IfSome (D.image disk.old) (λ image. AwaitsNext shelf.now (image name.now)) }

@@ -41,6 +41,7 @@ pub fn fetch<D: Disk>(
     requires file { IsThere view.now patch.now.fresh (D.image disk.old) }
     ensures fetches { IfOk result (λ values.
         Fetches view.now patch.now (D.image disk.old) cached.now window values.items) }
+    ensures unread { patch.now.fresh ≡ true → disk.new ≡ disk.old }
     ensures frame { ReadsOnly D.Disk disk.old disk.new (IsErrOf result RingFault.DiskFault) }
 {
     let Window::Range(archive, first, end) = window else {

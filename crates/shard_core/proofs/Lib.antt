@@ -13,3 +13,4 @@ pub mod LookLemmas
 pub mod ReadLemmas
 pub mod PickLemmas
 pub mod KeptLemmas
+pub mod LawLemmas

@@ -53,10 +53,12 @@ shown_through image patch looked values (Some k) ring told same =
     (under_from patch (image (file_name_of looked.path)) image (file_name_of looked.path) k.rings refl (λ old. is_there (image (file_name_of looked.path)) patch.layout (ring old)) same.1)
 
 pub shows_through : (shard : Inside) (patch : PatchValue) (looked : Looked) (values : List (Option ℤ)) → patch_on shard.shelf ≡ Some patch → patch.path ≡ looked.path → IsOfClass shard.class looked.path
+    → (kept_layout shard.table looked.path ≡ None → ⊥)
     → IfSome shard.known (λ image. patch.fresh ≡ false → IsSomeAnd (image (file_name_of patch.path)) (IsRingFile patch.layout))
     → ShowsPending looked.layout looked.pending looked.window values → UnderPatch patch.fresh shard.known (file_name_of looked.path) (Tells patch looked values) → Shows shard looked values
-shows_through shard patch looked values on its one ring pending told_file = record {
+shows_through shard patch looked values on its one is_kept ring pending told_file = record {
   pending = pending;
+  bare = λ none. absurd (is_kept none);
   kept = λ told s holds. by told shard.known ring told_file s.kept
       (subst (λ (p : Option PatchValue). WhereKnown told shard.known (λ opening now. StandsUnder opening now p s.kept shard.class)) on holds.kept.files);
 }
@@ -98,9 +100,15 @@ pub shows_beside : (shard : Inside) (looked : Looked) (values : List (Option ℤ
     → UnderPatch (not known.is_kept) shard.known (file_name_of looked.path) (Tells (no_cells looked.path looked.layout (not known.is_kept)) looked values) → Shows shard looked values
 shows_beside shard looked values known apart one there l pending told_file = record {
   pending = pending;
+  bare = λ none. bare_by known.is_kept refl none told_file;
   kept = λ told s holds. by told shard.known told_file s.kept (sym (ap layout_kept there) ∙ holds.kept.layouts looked.path one) holds.kept.files;
 }
   where
+    bare_by : (b : Bool) → known.is_kept ≡ b → kept_layout shard.table looked.path ≡ None
+        → UnderPatch (not b) shard.known (file_name_of looked.path) (Tells (no_cells looked.path looked.layout (not b)) looked values) → values ≡ shown looked.layout no_rings looked.pending looked.window
+    bare_by true kept none under = absurd (none-some known.layout (sym none ∙ ap layout_kept there ∙ kept_as known kept))
+    bare_by false kept none under = under no_rings (fresh_is_empty looked.path looked.layout)
+
     by : (t k : Option Image) → UnderPatch (not known.is_kept) k (file_name_of looked.path) (Tells (no_cells looked.path looked.layout (not known.is_kept)) looked values)
         → (kept : List ℕ → Option Kept) → layout_kept (Some known) ≡ option_map (λ x. x.layout) (kept looked.path)
         → WhereKnown t k (λ opening now. StandsUnder opening now (patch_on shard.shelf) kept shard.class)
@@ -149,6 +157,20 @@ known_layout (Some known) layout kept its is = by known.is_kept refl is
     by : (b : Bool) → known.is_kept ≡ b → (if b then Some known.layout else None) ≡ Some kept → kept ≡ layout
     by true e same = ap (λ (o : Option LayoutValue). unwrap_or o kept) (sym same) ∙ its
     by false e none = absurd (none-some kept none)
+
+-- something is kept of the metric whose patch is on the shelf
+pub shelved_is_kept : (shard : Inside) (looked : Looked) (patch : PatchValue) → Some patch ≡ patch_for shard.shelf looked.path → HoldsShelf shard.class shard.table shard.shelf shard.known
+    → kept_layout shard.table looked.path ≡ None → ⊥
+shelved_is_kept shard looked patch is on none =
+    let its = for_shelf shard.shelf looked.path patch is in
+    let kept = (on_drain shard.class shard.table shard.shelf shard.known patch its.0 on).0.kept in
+    absurd (none-some patch.layout (sym none ∙ ap (kept_layout shard.table) (sym its.1) ∙ kept))
+
+-- a metric of which nothing is kept needs no file
+pub unkept_is_fresh : (o : Option Known) (is_kept : Bool) → IsSomeAnd o (λ known. known.is_kept ≡ is_kept) → layout_kept o ≡ None → not is_kept ≡ true
+unkept_is_fresh None is_kept its none = absurd its
+unkept_is_fresh (Some known) true its none = absurd (none-some known.layout (sym none ∙ kept_as known its))
+unkept_is_fresh (Some known) false its none = refl
 
 -- the patch on the shelf is in the layout that was looked at
 pub patch_layout : (shard : Inside) (looked : Looked) (patch : PatchValue) → Some patch ≡ patch_for shard.shelf looked.path → HoldsShelf shard.class shard.table shard.shelf shard.known → MayRead shard looked
@@ -199,7 +221,7 @@ pub fetched_through : (shard : Inside) (patch : PatchValue) (looked : Looked) (v
     → UnderPatch patch.fresh shard.known (file_name_of looked.path) (Tells patch looked values) → Shows shard looked values
 fetched_through shard patch looked values is one on pending told =
     let its = for_shelf shard.shelf looked.path patch is in
-    shows_through shard patch looked values its.0 its.1 one (on_drain shard.class shard.table shard.shelf shard.known patch its.0 on).1 pending told
+    shows_through shard patch looked values its.0 its.1 one (shelved_is_kept shard looked patch is on) (on_drain shard.class shard.table shard.shelf shard.known patch its.0 on).1 pending told
 
 pub fetched_beside : (shard : Inside) (looked : Looked) (values : List (Option ℤ)) (is_kept : Bool) (patch : PatchValue) → None ≡ patch_for shard.shelf looked.path → IsOfClass shard.class looked.path → MayRead shard looked
     → IsSomeAnd (entry_of shard.table looked.path) (λ known. known.is_kept ≡ is_kept) → patch ≡ no_cells looked.path looked.layout (not is_kept)

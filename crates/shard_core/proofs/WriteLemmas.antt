@@ -10,7 +10,7 @@ use Rattle.metric_path.proofs.FileNameLemmas.{file_names_differ}
 use Rattle.ring_format.specs.Layout.{LayoutValue, layout_fault}
 use Rattle.ring_format.specs.Patch.{PatchValue}
 use Rattle.ring_archive.specs.Ring.{IsRingFile, ReadsAs}
-use Rattle.ring_writer.specs.PartWritten.{Awaits, ComesTo, FailsNext, IsPartWritten, WritesNext}
+use Rattle.ring_writer.specs.PartWritten.{Awaits, ComesTo, FailsNext, IsPartWritten, RunTorn, RunWritten, WritesNext}
 use Rattle.ring_writer.proofs.PartLemmas.{part_laid}
 use Rattle.write_shelf.specs.Shelf.{DrainValue, IsBegun, IsRunOf, OfNext, drain_with, marked}
 use Rattle.write_shelf.specs.declared.run.Run.{Run}
@@ -219,6 +219,26 @@ stays_kept old shelf known keeps told s holds = record {
 
 -- ---- a run is written
 
+-- what follows from a fact on a call
+known_so : (P Q : Image → Image → Type 0) → ((x y : Image) → P x y → Q x y) → (a b : Option Image) → WhereKnown a b P → WhereKnown a b Q
+known_so P Q more None None p = tt
+known_so P Q more None (Some y) p = absurd p
+known_so P Q more (Some x) None p = absurd p
+known_so P Q more (Some x) (Some y) p = more x y p
+
+-- the run is written to the file of its patch
+pub written_there : (old : Option DrainValue) (name : List ℕ) (known known' : Option Image) → IsNamed old name → WhereKnown known known' (WritesNext old name)
+    → WhereKnown known known' (λ before after. IfSome old (λ drain. RunWritten drain (file_name_of drain.patch.path) before after))
+written_there None name known known' named writes = absurd (none-some name (sym named))
+written_there (Some drain) name known known' named writes =
+    subst (λ (n : List ℕ). WhereKnown known known' (RunWritten drain n)) (its_name drain name named) writes
+
+pub torn_there : (old : Option DrainValue) (name : List ℕ) (known known' : Option Image) → IsNamed old name → WhereKnown known known' (FailsNext old name)
+    → WhereKnown known known' (λ before after. IfSome old (λ drain. RunTorn drain (file_name_of drain.patch.path) before after))
+torn_there None name known known' named fails = absurd (none-some name (sym named))
+torn_there (Some drain) name known known' named fails =
+    subst (λ (n : List ℕ). WhereKnown known known' (RunTorn drain n)) (its_name drain name named) fails
+
 -- the shelf and the disk after a run was written
 pub record Written (class : ℕ) (table : Table) (old new : Option DrainValue) (known known' : Option Image) : Type 0 where
   pub files : HasFiles class table (patch_on old) known → HasFiles class table (patch_on new) known'
@@ -232,7 +252,8 @@ run_written class table (Some drain) new name known known' named on mark sound w
     let came : Came class table drain (drop 1 drain.left) known known' = record {
       on = on;
       sound = next_sound drain.patch (drop 1 drain.left) (subst (λ (o : Option DrainValue). OfNext o IsRunOf) mark sound);
-      comes = subst (λ (n : List ℕ). WhereKnown known known' (ComesTo drain.patch (drop 1 drain.left) n)) (its_name drain name named) writes;
+      comes = known_so (RunWritten drain (file_name_of drain.patch.path)) (ComesTo drain.patch (drop 1 drain.left) (file_name_of drain.patch.path)) (λ x y written. written.comes) known known'
+          (written_there (Some drain) name known known' named writes);
     } in subst (λ (o : Option DrainValue). Written class table (Some drain) o known known') (sym mark) (record {
       files = came_files class table drain (drop 1 drain.left) known known' came;
       shelf = came_shelf class table drain (drop 1 drain.left) known known' came;
@@ -247,7 +268,8 @@ run_failed class table (Some drain) name known known' named on sound begun fails
     let came : Came class table drain drain.left known known' = record {
       on = on;
       sound = sound;
-      comes = subst (λ (n : List ℕ). WhereKnown known known' (ComesTo drain.patch drain.left n)) (its_name drain name named) fails;
+      comes = known_so (RunTorn drain (file_name_of drain.patch.path)) (ComesTo drain.patch drain.left (file_name_of drain.patch.path)) (λ x y torn. torn.comes) known known'
+          (torn_there (Some drain) name known known' named fails);
     } in subst (λ (o : Option DrainValue). Written class table (Some drain) o known known') (left_again drain begun) (record {
       files = came_files class table drain drain.left known known' came;
       shelf = came_shelf class table drain drain.left known known' came;

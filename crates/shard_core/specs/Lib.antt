@@ -11,3 +11,4 @@ pub mod StartFaults
 pub mod Starting
 pub mod View
 pub mod Props
+pub mod Steps

@@ -26,7 +26,8 @@ pub record TellsOf (s : State) (now from until : ℕ) (looked : Looked) : Type 0
   pub pending : looked.pending ≡ points_in s looked.path
   pub drains : looked.drains ≡ s.drains looked.path
 
--- the metrics of a class that fit and of which the question has buckets, in byte order, each as the state has it
+-- the metrics of a class that fit and of which the question has buckets, in byte order, each as the
+-- state has it
 pub record Looks (class : ℕ) (s : State) (fits : List ℕ → Type 0) (now from until : ℕ) (looked : List Looked) : Type 0 where
   pub found : Finds s (λ path. IsOfClass class path × (fits path × (window (layout_of s path) now from until ≢ Empty))) (looked_paths looked)
   pub each : All (TellsOf s now from until) looked
@@ -64,7 +65,8 @@ IsSoundLook looked = IsWindow looked.layout looked.window × IsRising looked.pen
 
 -- ---- what a read needs
 
--- All that a read needs: a metric of the class in the layout that it has, a window of that layout, and points in rising time.
+-- All that a read needs: a metric of the class in the layout that it has, a window of that layout,
+-- and points in rising time.
 pub record MayRead (shard : Inside) (looked : Looked) : Type 0 where
   pub here : class_of looked.path ≡ shard.class
   pub known : KnowsAs shard looked.path looked.layout

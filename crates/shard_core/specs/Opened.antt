@@ -27,7 +27,8 @@ pub record FirstDamaged (class : ℕ) (image : Image) (name : List ℕ) : Type 0
 abbrev pub IsSoundDisk : ℕ → Image → Type 0
 IsSoundDisk class image = (path : List ℕ) → IsOfClass class path → IfSome (image (file_name_of path)) (λ file. is_sound file ≡ true)
 
--- The table and the disk stand for something that is kept, which is what the disk shows, where it tells its image.
+-- The table and the disk stand for something that is kept, which is what the disk shows, where it
+-- tells its image.
 pub record Opens (class : ℕ) (told : Option Image) (table : Table) : Type 0 where
   pub kept : List ℕ → Option Kept
   pub shown : IfSome told (λ image. (path : List ℕ) → IsOfClass class path → kept path ≡ kept_on image path)

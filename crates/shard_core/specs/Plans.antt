@@ -21,18 +21,22 @@ use Rattle.shard_core.specs.Table.{kept_layout}
 use Rattle.shard_core.specs.declared.planned.Planned.{Planned}
 use Rattle.shard_core.specs.declared.planned.Planned.TheVariants.{Took, Busy, Idle, DiskFault, NoMemory}
 
--- whatever state the shard stood for, its class picks this path, and it stands for the state after its drain
+-- whatever state the shard stood for, its class picks this path, and it stands for the state after
+-- its drain
 abbrev pub Drains : Inside → Inside → List ℕ → ℕ → Type 0
 Drains old new path now =
-    (told : Option Image) (s : State) → Holds told old s → (picked s old.class ≡ Some path) × Holds told new (drained s path now)
+    (told : Option Image) (s : State) → Holds told old s
+    → (picked s old.class ≡ Some path) × Holds told new (drained s path now)
 
--- no cell is to be written: something is kept of the metric, and each pending point is older than all that its archives reach back
+-- no cell is to be written: something is kept of the metric, and each pending point is older than
+-- all that its archives reach back
 abbrev pub NeedsNoWrite : Inside → List ℕ → ℕ → Type 0
 NeedsNoWrite shard path now =
-    IsSomeAnd (kept_layout shard.table path) (λ layout. All (λ p. home_of layout.archives now p.0 ≡ None) (points_of shard.cache.metrics path))
+    IsSomeAnd (kept_layout shard.table path)
+    (λ layout. All (λ p. home_of layout.archives now p.0 ≡ None) (points_of shard.cache.metrics path))
 
--- A drain of the metric begins: it is drained for all that the shard says from now on, and its patch is on the shelf, unless there is nothing
--- to write.
+-- A drain of the metric begins: it is drained for all that the shard says from now on, and its
+-- patch is on the shelf, unless there is nothing to write.
 pub record Begins (old new : Inside) (path : List ℕ) (now : ℕ) : Type 0 where
   pub empty : old.shelf ≡ None
   pub here : class_of path ≡ old.class
@@ -41,11 +45,13 @@ pub record Begins (old new : Inside) (path : List ℕ) (now : ℕ) : Type 0 wher
   pub nothing : (new.shelf ≡ None) ↔ NeedsNoWrite old path now
   pub fewer : length new.cache.metrics < length old.cache.metrics
 
--- A drain was to begin and does not: the pending points, the shelf and what is known of the metrics are as before.
+-- A drain was to begin and does not: the pending points, the queue, the shelf and what is known of
+-- the metrics are as before.
 pub record Refuses (old new : Inside) : Type 0 where
   pub empty : old.shelf ≡ None
   pub some : old.cache.metrics ≢ []
   pub cache : new.cache ≡ old.cache
+  pub queue : new.picker.queue ≡ old.picker.queue
   pub shelf : new.shelf ≡ old.shelf
   pub table : new.table ≡ old.table
   pub stays : Stays old new
@@ -68,8 +74,8 @@ pub record IsPicked (picker : Picking) (cache : Cache) (place : ℕ) : Type 0 wh
   pub rest : (path : List ℕ) → slice_get cache.places place ≡ Some path
       → Follows (settled_with picker (queue_after picker.strategy picker.queue cache.metrics)) (remove_entry (bytes_eq path) cache.metrics)
 
--- The patch makes the batch of these points of a metric of which this is known, over whatever its file reads as. It is fresh where nothing is
--- kept of the metric.
+-- The patch makes the batch of these points of a metric of which this is known, over whatever its
+-- file reads as. It is fresh where nothing is kept of the metric.
 pub record PlansFor (known : Known) (image : Option Image) (path : List ℕ) (points : List (ℕ × ℤ)) (now : ℕ) (patch : PatchValue) : Type 0 where
   pub own : patch.path ≡ path
   pub layout : patch.layout ≡ known.layout

@@ -9,8 +9,8 @@ use Rattle.carbon_model.specs.State.{State}
 use Rattle.carbon_model.specs.Replay.{IsLegal, after}
 use Rattle.shard_core.specs.Shard.{Holds, Inside}
 
--- Its end is the one that may come, and the state is that after it, whichever pass made it. Want of memory, which comes only where the
--- point would have been stored, changes nothing.
+-- Its end is the one that may come, and the state is that after it, whichever pass made it. Want of
+-- memory, which comes only where the point would have been stored, changes nothing.
 abbrev pub PutsInto : Put → State → List ℕ → ℕ → ℤ → (State → Type 0) → Type 0
 PutsInto Stored s path time value holds =
     (pass : ℕ) → IsLegal s (entry.Put pass path time value end.Stored) × holds (after s (entry.Put pass path time value end.Stored))

@@ -34,7 +34,8 @@ patch_on shelf = option_map (λ drain. drain.patch) shelf
 abbrev pub IsLawfulRing : LayoutValue → List ℕ → Type 0
 IsLawfulRing layout file = (layout_fault layout.archives layout.factor ≡ None) × IsRingFile layout file
 
--- each kept metric of the class, but that of the patch, has a ring file of its layout, where the disk tells its image
+-- each kept metric of the class, but that of the patch, has a ring file of its layout, where the
+-- disk tells its image
 abbrev pub HasFiles : ℕ → Table → Option PatchValue → Option Image → Type 0
 HasFiles class table patch known =
     IfSome known (λ image. (path : List ℕ) → path_fault path ≡ None → class_of path ≡ class → is_patched patch path ≡ false
@@ -47,7 +48,8 @@ pub record IsOfKept (class : ℕ) (table : Table) (patch : PatchValue) : Type 0 
   pub kept : kept_layout table patch.path ≡ Some patch.layout
   pub lawful : layout_fault patch.layout.archives patch.layout.factor ≡ None
 
--- the file of the patch is as far written as the runs that are left need, and where it was not created for the patch it is a ring file
+-- the file of the patch is as far written as the runs that are left need, and where it was not
+-- created for the patch it is a ring file
 pub record IsUnderWay (drain : DrainValue) (held : Option (List ℕ)) : Type 0 where
   pub far : Awaits drain.patch drain.left held
   pub ring : drain.patch.fresh ≡ false → IsSomeAnd held (IsRingFile drain.patch.layout)
@@ -59,14 +61,15 @@ HoldsShelf class table shelf known =
 
 -- ---- the state
 
--- The table, the patch and the disk of a class stand for what is kept, where the disk told this image at the opening. A disk that does not
--- tell its image says nothing of values; the layouts are still those of what is kept.
+-- The table, the patch and the disk of a class stand for what is kept, where the disk told this
+-- image at the opening. A disk that does not tell its image says nothing of values; the layouts are
+-- still those of what is kept.
 pub record HoldsKept (told : Option Image) (class : ℕ) (table : Table) (patch : Option PatchValue) (known : Option Image) (kept : List ℕ → Option Kept) : Type 0 where
   pub layouts : (path : List ℕ) → IsOfClass class path → kept_layout table path ≡ option_map (λ k. k.layout) (kept path)
   pub files : WhereKnown told known (λ opening now. StandsUnder opening now patch kept class)
 
--- What a shard holds, as contracts see it: its class, the rules, the pending points, which of them go next, what it knows of its metrics, the
--- drain that is being written, and what its disk tells.
+-- What a shard holds, as contracts see it: its class, the rules, the pending points, which of them
+-- go next, what it knows of its metrics, the drain that is being written, and what its disk tells.
 pub record Inside : Type 0 where
   pub class : ℕ
   pub rules : RulesValue

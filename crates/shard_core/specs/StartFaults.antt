@@ -18,7 +18,8 @@ IsDiskFault (Damaged name) = ⊥
 IsDiskFault DiskFault = Unit {0}
 IsDiskFault NoMemory = ⊥
 
--- a shard did not start: its disk is back and tells what it told, and its count of failed calls rose where it failed
+-- a shard did not start: its disk is back and tells what it told, and its count of failed calls
+-- rose where it failed
 pub record NotStarted {D : Type 0} (d : Ghosts D) (class : ℕ) (disk back : D) (fault : StartFault) : Type 0 where
   pub same : d.image back ≡ d.image disk
   pub damaged : IsDamagedFile fault (d.image disk) class

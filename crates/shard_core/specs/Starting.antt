@@ -39,7 +39,8 @@ abbrev pub IsNoted : Image → Table → List ℕ → Type 0
 IsNoted image table path =
     (kept_layout table path ≡ option_map (λ k. k.layout) (kept_on image path)) × IfSome (image (file_name_of path)) (λ file. is_sound file ≡ true)
 
--- the table after one name: the path of the class that has this file name is noted, and every other path has what it had
+-- the table after one name: the path of the class that has this file name is noted, and every other
+-- path has what it had
 pub record Notes (class : ℕ) (image : Image) (name : List ℕ) (old new : Table) : Type 0 where
   pub files : HasFiles class new None (Some image)
   pub here : (path : List ℕ) → IsOfClass class path → file_name_of path ≡ name → IsNoted image new path

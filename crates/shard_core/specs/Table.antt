@@ -30,7 +30,8 @@ pub record SaysTheSame (old new : Table) : Type 0 where
   pub kept : (path : List ℕ) → kept_layout new path ≡ kept_layout old path
   pub drains : (path : List ℕ) → drains_in new path ≡ drains_in old path
 
--- A known metric is of the class. Where nothing is kept of it, it is pending, and has the layout that the rules give.
+-- A known metric is of the class. Where nothing is kept of it, it is pending, and has the layout
+-- that the rules give.
 pub record IsEntry (class : ℕ) (rules : RulesValue) (metrics : Metrics) (path : List ℕ) (known : Known) : Type 0 where
   pub here : class_of path ≡ class
   pub pending : known.is_kept ≡ false → points_of metrics path ≢ []

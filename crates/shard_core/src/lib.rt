@@ -1,5 +1,5 @@
-//! One class of metrics over its disk: pending points in memory, drained points in ring files, and between them the drain that is being
-//! written, run by run.
+//! One class of metrics over its disk: pending points in memory, drained points in ring files, and
+//! between them the drain that is being written, run by run.
 #![tactic(auto)]
 
 mod fault;
@@ -15,7 +15,15 @@ mod starting;
 mod writing;
 
 pub use fault::StartFault;
-pub use laws::what_was_looked_at_may_be_read_later;
+pub use laws::{
+    a_shard_replays_its_answers, a_started_shard_stands_for_an_opening,
+    what_was_looked_at_may_be_read_later,
+};
 pub use looked::{LookFault, Looked};
 pub use planned::{Planned, Wrote};
 pub use shard::Shard;
+
+#[cfg(test)]
+mod start_tests;
+#[cfg(test)]
+mod tests;

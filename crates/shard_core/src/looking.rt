@@ -17,8 +17,9 @@ impl<D: Disk> Shard<D> {
     ghost use Rattle.shard_core.specs.Looks.{IsSoundLook, LooksAt, MayRead, looked_as, looked_in};
     ghost use Rattle.shard_core.specs.View.{inside_of};
 
-    /// The metrics that a glob fits, at the moment `now`, for a question from a moment until another, all in seconds since the Unix epoch: in
-    /// byte order of their paths, and without those of which the question has no bucket. The disk is not read.
+    /// The metrics that a glob fits, at the moment `now`, for a question from a moment until
+    /// another, all in seconds since the Unix epoch: in byte order of their paths, and without
+    /// those of which the question has no bucket. The disk is not read.
     pub fn look(
         &self,
         glob: &Glob,
@@ -28,8 +29,11 @@ impl<D: Disk> Shard<D> {
     ) -> Result<Vec<Looked>, AllocError>
         requires order { from ≤ until }
         requires now { now ≤ 4_000_000_000 }
-        ensures looks { IfOk result (λ looked. LooksAt (inside_of self.now) (IsFitted glob.now) now from until looked.items) }
-        ensures readable { IfOk result (λ looked. All (MayRead (inside_of self.now)) looked.items) }
+        ensures looks { IfOk result
+            (λ looked. LooksAt (inside_of self.now) (IsFitted glob.now) now from until
+            looked.items) }
+        ensures readable { IfOk result
+            (λ looked. All (MayRead (inside_of self.now)) looked.items) }
     {
         // Each path is legal, and they rise.
         let _ = self.table.len();
@@ -47,7 +51,9 @@ impl<D: Disk> Shard<D> {
     ) -> Result<Vec<Looked>, AllocError>
         requires order { from ≤ until }
         requires now { now ≤ 4_000_000_000 }
-        ensures looked { IfOk result (λ looked. looked.items ≡ looked_in self.now.cache.metrics now from until (map seen found.now)) }
+        ensures looked { IfOk result
+            (λ looked. looked.items
+            ≡ looked_in self.now.cache.metrics now from until (map seen found.now)) }
         ensures sound { IfOk result (λ looked. All IsSoundLook looked.items) }
     {
         let mut looked = Vec::new(self.alloc);
@@ -63,7 +69,8 @@ impl<D: Disk> Shard<D> {
     // What there is to say of a metric, for a question about this window.
     fn look_at_one(&self, metric: &FoundMetric<'_>, window: Window) -> Result<Looked, AllocError>
         requires { IsWindow metric.now.layout.now window }
-        ensures looked { IfOk result (λ looked. looked ≡ looked_as self.now.cache.metrics window (seen metric.now)) }
+        ensures looked { IfOk result
+            (λ looked. looked ≡ looked_as self.now.cache.metrics window (seen metric.now)) }
         ensures sound { IfOk result IsSoundLook }
     {
         Ok(Looked {

@@ -34,14 +34,16 @@ impl<D: Disk> Shard<D> {
     ghost use Rattle.shard_core.specs.Shard.{KeepsLayouts};
     ghost use Rattle.shard_core.specs.View.{SameShard, inside_of};
 
-    /// Begins the drain of the metric that goes next, at the moment `now`, unless one is being written: its points leave the cache, and are
-    /// to be written from then on. The disk is only read. After want of memory and after a disk fault all is as before. A metric that was
+    /// Begins the drain of the metric that goes next, at the moment `now`, unless one is being
+    /// written: its points leave the cache, and are to be written from then on. The disk is only
+    /// read. After want of memory and after a disk fault all is as before. A metric that was
     /// drained 2^64 - 1 times is not drained again, which counts as want of memory.
     pub fn plan(&mut self, now: u32) -> Planned
         ensures plans { PlansTo result (inside_of self.old) (inside_of self.new) now }
         ensures layouts { KeepsLayouts (inside_of self.old) (inside_of self.new) }
         ensures same { SameShard self.old self.new }
-        ensures frame { ReadsOnly D.Disk self.old.disk self.new.disk (result ≡ Planned.DiskFault) }
+        ensures frame { ReadsOnly D.Disk self.old.disk self.new.disk
+            (result ≡ Planned.DiskFault) }
     {
         if self.shelved() {
             return Planned::Busy;
@@ -61,15 +63,18 @@ impl<D: Disk> Shard<D> {
         }
     }
 
-    // Begins the drain of the metric at a place, which was picked. Once its patch is made no memory is taken.
+    // Begins the drain of the metric at a place, which was picked. Once its patch is made no memory
+    // is taken.
     fn begin(&mut self, place: usize, now: u32) -> Result<MetricPath, RingFault>
         requires empty { self.old.shelf ≡ None }
         requires picked { IsPicked self.old.picker self.old.cache place }
-        ensures begins { IfOk result (λ path. Begins (inside_of self.old) (inside_of self.new) path now) }
+        ensures begins { IfOk result
+            (λ path. Begins (inside_of self.old) (inside_of self.new) path now) }
         ensures err { OnErr result (inside_of self.new ≡ inside_of self.old) }
         ensures layouts { KeepsLayouts (inside_of self.old) (inside_of self.new) }
         ensures same { SameShard self.old self.new }
-        ensures frame { ReadsOnly D.Disk self.old.disk self.new.disk (IsErrOf result RingFault.DiskFault) }
+        ensures frame { ReadsOnly D.Disk self.old.disk self.new.disk
+            (IsErrOf result RingFault.DiskFault) }
     {
         let next = self.next_drain(place, now)?;
         // At each place stands a metric with pending points.
@@ -86,11 +91,14 @@ impl<D: Disk> Shard<D> {
     fn next_drain(&mut self, place: usize, now: u32) -> Result<NextDrain, RingFault>
         requires place { place < length self.old.cache.places }
         requires empty { self.old.shelf ≡ None }
-        ensures batch { IfOk result (λ next. (path : List ℕ) → slice_get self.old.cache.places place ≡ Some path
+        ensures batch { IfOk result
+            (λ next. (path : List ℕ) → slice_get self.old.cache.places place ≡ Some path
             → MakesBatch (inside_of self.old) path now next.patch) }
-        ensures name { IfOk result (λ next. string_bytes next.name ≡ file_name_of next.patch.path) }
+        ensures name { IfOk result
+            (λ next. string_bytes next.name ≡ file_name_of next.patch.path) }
         ensures same { inside_of self.new ≡ inside_of self.old }
-        ensures frame { ReadsOnly D.Disk self.old.disk self.new.disk (IsErrOf result RingFault.DiskFault) }
+        ensures frame { ReadsOnly D.Disk self.old.disk self.new.disk
+            (IsErrOf result RingFault.DiskFault) }
     {
         // At each place stands a metric with pending points.
         let _ = self.cache.metrics();
@@ -108,7 +116,8 @@ impl<D: Disk> Shard<D> {
 
 // The name of a file, where something is on the shelf.
 fn name_where_shelved(shelf: &Shelf, name: String) -> Option<String>
-    ensures { option_map string_bytes result ≡ option_map (λ drain. string_bytes name) shelf.now }
+    ensures { option_map string_bytes result
+        ≡ option_map (λ drain. string_bytes name) shelf.now }
 {
     match shelf.patch() {
         Some(_) => Some(name),
@@ -127,8 +136,10 @@ fn plan_drain<D: Disk>(
 ) -> Result<NextDrain, RingFault>
     requires rising { IsRising points.now }
     requires moments { All (λ p. is_moment p.0 ≡ true) points.now }
-    requires file { known.is_kept ≡ true → OnFile (D.image disk.old) (file_name_of path.now) (IsRingFile known.layout) }
-    ensures patch { IfOk result (λ next. PlansFor known (D.image disk.old) path.now points.now now next.patch) }
+    requires file { known.is_kept ≡ true
+        → OnFile (D.image disk.old) (file_name_of path.now) (IsRingFile known.layout) }
+    ensures patch { IfOk result
+        (λ next. PlansFor known (D.image disk.old) path.now points.now now next.patch) }
     ensures name { IfOk result (λ next. string_bytes next.name ≡ file_name_of path.now) }
     ensures frame { ReadsOnly D.Disk disk.old disk.new (IsErrOf result RingFault.DiskFault) }
 {

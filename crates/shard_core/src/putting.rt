@@ -22,11 +22,13 @@ impl<D: Disk> Shard<D> {
     ghost use Rattle.shard_core.specs.Shard.{KeepsLayouts};
     ghost use Rattle.shard_core.specs.View.{OnlyPuts, inside_of};
 
-    /// Puts a point of a metric line, whose path is of this class. The layout of a metric is settled at its first stored point: it
-    /// is that of what is kept of it, or else what the rules give it. The disk stays as it is.
+    /// Puts a point of a metric line, whose path is of this class. The layout of a metric is
+    /// settled at its first stored point: it is that of what is kept of it, or else what the rules
+    /// give it. The disk stays as it is.
     pub fn put(&mut self, datum: &Datum) -> Put
         requires { class_of datum.now.path ≡ self.old.class }
-        ensures put { TakesPoint (inside_of self.old) (inside_of self.new) datum.now.path datum.now.time datum.now.value result }
+        ensures put { TakesPoint (inside_of self.old) (inside_of self.new)
+            datum.now.path datum.now.time datum.now.value result }
         ensures layouts { KeepsLayouts (inside_of self.old) (inside_of self.new) }
         ensures others { OnlyPuts self.old self.new }
     {
@@ -45,7 +47,8 @@ impl<D: Disk> Shard<D> {
     fn put_listed(&mut self, datum: &Datum) -> Put
         requires here { class_of datum.now.path ≡ self.old.class }
         requires known { HasRoom self.old.cache → IsSome (entry_of self.old.table datum.now.path) }
-        ensures put { TakesPoint (inside_of self.old) (inside_of self.new) datum.now.path datum.now.time datum.now.value result }
+        ensures put { TakesPoint (inside_of self.old) (inside_of self.new)
+            datum.now.path datum.now.time datum.now.value result }
         ensures layouts { KeepsLayouts (inside_of self.old) (inside_of self.new) }
         ensures others { OnlyPuts self.old self.new }
     {
@@ -53,12 +56,14 @@ impl<D: Disk> Shard<D> {
         self.cache.put(&datum.path, datum.time, datum.value)
     }
 
-    // Puts the first point of a metric that is not known: it is known first, and is so no more where the point is not stored.
+    // Puts the first point of a metric that is not known: it is known first, and is so no more
+    // where the point is not stored.
     fn put_first(&mut self, datum: &Datum) -> Put
         requires here { class_of datum.now.path ≡ self.old.class }
         requires room { HasRoom self.old.cache }
         requires new { entry_of self.old.table datum.now.path ≡ None }
-        ensures put { TakesPoint (inside_of self.old) (inside_of self.new) datum.now.path datum.now.time datum.now.value result }
+        ensures put { TakesPoint (inside_of self.old) (inside_of self.new)
+            datum.now.path datum.now.time datum.now.value result }
         ensures layouts { KeepsLayouts (inside_of self.old) (inside_of self.new) }
         ensures others { OnlyPuts self.old self.new }
     {
@@ -84,7 +89,8 @@ fn list_metric(
     rules: &Rules,
     path: &MetricPath,
 ) -> Result<(), AllocError>
-    ensures ok { OnOk result (Sets table.old table.new path.now (Some (undrained (layout_by rules.now path.now) false))) }
+    ensures ok { OnOk result (Sets table.old table.new path.now
+        (Some (undrained (layout_by rules.now path.now) false))) }
     ensures err { OnErr result (table.new ≡ table.old) }
 {
     let layout = rules.layout_of(alloc, path)?;

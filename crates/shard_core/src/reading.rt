@@ -21,21 +21,26 @@ use std::alloc::Global;
 use write_shelf::Shelf;
 
 impl<D: Disk> Shard<D> {
-    ghost use Rattle.std.specs.Prelude.{◌≡◌, IfOk, IsErrOf, IsSomeAnd};
+    ghost use Rattle.std.specs.Prelude.{◌≡◌, None, IfOk, IsErrOf, IsSomeAnd};
     ghost use Rattle.outside_io.specs.Frames.{ReadsOnly};
     ghost use Rattle.metric_index.specs.Index.{entry_of};
     ghost use Rattle.shard_core.specs.Looks.{MayRead};
     ghost use Rattle.shard_core.specs.Reads.{ReadsTo, Shows};
+    ghost use Rattle.shard_core.specs.Table.{kept_layout};
     ghost use Rattle.shard_core.specs.View.{inside_of};
 
-    /// The values of the buckets that a look found, of the points that were pending then over what is kept of the metric: those of its file,
-    /// read through the patch that is being written where that is the metric's. A metric of which nothing is kept reads no disk. One that was
-    /// drained since the look has moved.
+    /// The values of the buckets that a look found, of the points that were pending then over what
+    /// is kept of the metric: those of its file, read through the patch that is being written where
+    /// that is the metric's. A metric of which nothing is kept reads no disk. One that was drained
+    /// since the look has moved.
     pub fn read(&mut self, looked: &Looked) -> Result<Values, LookFault>
         requires { MayRead (inside_of self.old) looked.now }
         ensures reads { ReadsTo (inside_of self.old) looked.now result }
         ensures same { inside_of self.new ≡ inside_of self.old }
-        ensures frame { ReadsOnly D.Disk self.old.disk self.new.disk (IsErrOf result LookFault.DiskFault) }
+        ensures unread { kept_layout self.old.table looked.now.path ≡ None
+            → self.new.disk ≡ self.old.disk }
+        ensures frame { ReadsOnly D.Disk self.old.disk self.new.disk
+            (IsErrOf result LookFault.DiskFault) }
     {
         let Some(known) = self.table.get(&looked.path) else {
             unreachable!()
@@ -57,10 +62,15 @@ impl<D: Disk> Shard<D> {
         is_kept: bool,
     ) -> Result<Vec<Option<Milli>>, RingFault>
         requires may { MayRead (inside_of self.old) looked.now }
-        requires kept { IsSomeAnd (entry_of self.old.table looked.now.path) (λ known. known.is_kept ≡ is_kept) }
-        ensures shows { IfOk result (λ values. Shows (inside_of self.old) looked.now values.items) }
+        requires kept { IsSomeAnd (entry_of self.old.table looked.now.path)
+            (λ known. known.is_kept ≡ is_kept) }
+        ensures shows { IfOk result
+            (λ values. Shows (inside_of self.old) looked.now values.items) }
+        ensures unread { kept_layout self.old.table looked.now.path ≡ None
+            → self.new.disk ≡ self.old.disk }
         ensures same { inside_of self.new ≡ inside_of self.old }
-        ensures frame { ReadsOnly D.Disk self.old.disk self.new.disk (IsErrOf result RingFault.DiskFault) }
+        ensures frame { ReadsOnly D.Disk self.old.disk self.new.disk
+            (IsErrOf result RingFault.DiskFault) }
     {
         // A path is legal.
         let _ = looked.path.text();
@@ -96,11 +106,17 @@ fn fetch_under<D: Disk>(
     requires layout { patch.now.layout ≡ looked.now.layout }
     requires window { IsWindow looked.now.layout looked.now.window }
     requires moments { All (λ p. is_moment p.0 ≡ true) looked.now.pending }
-    requires file { patch.now.fresh ≡ false → OnFile (D.image disk.old) (file_name_of looked.now.path) (IsRingFile looked.now.layout) }
-    ensures pending { IfOk result (λ values. ShowsPending looked.now.layout looked.now.pending looked.now.window values.items) }
-    ensures told { IfOk result (λ values. UnderPatch patch.now.fresh (D.image disk.old) (file_name_of looked.now.path)
+    requires file { patch.now.fresh ≡ false
+        → OnFile (D.image disk.old) (file_name_of looked.now.path)
+        (IsRingFile looked.now.layout) }
+    ensures pending { IfOk result
+        (λ values. ShowsPending looked.now.layout looked.now.pending looked.now.window
+        values.items) }
+    ensures told { IfOk result
+        (λ values. UnderPatch patch.now.fresh (D.image disk.old) (file_name_of looked.now.path)
         (λ file. (rings : Rings) → ReadsAs patch.now file rings
         → values.items ≡ shown looked.now.layout rings looked.now.pending looked.now.window)) }
+    ensures unread { patch.now.fresh ≡ true → disk.new ≡ disk.old }
     ensures frame { ReadsOnly D.Disk disk.old disk.new (IsErrOf result RingFault.DiskFault) }
 {
     let name = looked.path.file_name()?;

@@ -17,8 +17,8 @@ use schema_rules::Rules;
 use std::alloc::{AllocError, Global};
 use write_shelf::Shelf;
 
-/// One class of metrics over its disk: the points that are pending, which of them go next, what is known of each metric, and the drain
-/// that is being written.
+/// One class of metrics over its disk: the points that are pending, which of them go next, what is
+/// known of each metric, and the drain that is being written.
 #[derive(Drop)]
 pub struct Shard<D: Disk> {
     pub(crate) class: u32,
@@ -47,9 +47,10 @@ impl<D: Disk> Shard<D> {
     ghost use Rattle.shard_core.specs.Started.{StartedFrom};
     ghost use Rattle.shard_core.specs.View.{inside_of};
 
-    /// The shard of a class over its disk, with nothing pending, the rules, how many points may be pending, and the drain order. Each
-    /// file of the class is looked up, and its head is read: a head of zero counts as no file. A file of any other name, or of a path of another
-    /// class, is left alone. The refusal hands the disk back.
+    /// The shard of a class over its disk, with nothing pending, the rules, how many points may be
+    /// pending, and the drain order. Each file of the class is looked up, and its head is read: a
+    /// head of zero counts as no file. A file of any other name, or of a path of another class, is
+    /// left alone. The refusal hands the disk back.
     pub fn start(
         alloc: Global,
         class: u32,

@@ -26,7 +26,8 @@ pub(crate) enum FileHead {
     Faulty,
 }
 
-/// The metrics of a class whose files lie on the disk: each is kept, in the layout of its file. Names that are no file name of a path of the class are left alone.
+/// The metrics of a class whose files lie on the disk: each is kept, in the layout of its file.
+/// Names that are no file name of a path of the class are left alone.
 pub(crate) fn read_table<D: Disk>(
     alloc: Global,
     disk: &mut D,
@@ -65,8 +66,12 @@ fn table_of<D: Disk>(
 ) -> Result<MetricTable, StartFault>
     requires sorted { IsSorted string_cmp names.now }
     ensures opened { IfOk result (IsOpened class) }
-    ensures noted { IfOk result (λ table. IfSome (D.image disk.old) (λ image. Noted class image (map string_bytes names.now) (length names.now) table)) }
-    ensures damaged { IfErr result (λ fault. IfSome (D.image disk.old) (λ image. OnDamaged fault (FirstAmong class image (map string_bytes names.now)))) }
+    ensures noted { IfOk result
+        (λ table. IfSome (D.image disk.old)
+        (λ image. Noted class image (map string_bytes names.now) (length names.now) table)) }
+    ensures damaged { IfErr result
+        (λ fault. IfSome (D.image disk.old)
+        (λ image. OnDamaged fault (FirstAmong class image (map string_bytes names.now)))) }
     ensures kept { D.image disk.new ≡ D.image disk.old }
     ensures later { D.faults disk.old ≤ D.faults disk.new }
     ensures cause { IfErr result
@@ -91,8 +96,14 @@ fn note_file<D: Disk>(
     table: &mut MetricTable,
 ) -> Result<(), StartFault>
     ensures opened { OnOk result (IsOpened class table.old → IsOpened class table.new) }
-    ensures notes { OnOk result (IfSome (D.image disk.old) (λ image. HasFiles class table.old None (Some image) → Notes class image name.now table.old table.new)) }
-    ensures damaged { IfErr result (λ fault. IfSome (D.image disk.old) (λ image. OnDamaged fault (λ told. (told ≡ name.now) × IsDamagedName class image name.now))) }
+    ensures notes { OnOk result
+        (IfSome (D.image disk.old)
+        (λ image. HasFiles class table.old None (Some image)
+        → Notes class image name.now table.old table.new)) }
+    ensures damaged { IfErr result
+        (λ fault. IfSome (D.image disk.old)
+        (λ image. OnDamaged fault
+        (λ told. (told ≡ name.now) × IsDamagedName class image name.now))) }
     ensures kept { D.image disk.new ≡ D.image disk.old }
     ensures later { D.faults disk.old ≤ D.faults disk.new }
     ensures cause { IfErr result
@@ -121,7 +132,8 @@ fn note_head(
     table: &mut MetricTable,
 ) -> Result<(), StartFault>
     ensures notes { OnOk result (NotesHead path head table.old table.new) }
-    ensures damaged { IfErr result (λ fault. OnDamaged fault (λ told. (told ≡ name.now) × IsFaulty head)) }
+    ensures damaged { IfErr result
+        (λ fault. OnDamaged fault (λ told. (told ≡ name.now) × IsFaulty head)) }
     ensures memory { IfErr result (λ fault. IsDiskFault fault → ⊥) }
 {
     match head {

@@ -11,13 +11,15 @@ impl<D: Disk> Shard<D> {
     ghost use Rattle.shard_core.specs.View.{inside_of};
     ghost use Rattle.shard_core.specs.Writes.{OnlyWrites, WritesTo};
 
-    /// Writes the next run of the drain that is being written, in one call of the disk. What the shard says of its metrics stays. After a disk
-    /// fault the run comes again. No memory is taken.
+    /// Writes the next run of the drain that is being written, this and no other, in one call of
+    /// the disk. What the shard says of its metrics stays. After a disk fault any bytes stand where
+    /// the run's were to be written, and the run comes again. No memory is taken.
     pub fn write_next(&mut self) -> Wrote
         ensures writes { WritesTo result (inside_of self.old) (inside_of self.new) }
         ensures stays { Stays (inside_of self.old) (inside_of self.new) }
         ensures others { OnlyWrites (inside_of self.old) (inside_of self.new) }
-        ensures frame { CountsFaults D.Disk self.old.disk self.new.disk (result ≡ Wrote.DiskFault) }
+        ensures frame { CountsFaults D.Disk self.old.disk self.new.disk
+            (result ≡ Wrote.DiskFault) }
     {
         if self.shelf.next_run().is_none() {
             return Wrote::Nothing;

@@ -350,7 +350,7 @@ module _ (table : TableId) (told : ℕ → Option Image) (start : State) (faults
   keeps_write old new failed later pass tail wrote.Nothing keeps writes stays class more rose =
       keeps_still old new failed later tail keeps class (ap (λ (x : Inside). x.shelf) writes.1) (stays (told old.class) (replay start tail.list) keeps.holds) more
   keeps_write old new failed later pass tail wrote.DiskFault keeps writes stays class more rose =
-      keeps_fault old new failed later pass tail keeps class writes.1 (stays (told old.class) (replay start tail.list) keeps.holds) (rose refl)
+      keeps_fault old new failed later pass tail keeps class writes.same (stays (told old.class) (replay start tail.list) keeps.holds) (rose refl)
 
   pub few_runs : (shard : Inside) (failed : ℕ) (tail : TailValue) → KeepsClass table told start faults shard failed tail → tail.runs ≤ 5000000 * drains tail.list
   few_runs shard failed tail keeps = omega (arith, keeps.runs)

@@ -1,5 +1,8 @@
 mod DeskLemmas
 mod ClassLemmas
+mod DrainLemmas
+mod FreshLemmas
 mod LookLemmas
+mod PutLemmas
 mod StartLemmas
 mod CloseLemmas

@@ -1,6 +1,7 @@
 -- What a pass knows of a class once it has looked, and what the answers of a plan and of the write of a run tell.
-use Rattle.std.proofs.Common.{◌≡◌, ◌≢◌, ◌↔◌, ◌⊎◌, inl, inr, ◌∙◌, ℕ, ℤ, ◌<◌, ◌≤◌, ◌+◌, ◌*◌, Bool, true, false, All, List, [], ◌∷◌, ◌++◌, Option, Some, None, IfSome, IsSomeAnd, option_map, refl, sym, ap, subst, arith}
+use Rattle.std.proofs.Common.{◌≡◌, ◌≢◌, ◌↔◌, ◌⊎◌, inl, inr, ◌∙◌, ℕ, ℤ, ◌<◌, ◌≤◌, ◌+◌, ◌*◌, Bool, true, false, All, List, [], ◌∷◌, ◌++◌, length, Option, Some, None, IfSome, IsSomeAnd, option_map, refl, sym, ap, subst, arith}
 use Rattle.std.specs.Prelude.{IsSome}
+use Rattle.std.proofs.lemmas.List.{append_assoc}
 use Rattle.std.proofs.lemmas.Bool.{eq-eqb, false≢true}
 use Rattle.std.proofs.lemmas.Bool.Decides.{eqb_tells}
 use mathlib.Core.List.{IsPrefix}
@@ -80,6 +81,10 @@ told_tail_class tail (Some e) = refl
 pub told_tail_runs : (tail : TailValue) (entry : Option Entry) → (tail_told tail entry).runs ≡ tail.runs
 told_tail_runs tail None = refl
 told_tail_runs tail (Some e) = refl
+
+pub told_tail_settled : (tail : TailValue) (entry : Option Entry) → (tail_told tail entry).settled ≡ tail.settled
+told_tail_settled tail None = refl
+told_tail_settled tail (Some e) = refl
 
 pub wrote_class : (wrote : Wrote) (tail : TailValue) → (tail_wrote wrote tail).class ≡ tail.class
 wrote_class wrote.Run tail = refl
@@ -161,6 +166,8 @@ looks_again tail old pass new same more look class most =
       times = subst (λ (l : Look). (look_at tail.class old.looks).times < l.times) (sym look.here)
           (subst (λ (l : Look). l.times < (look_at tail.class pass.looks).times + 1) before (omega arith));
       list = ap (λ (l : Look). l.list) look.here ∙ (sym class ∙ ap (about_class tail.class) (sym look.seen));
+      grows = subst (λ (l : Look). IsPrefix (look_at tail.class old.looks).list l.list) (sym look.here)
+          (subst (λ (l : Look). IsPrefix l.list tail.list) before more.list);
       settled = subst (λ (l : Look). settled_in tail.class old ≤ l.settled) (sym look.here) (subst (λ (l : Look). l.settled ≤ tail.settled) before more.settled);
       runs = subst (λ (l : Look). runs_in tail.class old ≤ l.runs) (sym look.here) (subst (λ (l : Look). l.runs ≤ tail.runs) before more.runs);
       most = subst (λ (l : Look). l.runs ≤ 5000000 * drains l.list) (sym look.here) most;
@@ -213,8 +220,14 @@ module _ (start : State) (told : Option Image) (shard : Inside) (tail : TailValu
 even_or_more : (settled all : ℕ) → settled ≤ all → all ≤ settled + 1 → (all ≡ settled → ⊥) → all ≡ settled + 1
 even_or_more settled all low high not = omega (arith, low, high, λ (e : all ≡ settled). not e)
 
+some_pending : (fewer : ℕ) (metrics : Metrics) → fewer < length metrics → metrics ≡ [] → ⊥
+some_pending fewer metrics less none = omega (arith, less, ap (λ (ms : Metrics). length ms) none)
+
 flip : {A B : Type 0} → A ↔ B → B ↔ A
 flip f = (f.1, f.0)
+
+fewer_there : (old old' new new' : Metrics) → old ≡ old' → new ≡ new' → length new < length old → length new' < length old'
+fewer_there old old' new new' one other less = omega (arith, ap length one, ap length other, less)
 
 both_ways : {A B C : Type 0} → A ↔ B → B ↔ C → A ↔ C
 both_ways f g = ((λ a. g.0 (f.0 a)), λ c. f.1 (g.1 c))
@@ -247,32 +260,38 @@ module _ (table : TableId) (told : ℕ → Option Image) (start : State) (faults
   -- the tail ended, and what is told, by the answer
   pub after_plan : (shard new : Inside) (failed later now : ℕ) (tail ended : TailValue) (plan : Planned) (old pass pass' : PassValue)
       → KeepsClass table told start faults shard failed tail → KeepsClass table told start faults new later ended → ended.class ≡ tail.class
-      → PlansTo plan shard new now → IsLegalTook plan
+      → about_class ended.class pass.seen ≡ ended.list → PlansTo plan shard new now → IsLegalTook plan
       → Tells start passes tail (plan_entry old.number tail.class now plan) old pass → Looked ended pass pass'
       → AfterPlan start tail.class now plan old pass'
-  after_plan shard new failed later now tail ended (planned.Took path) old pass pass' keeps kept class begins legal tells look =
+  after_plan shard new failed later now tail ended (planned.Took path) old pass pass' keeps kept class part begins legal tells look =
       let here : class_of path ≡ tail.class = begins.here ∙ sym keeps.class in record {
         here = here;
         before = tells.before;
         last = look.seen ∙ (tells.last ∙ ap (λ (n : ℕ). tells.before ++ entry.Drain n path now ∷ []) (sym (look.number ∙ tells.enters.number)));
+        some = λ none. some_pending (length new.cache.metrics) shard.cache.metrics begins.fewer
+            (pending_before start (told shard.class) shard tail tells.before keeps.class keeps.holds tells.class ∙ none);
         either = subst (λ (k : ℕ). IsSettled k pass' ⊎ IsUnderWay k pass') class (either_way new later ended pass pass' new.shelf kept look refl);
+        fewer = subst (λ (k : ℕ). length ((replay start pass'.seen).pending k) < length ((replay start tells.before).pending tail.class)) class
+            (fewer_there shard.cache.metrics ((replay start tells.before).pending tail.class) new.cache.metrics ((replay start pass'.seen).pending ended.class)
+            (pending_before start (told shard.class) shard tail tells.before keeps.class keeps.holds tells.class)
+            (pending_before start (told new.class) new ended pass'.seen kept.class kept.holds (ap (about_class ended.class) look.seen ∙ part)) begins.fewer);
         nothing = both_ways (flip (subst (λ (k : ℕ). (new.shelf ≡ None) ↔ IsSettled k pass') class (settled_where new later ended pass pass' kept look)))
             (both_ways begins.nothing (nothing_before start (told shard.class) shard tail tells.before keeps.class keeps.holds tells.class path now legal here));
       }
-  after_plan shard new failed later now tail ended planned.Busy old pass pass' keeps kept class plans legal tells look =
+  after_plan shard new failed later now tail ended planned.Busy old pass pass' keeps kept class part plans legal tells look =
       subst (λ (k : ℕ). IsUnderWay k pass') class (under_way_where new later ended pass pass' kept look (subst (λ (x : Inside). IsSome x.shelf) (sym plans.1) plans.0))
-  after_plan shard new failed later now tail ended planned.Idle old pass pass' keeps kept class plans legal tells look = record {
+  after_plan shard new failed later now tail ended planned.Idle old pass pass' keeps kept class part plans legal tells look = record {
     settled = subst (λ (k : ℕ). IsSettled k pass') class ((settled_where new later ended pass pass' kept look).0 (ap (λ (x : Inside). x.shelf) plans.1.1 ∙ plans.0));
     none = sym (pending_before start (told shard.class) shard tail pass'.seen keeps.class keeps.holds (ap (about_class tail.class) look.seen ∙ tells.class)) ∙ plans.1.0;
     seen = subst (λ (n : ℕ). old.sights < n) (sym look.sights) tells.sights;
   }
-  after_plan shard new failed later now tail ended planned.DiskFault old pass pass' keeps kept class refuses legal tells look = record {
+  after_plan shard new failed later now tail ended planned.DiskFault old pass pass' keeps kept class part refuses legal tells look = record {
     settled = subst (λ (k : ℕ). IsSettled k pass') class ((settled_where new later ended pass pass' kept look).0 (refuses.shelf ∙ refuses.empty));
     before = tells.before;
     last = look.seen ∙ (tells.last ∙ ap (λ (n : ℕ). tells.before ++ entry.Fault n tail.class ∷ []) (sym (look.number ∙ tells.enters.number)));
     some = λ none. refuses.some (pending_before start (told shard.class) shard tail tells.before keeps.class keeps.holds tells.class ∙ none);
   }
-  after_plan shard new failed later now tail ended planned.NoMemory old pass pass' keeps kept class refuses legal tells look =
+  after_plan shard new failed later now tail ended planned.NoMemory old pass pass' keeps kept class part refuses legal tells look =
       subst (λ (k : ℕ). IsSettled k pass') class ((settled_where new later ended pass pass' kept look).0 (refuses.shelf ∙ refuses.empty))
 
   -- ---- after the write of a run
@@ -286,25 +305,38 @@ module _ (table : TableId) (told : ℕ → Option Image) (start : State) (faults
       more_runs (runs_in tail.class old) tail.runs (runs_in tail.class pass') first.runs
       (subst (λ (k : ℕ). runs_in k pass' ≡ ended.runs) class (ap (λ (l : Look). l.runs) look.here) ∙ one)
 
+  settled_rose : (tail ended : TailValue) (old pass pass' : PassValue) → IsNoMore (look_at tail.class old.looks) tail → ended.class ≡ tail.class
+      → ended.settled ≡ tail.settled + 1 → Looked ended pass pass' → settled_in tail.class old < settled_in tail.class pass'
+  settled_rose tail ended old pass pass' first class one look =
+      more_runs (settled_in tail.class old) tail.settled (settled_in tail.class pass') first.settled
+      (subst (λ (k : ℕ). settled_in k pass' ≡ ended.settled) class (ap (λ (l : Look). l.settled) look.here) ∙ one)
+
   pub after_write : (shard new : Inside) (later : ℕ) (tail ended : TailValue) (wrote : Wrote) (old pass pass' : PassValue)
       → KeepsClass table told start faults new later ended → ended.class ≡ tail.class
-      → ended.runs ≡ (tail_wrote wrote tail).runs → WritesTo wrote shard new
+      → ended.runs ≡ (tail_wrote wrote tail).runs → ended.settled ≡ (tail_wrote wrote tail).settled → WritesTo wrote shard new
       → IsNoMore (look_at tail.class old.looks) tail → Looked ended pass pass'
       → AfterWrite tail.class wrote old pass'
-  after_write shard new later tail ended wrote.Run old pass pass' kept class runs writes first look = (
+  after_write shard new later tail ended wrote.Run old pass pass' kept class runs settled writes first look = (
     subst (λ (k : ℕ). IsUnderWay k pass') class (under_way_where new later ended pass pass' kept look writes.1),
     runs_rose tail ended old pass pass' first class runs look,
   )
-  after_write shard new later tail ended wrote.Finished old pass pass' kept class runs writes first look = (
+  after_write shard new later tail ended wrote.Finished old pass pass' kept class runs settled writes first look = (
     subst (λ (k : ℕ). IsSettled k pass') class ((settled_where new later ended pass pass' kept look).0 writes.1),
-    runs_rose tail ended old pass pass' first class runs look,
+    record {
+      runs = runs_rose tail ended old pass pass' first class runs look;
+      settled = settled_rose tail ended old pass pass' first class settled look;
+    },
   )
-  after_write shard new later tail ended wrote.Nothing old pass pass' kept class runs writes first look =
+  after_write shard new later tail ended wrote.Nothing old pass pass' kept class runs settled writes first look =
       subst (λ (k : ℕ). IsSettled k pass') class ((settled_where new later ended pass pass' kept look).0 (ap (λ (x : Inside). x.shelf) writes.1 ∙ writes.0))
-  after_write shard new later tail ended wrote.DiskFault old pass pass' kept class runs writes first look =
-      subst (λ (k : ℕ). IsUnderWay k pass') class (under_way_where new later ended pass pass' kept look (subst IsSome (sym writes.1) writes.0))
+  after_write shard new later tail ended wrote.DiskFault old pass pass' kept class runs settled writes first look =
+      subst (λ (k : ℕ). IsUnderWay k pass') class (under_way_where new later ended pass pass' kept look (subst IsSome (sym writes.same) writes.some))
 
 -- ---- a look before, a call, and a look after
+
+pub prefix_both : (xs ys zs : List Entry) → IsPrefix xs ys → IsPrefix ys zs → IsPrefix xs zs
+prefix_both xs ys zs first next =
+    (first.0 ++ next.0, sym (append_assoc xs first.0 next.0) ∙ (ap (λ (l : List Entry). l ++ next.0) first.1 ∙ next.1))
 
 pub looks_behind : (tail : TailValue) (class : ℕ) (old pass new : PassValue) → tail.class ≡ class → IsNoMore (look_at tail.class old.looks) tail
     → Looked tail old pass → LooksAgain class pass new → LooksAgain tail.class old new
@@ -313,6 +345,8 @@ looks_behind tail class old pass new is more look again =
     let here : (look_at tail.class pass.looks) ≡ look_now tail old = look.here in record {
       times = omega (arith, next.times, ap (λ (l : Look). l.times) here);
       list = next.list;
+      grows = prefix_both (look_at tail.class old.looks).list tail.list (look_at tail.class new.looks).list more.list
+          (subst (λ (l : Look). IsPrefix l.list (look_at tail.class new.looks).list) here next.grows);
       settled = omega (arith, next.settled, more.settled, ap (λ (l : Look). l.settled) here);
       runs = omega (arith, next.runs, more.runs, ap (λ (l : Look). l.runs) here);
       most = next.most;

@@ -6,3 +6,4 @@ pub mod Tails
 pub mod Desks
 pub mod Starts
 pub mod Closes
+pub mod Drains

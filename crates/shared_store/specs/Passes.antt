@@ -5,6 +5,7 @@ use Rattle.carbon_history.specs.declared.entry.Entry.{Entry}
 use Rattle.carbon_history.specs.Entries.{NamesPasses, about_class, drains}
 use Rattle.shared_history.specs.Parts.{PassValue, TailValue, own_entries}
 use Rattle.shared_history.specs.Views.{look_at}
+use Rattle.shared_history.specs.declared.view.Look.{Look}
 use Rattle.carbon_model.specs.State.{State}
 use Rattle.carbon_model.specs.Replay.{IsLegalHistory}
 
@@ -50,10 +51,23 @@ IsUnderWay class pass = planned_in class pass ≡ settled_in class pass + 1
 pub record LooksAgain (class : ℕ) (old new : PassValue) : Type 0 where
   pub times : (look_at class old.looks).times < (look_at class new.looks).times
   pub list : (look_at class new.looks).list ≡ about_class class new.seen
+  pub grows : IsPrefix (look_at class old.looks).list (look_at class new.looks).list
   pub settled : settled_in class old ≤ settled_in class new
   pub runs : runs_in class old ≤ runs_in class new
   pub most : runs_in class new ≤ 5000000 * planned_in class new
   pub others : (other : ℕ) → other ≢ class → look_at other new.looks ≡ look_at other old.looks
+  pub sights : old.sights ≤ new.sights
+
+-- a look at a class is no less than an earlier one
+pub record IsNoLess (before now : Look) : Type 0 where
+  pub list : IsPrefix before.list now.list
+  pub settled : before.settled ≤ now.settled
+  pub runs : before.runs ≤ now.runs
+  pub times : before.times ≤ now.times
+
+-- its looks at all classes are no less than they were
+pub record LooksOn (old new : PassValue) : Type 0 where
+  pub classes : (class : ℕ) → IsNoLess (look_at class old.looks) (look_at class new.looks)
   pub sights : old.sights ≤ new.sights
 
 -- ---- inside a call

@@ -1,5 +1,5 @@
 -- What the answers of the calls of a store tell.
-use Rattle.std.specs.Prelude.{◌≡◌, ◌≢◌, ◌↔◌, ◌⊎◌, ◌<◌, ℕ, ℤ, List, [], ◌∷◌, ◌++◌, All, Option, Some, None, IsSomeAnd}
+use Rattle.std.specs.Prelude.{◌≡◌, ◌≢◌, ◌↔◌, ◌⊎◌, ◌<◌, ℕ, ℤ, List, [], ◌∷◌, ◌++◌, All, length, Option, Some, None, IsSomeAnd}
 use Rattle.carbon_history.specs.declared.entry.Entry.{Entry}
 use Rattle.carbon_history.specs.declared.entry.Entry.TheVariants as entry
 use Rattle.carbon_history.specs.declared.entry.PutEnd.TheVariants as end
@@ -8,7 +8,7 @@ use Rattle.point_cache.specs.declared.put.Put.{Put}
 use Rattle.point_cache.specs.declared.put.Put.TheVariants as put
 use Rattle.archive_update.specs.Batch.{home_of}
 use Rattle.carbon_model.specs.State.{State, points_in}
-use Rattle.carbon_model.specs.Replay.{replay}
+use Rattle.carbon_model.specs.Replay.{IsLegal, replay}
 use Rattle.shard_core.specs.declared.planned.Planned.{Planned}
 use Rattle.shard_core.specs.declared.planned.Planned.TheVariants as planned
 use Rattle.shard_core.specs.declared.planned.Wrote.{Wrote}
@@ -16,7 +16,7 @@ use Rattle.shard_core.specs.declared.planned.Wrote.TheVariants as wrote
 use Rattle.shared_history.specs.Parts.{PassValue}
 use Rattle.shared_store.specs.declared.step.Step.{Step}
 use Rattle.shared_store.specs.declared.step.Step.TheVariants as step
-use Rattle.shared_store.specs.Passes.{Enters, IsSettled, IsUnderWay, runs_in}
+use Rattle.shared_store.specs.Passes.{Enters, IsSettled, IsUnderWay, runs_in, settled_in}
 
 -- the entry of a put, with its outcome, unless there was no memory
 abbrev pub put_entry : ℕ → List ℕ → ℕ → ℤ → Put → Option Entry
@@ -40,6 +40,13 @@ write_entry pass class wrote.Finished = None
 write_entry pass class wrote.Nothing = None
 write_entry pass class wrote.DiskFault = Some (entry.Fault pass class)
 
+-- want of memory comes only where the point would have been stored, after all that the pass sees
+abbrev pub AfterPut : State → List ℕ → ℕ → ℤ → Put → PassValue → Type 0
+AfterPut start path time value put.Stored new = Unit {0}
+AfterPut start path time value put.Replaced new = Unit {0}
+AfterPut start path time value put.Full new = Unit {0}
+AfterPut start path time value put.NoMemory new = IsLegal (replay start new.seen) (entry.Put new.number path time value end.Stored)
+
 -- ---- drains
 
 -- a drain of the metric has nothing to write: something is kept of it, and each of its pending points is older than all that its archives reach back
@@ -47,13 +54,16 @@ abbrev pub NeedsNoWrite : State → List ℕ → ℕ → Type 0
 NeedsNoWrite s path now =
     IsSomeAnd (s.kept path) (λ kept. All (λ p. home_of kept.layout.archives now p.0 ≡ None) (points_in s path))
 
--- The metric of the class was drained as the last entry that the pass sees. The drain is settled at once exactly where it has nothing to write.
+-- The metric of the class, of which something was pending, was drained as the last entry that the pass sees, and fewer are pending since. The drain
+-- is settled at once exactly where it has nothing to write.
 pub record TookMetric (start : State) (class now : ℕ) (path : List ℕ) (new : PassValue) : Type 0 where
   pub here : class_of path ≡ class
   pub before : List Entry
   pub last : new.seen ≡ before ++ entry.Drain new.number path now ∷ []
+  pub some : (replay start before).pending class ≢ []
   pub either : IsSettled class new ⊎ IsUnderWay class new
   pub nothing : IsSettled class new ↔ NeedsNoWrite (replay start before) path now
+  pub fewer : length ((replay start new.seen).pending class) < length ((replay start before).pending class)
 
 -- The disk failed, as the last entry that the pass sees, when something of the class was pending and no drain under way.
 pub record FailedPlan (start : State) (class : ℕ) (new : PassValue) : Type 0 where
@@ -76,10 +86,15 @@ AfterPlan start class now planned.Idle old new = WasIdle start class old new
 AfterPlan start class now planned.DiskFault old new = FailedPlan start class new
 AfterPlan start class now planned.NoMemory old new = IsSettled class new
 
+-- the last run of a drain was written: of runs and of settled drains there are more than the pass had seen
+pub record FinishedDrain (class : ℕ) (old new : PassValue) : Type 0 where
+  pub runs : runs_in class old < runs_in class new
+  pub settled : settled_in class old < settled_in class new
+
 -- what the answer of the write of a run tells
 abbrev pub AfterWrite : ℕ → Wrote → PassValue → PassValue → Type 0
 AfterWrite class wrote.Run old new = IsUnderWay class new × (runs_in class old < runs_in class new)
-AfterWrite class wrote.Finished old new = IsSettled class new × (runs_in class old < runs_in class new)
+AfterWrite class wrote.Finished old new = IsSettled class new × FinishedDrain class old new
 AfterWrite class wrote.Nothing old new = IsSettled class new
 AfterWrite class wrote.DiskFault old new = IsUnderWay class new
 

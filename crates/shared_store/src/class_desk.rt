@@ -42,7 +42,7 @@ impl<D: Disk, N: Named> ClassDesk<D, N> {
     ghost use Rattle.metric_path.specs.Class.{class_of};
     ghost use Rattle.carbon_history.specs.Entries.{listed};
     ghost use Rattle.shared_store.specs.Passes.{Enters, HasRoom, LooksAgain, SameLooks};
-    ghost use Rattle.shared_store.specs.Steps.{AfterPlan, AfterWrite, StepsTo, plan_entry, put_entry, write_entry};
+    ghost use Rattle.shared_store.specs.Steps.{AfterPlan, AfterPut, AfterWrite, StepsTo, plan_entry, put_entry, write_entry};
 
     /// The class.
     pub(crate) fn class(&self) -> u32
@@ -65,6 +65,7 @@ impl<D: Disk, N: Named> ClassDesk<D, N> {
         ensures enters { Enters N.start N.passes
             (listed (put_entry pass.old.number datum.now.path datum.now.time datum.now.value result))
             pass.old pass.new }
+        ensures after { AfterPut N.start datum.now.path datum.now.time datum.now.value result pass.new }
         ensures looks { SameLooks pass.old pass.new }
         ensures class { self.new.class ≡ self.old.class }
     {

@@ -8,6 +8,7 @@ use crate::named::Named;
 use crate::order_desk::OrderDesk;
 use crate::store::Store;
 use crate::tally::Tally;
+use metric_path::CLASSES;
 use outside_io::Disk;
 use shared_history::{History, Pass, Tail, close, mark};
 use std::sync::{Mutex, Wait};
@@ -102,7 +103,7 @@ fn end_classes<D: Disk + Drop, N: Named>(
     let mut desks = desks;
     let mut ends = ends;
     desks.reverse();
-    for class in 0..16 {
+    for class in 0..CLASSES {
         let Some(desk) = desks.pop() else {
             unreachable!()
         };

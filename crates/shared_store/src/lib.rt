@@ -4,7 +4,10 @@
 
 mod class_desk;
 mod close;
+mod drain_end;
+mod draining;
 mod events;
+mod laws;
 mod named;
 mod order_desk;
 mod runs;
@@ -14,6 +17,8 @@ mod store;
 mod tally;
 
 pub use close::Closed;
+pub use drain_end::DrainEnd;
+pub use laws::a_started_shard_is_fresh;
 pub use named::Named;
 pub use start::Parts;
 pub use step::Step;

@@ -25,12 +25,13 @@ impl<N: Named> Model for OrderDesk<N> {
 }
 
 impl<N: Named> OrderDesk<N> {
-    ghost use Rattle.std.specs.Prelude.{◌≡◌, IfSome, option_map};
+    ghost use Rattle.std.specs.Prelude.{◌≡◌, IfSome, [], option_map};
     ghost use Rattle.carbon_model.specs.Replay.{IsLegal, replay};
     ghost use Rattle.shared_history.specs.Events.{MayEnter, entry_by};
     ghost use Rattle.shared_history.specs.Parts.{tail_with};
-    ghost use Rattle.shared_store.specs.Passes.{EntersLast, SeesAll};
+    ghost use Rattle.shared_store.specs.Passes.{Enters, EntersLast, SameLooks, SeesAll};
     ghost use Rattle.shared_store.specs.Tails.{MayTell, Tells, tail_told};
+    ghost use Rattle.shared_store.specs.Tallies.{tally_of};
 
     #[tactic(auto, using(crate::proofs::DeskLemmas::legal_entry, crate::proofs::DeskLemmas::tally_more))]
     /// Enters what the pass did in a class, as it may be done in the state after the entries of the tail.
@@ -71,5 +72,16 @@ impl<N: Named> OrderDesk<N> {
             Some(event) => self.enter(pass, tail, &event),
             None => self.see(pass, tail),
         }
+    }
+
+    /// The counts of all entries, which the pass sees.
+    pub(crate) fn tally(&mut self, pass: &mut Pass) -> Tally
+        requires one { pass.old.table ≡ N.table }
+        ensures counts { result ≡ tally_of pass.new.seen }
+        ensures enters { Enters N.start N.passes [] pass.old pass.new }
+        ensures looks { SameLooks pass.old pass.new }
+    {
+        see(&mut self.order, pass);
+        self.tally
     }
 }

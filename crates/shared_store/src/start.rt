@@ -8,6 +8,7 @@ use crate::named::Named;
 use crate::order_desk::OrderDesk;
 use crate::store::Store;
 use crate::tally::Tally;
+use metric_path::CLASSES;
 use outside_io::Disk;
 use shard_core::Shard;
 use shared_history::{Order, Tail};
@@ -42,9 +43,9 @@ struct Room<D: Disk, N: Named> {
 
 fn make_room<D: Disk + Drop, N: Named>(alloc: Global) -> Result<Room<D, N>, AllocError> {
     Ok(Room {
-        classes: Vec::with_capacity(alloc, 16)?,
-        disks: Vec::with_capacity(alloc, 16)?,
-        tails: Vec::with_capacity(alloc, 16)?,
+        classes: Vec::with_capacity(alloc, CLASSES as usize)?,
+        disks: Vec::with_capacity(alloc, CLASSES as usize)?,
+        tails: Vec::with_capacity(alloc, CLASSES as usize)?,
     })
 }
 
@@ -74,7 +75,7 @@ fn open_classes<D: Disk + Drop, N: Named>(
     let mut classes = classes;
     let mut tails = tails;
     let mut shards = shards;
-    for _k in 0..16u32 {
+    for _k in 0..CLASSES {
         let Some(tail) = tails.pop() else {
             unreachable!()
         };

@@ -5,6 +5,7 @@ use crate::class_desk::ClassDesk;
 use crate::named::Named;
 use crate::order_desk::OrderDesk;
 use crate::step::Step;
+use crate::tally::Tally;
 use metric_line::Datum;
 use outside_io::Disk;
 use point_cache::Put;
@@ -29,14 +30,19 @@ pub struct Store<D: Disk, N: Named> {
 }
 
 impl<D: Disk, N: Named> Store<D, N> {
-    ghost use Rattle.std.specs.Prelude.{◌≡◌, ◌<◌};
+    ghost use Rattle.std.specs.Prelude.{◌≡◌, ◌<◌, []};
     ghost use Rattle.std.specs.Sync.Mutex.{mutex_guard_value};
     ghost use Rattle.carbon_history.specs.Entries.{listed};
     ghost use Rattle.shared_store.specs.Passes.{Enters, HasRoom, LooksAgain, SameLooks};
-    ghost use Rattle.shared_store.specs.Steps.{AfterPlan, AfterWrite, StepsTo, plan_entry, put_entry, write_entry};
+    ghost use Rattle.shared_store.specs.Steps.{AfterPlan, AfterPut, AfterWrite, StepsTo, plan_entry, put_entry, write_entry};
+    ghost use Rattle.shared_store.specs.Tallies.{tally_of};
 
     // The lock of a class.
-    fn lock_class<'a>(&'a self, rt: &impl Wait, class: u32) -> MutexGuard<'a, ClassDesk<D, N>>
+    pub(crate) fn lock_class<'a>(
+        &'a self,
+        rt: &impl Wait,
+        class: u32,
+    ) -> MutexGuard<'a, ClassDesk<D, N>>
         requires { class < 16 }
         ensures { (mutex_guard_value result).class ≡ class }
     {
@@ -56,6 +62,7 @@ impl<D: Disk, N: Named> Store<D, N> {
         ensures enters { Enters N.start N.passes
             (listed (put_entry pass.old.number datum.now.path datum.now.time datum.now.value result))
             pass.old pass.new }
+        ensures after { AfterPut N.start datum.now.path datum.now.time datum.now.value result pass.new }
         ensures looks { SameLooks pass.old pass.new }
     {
         let mut desk = self.lock_class(rt, datum.path.class());
@@ -101,5 +108,15 @@ impl<D: Disk, N: Named> Store<D, N> {
     {
         let mut desk = self.lock_class(rt, class);
         desk.step(rt, &self.order, pass, now)
+    }
+
+    /// The counts of all entries of the history so far, which the pass sees.
+    pub fn tally(&self, rt: &impl Wait, pass: &mut Pass) -> Tally
+        requires one { pass.old.table ≡ N.table }
+        ensures counts { result ≡ tally_of pass.new.seen }
+        ensures enters { Enters N.start N.passes [] pass.old pass.new }
+        ensures looks { SameLooks pass.old pass.new }
+    {
+        self.order.lock(rt).tally(pass)
     }
 }

@@ -19,8 +19,3 @@ pub use opening::Refusal;
 pub use setup::Setup;
 pub use shard::Shard;
 pub use shards::{CLASSES, Shards};
-
-#[cfg(test)]
-mod drain_tests;
-#[cfg(test)]
-mod tests;

@@ -3,7 +3,9 @@ use Rattle.std.specs.Prelude.{not}
 use Rattle.metric_path.specs.Path.{path_fault}
 use Rattle.carbon_model.specs.RingFiles.{IsOfClass}
 use Rattle.shard_core.specs.View.{inside_of}
-use Rattle.shard_core.proofs.ReadLemmas.{fetched_beside, fetched_through}
+use Rattle.ring_format.specs.Patch.{PatchValue}
+use Rattle.metric_index.specs.Index.{entry_of}
+use Rattle.shard_core.proofs.ReadLemmas.{fetched_beside, fetched_through, shelved_is_kept, unkept_is_fresh}
 use Rattle.shard_core.proofs.ReadingLemmas.{if_ok_both, no_cells}
 use Rattle.shard_core.proofs.shard.Shard.fetch_looked.Goals as goal
 
@@ -18,3 +20,11 @@ returns-in_ok-path-in-None-clause-shows g c =
     let one : IsOfClass c.args.self.now.class c.args.looked.now.path = record { legal = subst (λ (text : List ℕ). path_fault text ≡ None) c.text.ensures.value c.text.ensures.legal; here = c.requires.may.here } in
     if_ok_both c.fetch_under-in-None.result _ _ _ c.fetch_under-in-None.ensures.pending c.fetch_under-in-None.ensures.told (λ values pending told.
     fetched_beside (inside_of c.args.self.now) c.args.looked.now values.items c.args.is_kept _ c.in-None.ensures one c.requires.may c.requires.kept (c.new-patch.ensures ∙ ap (λ (path : List ℕ). no_cells path c.args.looked.now.layout (not c.args.is_kept)) c.in_ok-path-in-None.ensures) pending told)
+
+pub returns-in-Some-clause-unread : goal.returns-in-Some-clause-unread
+returns-in-Some-clause-unread g c = λ none.
+    absurd (shelved_is_kept (inside_of c.args.self.now) c.args.looked.now c.in-Some.patch.now c.in-Some.ensures c.args.self.now.writing none)
+
+pub returns-in_ok-path-in-None-clause-unread : goal.returns-in_ok-path-in-None-clause-unread
+returns-in_ok-path-in-None-clause-unread g c = λ none. c.fetch_under-in-None.ensures.unread
+    (ap (λ (patch : PatchValue). patch.fresh) c.new-patch.ensures ∙ unkept_is_fresh (entry_of c.args.self.now.table c.args.looked.now.path) c.args.is_kept c.requires.kept none)

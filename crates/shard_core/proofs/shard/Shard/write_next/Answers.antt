@@ -1,7 +1,7 @@
-use Rattle.std.proofs.Common.{rules, ◌∙◌, ap, sym, Some, option_map, string_bytes}
+use Rattle.std.proofs.Common.{rules, ◌≡◌, ◌∙◌, ap, sym, None, Some, option_map, refl, string_bytes}
 use Rattle.std.specs.Prelude.{IsSome}
 use Rattle.shard_core.specs.View.{inside_of}
-use Rattle.shard_core.proofs.WriteLemmas.{run_failed, run_written, stays_kept, still_named}
+use Rattle.shard_core.proofs.WriteLemmas.{run_failed, run_written, stays_kept, still_named, torn_there, written_there}
 use Rattle.shard_core.proofs.shard.Shard.write_next.Goals as goal
 
 pub invariant_of-self-in-Err-clause-files : goal.invariant_of-self-in-Err-clause-files
@@ -65,3 +65,39 @@ pub invariant_of-self-then-is_some-clause-named : goal.invariant_of-self-then-is
 invariant_of-self-then-is_some-clause-named g c =
     let some : IsSome c.mark_written.new.self = search rules in
     still_named c.args.self.now.shelf c.mark_written.new.self (option_map string_bytes c.args.self.now.name) c.args.self.now.named c.mark_written.ensures some
+
+pub returns-in-Err-clause-writes : goal.returns-in-Err-clause-writes
+returns-in-Err-clause-writes g c =
+    let some : IsSome c.args.self.now.shelf = search rules in
+    record {
+      some = some;
+      same = refl;
+      torn = torn_there c.args.self.now.shelf c.deref.result.now (g.D.Disk.image c.args.self.now.disk) (g.D.Disk.image c.write_run.new.disk)
+          (ap Some c.deref.ensures ∙ sym (ap (option_map string_bytes) c.in-Some.is) ∙ c.args.self.now.named) c.in-Err.ensures.err;
+    }
+
+pub returns-then-is_some-clause-writes : goal.returns-then-is_some-clause-writes
+returns-then-is_some-clause-writes g c =
+    let some : IsSome c.args.self.now.shelf = search rules in
+    let more : IsSome c.mark_written.new.self = search rules in (
+      record {
+        some = some;
+        marked = c.mark_written.ensures;
+        written = written_there c.args.self.now.shelf c.deref.result.now (g.D.Disk.image c.args.self.now.disk) (g.D.Disk.image c.write_run.new.disk)
+            (ap Some c.deref.ensures ∙ sym (ap (option_map string_bytes) c.in-Some.is) ∙ c.args.self.now.named) c.in-Ok.ensures.ok;
+      },
+      more,
+    )
+
+pub returns-clause-writes : goal.returns-clause-writes
+returns-clause-writes g c =
+    let some : IsSome c.args.self.now.shelf = search rules in
+    let none : c.mark_written.new.self ≡ None = search rules in (
+      record {
+        some = some;
+        marked = c.mark_written.ensures;
+        written = written_there c.args.self.now.shelf c.deref.result.now (g.D.Disk.image c.args.self.now.disk) (g.D.Disk.image c.write_run.new.disk)
+            (ap Some c.deref.ensures ∙ sym (ap (option_map string_bytes) c.in-Some.is) ∙ c.args.self.now.named) c.in-Ok.ensures.ok;
+      },
+      none,
+    )

@@ -83,9 +83,14 @@ returns-clause-after g c =
     let tells : Tells n.start n.passes tail (plan_entry pass.number tail.class c.args.now plan) pass c.tell.new.pass =
     subst (λ (o : Option Entry). Tells n.start n.passes tail o pass c.tell.new.pass) event c.tell.ensures.tells in
     let look = looked ended c.tell.new.pass c.mark.new.pass c.mark.ensures.pass in
+    let sees : about_class tail.class c.tell.new.pass.seen ≡ ended.list =
+    told_class n.start n.passes tail (plan_entry pass.number tail.class c.args.now plan) pass c.tell.new.pass
+    (plan_may n.table n.told n.start n.faults (inside_of old) (inside_of new) (g.D.Disk.faults old.disk) c.args.now tail pass
+    plan c.self.invariant c.requires.room c.plan-planned.ensures.plans) tells
+    ∙ sym (ap (λ (t : TailValue). t.list) begun ∙ begun_list plan (is_some new.shelf) (tail_told tail (plan_entry pass.number tail.class c.args.now plan))) in
     subst (λ (k : ℕ). AfterPlan n.start k c.args.now plan pass c.mark.new.pass) here
     (after_plan n.table n.told n.start n.faults n.passes (inside_of old) (inside_of new) (g.D.Disk.faults old.disk) (g.D.Disk.faults new.disk) c.args.now tail ended
-    plan pass c.tell.new.pass c.mark.new.pass c.self.invariant kept class c.plan-planned.ensures.plans c.plan_event-event.ensures.legal tells look)
+    plan pass c.tell.new.pass c.mark.new.pass c.self.invariant kept class (subst (λ (k : ℕ). about_class k c.tell.new.pass.seen ≡ ended.list) (sym class) sees) c.plan-planned.ensures.plans c.plan_event-event.ensures.legal tells look)
 
 pub returns-clause-looks : goal.returns-clause-looks
 returns-clause-looks g c =

@@ -9,6 +9,7 @@ use Rattle.shared_store.specs.Tails.{MayTell, Tells, tail_told}
 use Rattle.shared_store.proofs.class_desk.ClassDesk.put.Goals as goal
 use Rattle.shared_store.proofs.ClassLemmas.{keeps_put, le_same, put_may}
 use Rattle.shared_store.proofs.LookLemmas.{told_enters}
+use Rattle.shared_store.proofs.PutLemmas.{after_put}
 
 pub tell-requires-clause-may : goal.tell-requires-clause-may
 tell-requires-clause-may g c =
@@ -42,4 +43,17 @@ returns-clause-enters g c =
     let pass = c.args.pass.now in
     let datum = c.args.datum.now in
     told_enters n.start n.passes tail (put_entry pass.number datum.path datum.time datum.value c.put-put.result) pass c.tell.new.pass
+    (subst (λ (o : Option Entry). Tells n.start n.passes tail o pass c.tell.new.pass) (c.put_event-event.ensures pass.number tail.class) c.tell.ensures.tells)
+
+pub returns-clause-after : goal.returns-clause-after
+returns-clause-after g c =
+    let n = g.N.Named in
+    let tail = c.self.inside.tail in
+    let pass = c.args.pass.now in
+    let datum = c.args.datum.now in
+    let old = c.self.inside.shard in
+    let new = c.put-put.new.self in
+    let here : class_of datum.path ≡ tail.class = search rules in
+    after_put n.table n.told n.start n.faults n.passes (inside_of old) (inside_of new) (g.D.Disk.faults old.disk) tail
+    datum.path datum.time datum.value c.put-put.result pass c.tell.new.pass c.self.invariant here c.put-put.ensures.put
     (subst (λ (o : Option Entry). Tells n.start n.passes tail o pass c.tell.new.pass) (c.put_event-event.ensures pass.number tail.class) c.tell.ensures.tells)

@@ -9,7 +9,7 @@ use Rattle.shared_store.specs.Steps.{AfterWrite, write_entry}
 use Rattle.shared_store.specs.Tails.{MayTell, Tells, tail_told, tail_wrote}
 use Rattle.shared_store.proofs.class_desk.ClassDesk.write.Goals as goal
 use Rattle.shared_store.proofs.ClassLemmas.{few_runs, keeps_write, write_may}
-use Rattle.shared_store.proofs.LookLemmas.{after_write, looked, looks_again, looks_behind, told_class, told_same, told_tail_class, told_tail_runs, wrote_class}
+use Rattle.shared_store.proofs.LookLemmas.{after_write, looked, looks_again, looks_behind, told_class, told_same, told_tail_class, told_tail_runs, told_tail_settled, wrote_class}
 
 pub tell-requires-clause-may : goal.tell-requires-clause-may
 tell-requires-clause-may g c =
@@ -75,9 +75,10 @@ returns-clause-after g c =
     c.write_next-wrote.ensures.frame.later c.write_next-wrote.ensures.frame.cause) in
     let look = looked ended c.tell.new.pass c.mark-2.new.pass c.mark-2.ensures.pass in
     let runs : ended.runs ≡ (tail_wrote wrote first).runs = ap (λ (t : TailValue). t.runs) told ∙ (told_tail_runs tail (write_entry pass.number tail.class wrote) ∙ ap (λ (t : TailValue). t.runs) one) in
+    let settled : ended.settled ≡ (tail_wrote wrote first).settled = ap (λ (t : TailValue). t.settled) told ∙ (told_tail_settled tail (write_entry pass.number tail.class wrote) ∙ ap (λ (t : TailValue). t.settled) one) in
     subst (λ (k : ℕ). AfterWrite k wrote begin c.mark-2.new.pass) here
     (after_write n.table n.told n.start n.faults n.passes (inside_of old) (inside_of new) (g.D.Disk.faults new.disk) first ended wrote begin c.tell.new.pass c.mark-2.new.pass
-    kept class runs c.write_next-wrote.ensures.writes c.mark.ensures.later look)
+    kept class runs settled c.write_next-wrote.ensures.writes c.mark.ensures.later look)
 
 pub returns-clause-looks : goal.returns-clause-looks
 returns-clause-looks g c =

@@ -1,11 +1,9 @@
-// Shards over disks in memory.
+// Starts of shards over disks in memory.
 ghost use Rattle.std.specs.Prelude.{◌≡◌, None};
-ghost use Rattle.metric_path.specs.Class.{class_of};
 
 use super::*;
 use drain_order::Strategy;
-use metric_path::MetricPath;
-use outside_io::{Disk, MemDisk};
+use outside_io::{Disk, DiskFailed, MemDisk, NamesFault};
 use schema_rules::{RuleFault, Rules};
 use std::alloc::{AllocError, Global};
 use std::test::Fail;
@@ -55,23 +53,12 @@ fn no_rules(alloc: Global) -> Result<Rules, RuleFault> {
     Rules::read(alloc, b"", b"")
 }
 
-// So many points, drained in order of arrival.
-pub(crate) fn setup(rules: Rules) -> Setup {
-    Setup {
-        rules,
-        limit: LIMIT,
-        strategy: Strategy::Naive,
-    }
-}
-
-// What the start of class 12 finds of a path on a disk.
-fn found(alloc: Global, disk: MemDisk, rules: Rules, path: &MetricPath) -> &'static str
-    requires { class_of path.now ≡ 12 }
-{
+// What the start of class 12 finds on a disk.
+fn found(alloc: Global, disk: MemDisk, rules: Rules) -> &'static str {
     match Shard::start(alloc, 12, disk, rules, LIMIT, Strategy::Naive) {
-        Ok(mut shard) => match shard.show(path, (999_999_400, 999_999_999), 1_000_000_000) {
-            Ok(Some(_)) => "ring",
-            Ok(None) => "none",
+        Ok(shard) => match shard.names() {
+            Ok(names) if names.is_empty() => "none",
+            Ok(_) => "ring",
             Err(_) => "unread",
         },
         Err((_, StartFault::Damaged(_))) => "damaged",
@@ -82,8 +69,6 @@ fn found(alloc: Global, disk: MemDisk, rules: Rules, path: &MetricPath) -> &'sta
 #[test]
 fn heads_of_files(rt: HostRuntime) -> Result<(), Fail> {
     let alloc = rt.alloc();
-    let path = MetricPath::new(alloc, b"a.b")?;
-    assert!(rt; path.class() == 12);
     // what the file is, the numbers that it begins with, its size, and what the start finds
     let cases: [(&str, &[u32], usize, &str); 16] = [
         ("sound", SOUND, 148, "ring"),
@@ -141,7 +126,7 @@ fn heads_of_files(rt: HostRuntime) -> Result<(), Fail> {
     for (what, numbers, size, want) in cases {
         let mut disk = MemDisk::new(alloc, 0);
         disk.put_file("a/b.ring", file_of(alloc, numbers, size)?)?;
-        assert_eq!(rt; found(alloc, disk, no_rules(alloc)?, &path), want, "{what}");
+        assert_eq!(rt; found(alloc, disk, no_rules(alloc)?), want, "{what}");
     }
     Ok(())
 }
@@ -230,105 +215,102 @@ fn other_files_are_left_alone(rt: HostRuntime) -> Result<(), Fail> {
     Ok(())
 }
 
-// A disk with a file whose head is zero. Of its reading and its writing calls those with these numbers fail.
-fn failing_disk(alloc: Global, reads: &[u64], writes: &[u64]) -> Result<MemDisk, AllocError> {
-    let mut disk = MemDisk::new(alloc, 0);
-    disk.put_file("a.ring", file_of(alloc, &[], 28)?)?;
-    let disk = disk.failing_reads(reads.to_vec(alloc)?);
-    Ok(disk.failing(writes.to_vec(alloc)?))
+// A call of a disk.
+#[derive(Clone, Copy, PartialEq, Eq)]
+enum Call {
+    Names,
+    Length,
+    Read,
+    Write,
 }
 
-// How many calls failed while a shard started, and whether it was refused as one whose disk failed.
-fn start_on(alloc: Global, disk: MemDisk) -> Result<(u64, bool), Fail> {
-    match Shard::start(alloc, 12, disk, no_rules(alloc)?, LIMIT, Strategy::Naive) {
-        Ok(shard) => Ok((shard.finish().faults(), false)),
-        Err((disk, fault)) => Ok((disk.faults(), matches!(&fault, StartFault::DiskFault))),
+// A disk of one file whose calls of one kind fail.
+#[derive(Drop)]
+struct FailingDisk {
+    alloc: Global,
+    call: Call,
+    faults: u64,
+}
+
+impl FailingDisk {
+    ghost use Rattle.std.specs.Prelude.{◌≡◌, ◌≤◌, OnErr};
+    ghost use Rattle.outside_io.specs.Faults.{Rose};
+
+    fn run(&mut self, call: Call) -> Result<(), DiskFailed>
+        ensures later { self.old.faults ≤ self.new.faults }
+        ensures cause { OnErr result (Rose self.old.faults self.new.faults) }
+    {
+        if self.call != call {
+            return Ok(());
+        }
+        self.faults = self.faults.saturating_add(1);
+        Err(DiskFailed)
     }
 }
 
-// A start lists the names, asks how long a file is and reads its head. It writes nothing.
+impl Disk for FailingDisk {
+    ghost use Rattle.std.specs.Prelude.{None};
+
+    ghost image = { λ disk. None };
+
+    ghost faults = { λ disk. disk.faults };
+
+    fn faults(&self) -> u64 {
+        self.faults
+    }
+
+    fn names(&mut self) -> Result<Vec<String>, NamesFault> {
+        match self.run(Call::Names) {
+            Ok(()) => {}
+            Err(DiskFailed) => return Err(NamesFault::Failed),
+        }
+        let mut names = Vec::new(self.alloc);
+        names.push(String::from_str(self.alloc, "a.ring")?)?;
+        Ok(names)
+    }
+
+    fn length(&mut self, _name: &str) -> Result<Option<u64>, DiskFailed> {
+        match self.run(Call::Length) {
+            Ok(()) => Ok(Some(28)),
+            Err(DiskFailed) => Err(DiskFailed),
+        }
+    }
+
+    fn create(&mut self, _name: &str, _len: u64) -> Result<(), DiskFailed> {
+        self.run(Call::Write)
+    }
+
+    fn read_at(&mut self, _name: &str, _at: u64, _buf: &mut [u8]) -> Result<(), DiskFailed> {
+        self.run(Call::Read)
+    }
+
+    fn write_at(&mut self, _name: &str, _at: u64, _piece: &[u8]) -> Result<(), DiskFailed> {
+        self.run(Call::Write)
+    }
+}
+
 #[test]
 fn a_failed_call_is_counted(rt: HostRuntime) -> Result<(), Fail> {
     let alloc = rt.alloc();
-    let cases: [(&[u64], &[u64], u64, bool); 4] = [
-        (&[1], &[], 1, true),
-        (&[2], &[], 1, true),
-        (&[3], &[], 1, true),
-        (&[], &[1], 0, false),
-    ];
-    for (reads, writes, faults, refused) in cases {
-        let disk = failing_disk(alloc, reads, writes)?;
-        assert_eq!(rt; start_on(alloc, disk)?, (faults, refused));
-    }
-    Ok(())
-}
-
-// Sixteen disks, each with a file whose size tells its class, and a damaged file on some: `d` is of class 3, and `a` of class 12.
-fn sixteen_disks(alloc: Global, damaged: &[Held]) -> Result<Vec<MemDisk>, AllocError> {
-    let mut disks = Vec::new(alloc);
-    for class in 0..CLASSES {
-        let mut disk = MemDisk::new(alloc, 0);
-        disk.put_file("class.txt", file_of(alloc, &[], class)?)?;
-        for (name, numbers, size) in damaged {
-            if (class == 3) == (*name == "d.ring") {
-                disk.put_file(name, file_of(alloc, numbers, *size)?)?;
+    for (call, want) in [
+        (Call::Names, 1),
+        (Call::Length, 1),
+        (Call::Read, 1),
+        (Call::Write, 0),
+    ] {
+        let disk = FailingDisk {
+            alloc,
+            call,
+            faults: 0,
+        };
+        match Shard::start(alloc, 12, disk, no_rules(alloc)?, LIMIT, Strategy::Naive) {
+            Ok(shard) => assert_eq!(rt; shard.finish().faults(), want),
+            Err(refusal) => {
+                let (disk, fault) = refusal;
+                assert!(rt; matches!(&fault, StartFault::DiskFault));
+                assert_eq!(rt; disk.faults(), want);
             }
         }
-        disks.push(disk)?;
     }
-    Ok(disks)
-}
-
-// Whether each disk is in the place of its class.
-fn are_in_order(disks: Vec<MemDisk>) -> bool {
-    let mut in_order = true;
-    for (class, mut disk) in disks.into_iter().enumerate() {
-        in_order = in_order && disk.length("class.txt") == Ok(Some(class as u64));
-    }
-    in_order
-}
-
-#[test]
-fn the_first_class_that_is_refused(rt: HostRuntime) -> Result<(), Fail> {
-    let alloc = rt.alloc();
-    // the damaged files, and the class and the name that are told; a file of `a` is left alone in other classes
-    let cases: [(&[Held], u32, &str); 3] = [
-        (&[("a.ring", DAMAGED, 148)], 12, "a.ring"),
-        (&[("d.ring", DAMAGED, 148)], 3, "d.ring"),
-        (
-            &[("a.ring", DAMAGED, 148), ("d.ring", DAMAGED, 20)],
-            3,
-            "d.ring",
-        ),
-    ];
-    for (damaged, class, want) in cases {
-        let disks = sixteen_disks(alloc, damaged)?;
-        assert!(rt; disks.len() == CLASSES);
-        let Err(refused) = Shards::start(alloc, disks, &setup(no_rules(alloc)?)) else {
-            panic!(rt; "{want} is damaged")
-        };
-        let (disks, refusal) = refused;
-        assert_eq!(rt; refusal.class, class);
-        let Some(name) = name_in(refusal.fault) else {
-            panic!(rt; "{want} is damaged")
-        };
-        assert_eq!(rt; name.as_str(), want);
-        assert_eq!(rt; disks.len(), CLASSES);
-        assert!(rt; are_in_order(disks), "{want}");
-    }
-    Ok(())
-}
-
-#[test]
-fn the_disks_come_back_in_order(rt: HostRuntime) -> Result<(), Fail> {
-    let alloc = rt.alloc();
-    let disks = sixteen_disks(alloc, &[("x.txt", DAMAGED, 148)])?;
-    assert!(rt; disks.len() == CLASSES);
-    let Ok(shards) = Shards::start(alloc, disks, &setup(no_rules(alloc)?)) else {
-        panic!(rt; "no file is damaged")
-    };
-    let disks = shards.finish();
-    assert_eq!(rt; disks.len(), CLASSES);
-    assert!(rt; are_in_order(disks));
     Ok(())
 }

@@ -1,0 +1,568 @@
+-- Calls that drain, one after the other, drain whole classes where they stand alone.
+use Rattle.std.proofs.Common.{◌≡◌, ◌≢◌, ◌⊎◌, inl, inr, ◌∙◌, ℕ, suc, ◌<◌, ◌≤◌, ◌+◌, ◌-◌, ◌^◌, ◌==◌, Bool, true, false, cond, List, [], ◌∷◌, ◌++◌, length, refl, sym, ap, subst, arith, append_assoc, length-append, ne_eqb, add-one}
+use Rattle.std.specs.Prelude.{filter, Result, Ok, Err}
+use Rattle.std.proofs.lemmas.List.{append-nil, append_cancel_left, append_cancel_right}
+use Rattle.std.proofs.lemmas.List.Elements.{filter-append}
+use Rattle.std.proofs.lemmas.Bool.Decides.{eqb_tells}
+use mathlib.Core.List.{IsPrefix}
+use Rattle.metric_path.specs.Class.{class_of}
+use Rattle.carbon_history.specs.declared.entry.Entry.{Entry}
+use Rattle.carbon_history.specs.declared.entry.Entry.TheVariants as entry
+use Rattle.carbon_history.specs.Entries.{NamesPasses, about_class, drains, is_about, of_pass, pass_of}
+use Rattle.carbon_model.specs.State.{State}
+use Rattle.carbon_model.specs.Replay.{DrainsAll, DrainsClasses, DrainsSome, DrainsUpTo, IsDrainOf, IsLegalHistory, after, replay}
+use Rattle.carbon_model.proofs.HistoryLemmas.{legal_parts, replay-append}
+use Rattle.shared_history.proofs.ListLemmas.{filter_fits, prefix_self}
+use Rattle.shared_history.specs.declared.view.Look.{Look}
+use Rattle.shared_history.specs.Views.{look_at}
+use Rattle.shared_history.specs.Parts.{PassValue, own_entries}
+use Rattle.shared_store.specs.declared.drain_end.Stop.{Stop}
+use Rattle.shared_store.specs.declared.drain_end.Stop.TheVariants as stop
+use Rattle.shared_store.specs.declared.drain_end.DrainEnd.TheVariants as done
+use Rattle.shared_store.specs.Passes.{Enters, HasRoom, IsNoLess, IsSettled, IsUnderWay, LooksAgain, LooksOn, SameLooks, planned_in, settled_in}
+use Rattle.shared_store.specs.Steps.{FailedPlan, TookMetric, WasIdle}
+use Rattle.shared_store.specs.Drains.{AreDrainsOf, DrainsFailing, DrainsHere, DrainsNext, DrainsOne, DrainsPart, DrainsPartly, DrainsTo, DrainsToFault, HasPlanned, IsWhole, LooksIn, RiseWithin, StoodAlone, StopsIn, StopsWriting, WritesTo, WritesWhole, end_of}
+use Rattle.shared_store.proofs.LookLemmas.{prefix_both}
+
+-- ---- looks
+
+no_less : (a : Look) → IsNoLess a a
+no_less a = record { list = prefix_self a.list; settled = omega arith; runs = omega arith; times = omega arith }
+
+no_less_both : (a b c : Look) → IsNoLess a b → IsNoLess b c → IsNoLess a c
+no_less_both a b c first next = record {
+  list = prefix_both a.list b.list c.list first.list next.list;
+  settled = omega (arith, first.settled, next.settled);
+  runs = omega (arith, first.runs, next.runs);
+  times = omega (arith, first.times, next.times);
+}
+
+pub in_none : (class : ℕ) (pass : PassValue) → LooksIn class pass pass
+in_none class pass = record { here = no_less (look_at class pass.looks); others = λ other apart. refl; sights = omega arith }
+
+pub in_same : (class : ℕ) (old new : PassValue) → SameLooks old new → LooksIn class old new
+in_same class old new same = record {
+  here = subst (IsNoLess (look_at class old.looks)) (sym (ap (look_at class) same.looks)) (no_less (look_at class old.looks));
+  others = λ other apart. ap (look_at other) same.looks;
+  sights = same.sights;
+}
+
+pub in_again : (class : ℕ) (old new : PassValue) → LooksAgain class old new → LooksIn class old new
+in_again class old new again = record {
+  here = record { list = again.grows; settled = again.settled; runs = again.runs; times = omega (arith, again.times) };
+  others = again.others;
+  sights = again.sights;
+}
+
+pub in_both : (class : ℕ) (old mid new : PassValue) → LooksIn class old mid → LooksIn class mid new → LooksIn class old new
+in_both class old mid new first next = record {
+  here = no_less_both (look_at class old.looks) (look_at class mid.looks) (look_at class new.looks) first.here next.here;
+  others = λ other apart. next.others other apart ∙ first.others other apart;
+  sights = omega (arith, first.sights, next.sights);
+}
+
+pub on_none : (pass : PassValue) → LooksOn pass pass
+on_none pass = record { classes = λ class. no_less (look_at class pass.looks); sights = omega arith }
+
+pub on_more : (class : ℕ) (old mid new : PassValue) → LooksOn old mid → LooksIn class mid new → LooksOn old new
+on_more class old mid new first next = record {
+  classes = λ k. no_less_both (look_at k old.looks) (look_at k mid.looks) (look_at k new.looks) (first.classes k) (here k);
+  sights = omega (arith, first.sights, next.sights);
+}
+  where
+    here : (k : ℕ) → IsNoLess (look_at k mid.looks) (look_at k new.looks)
+    here k = elim (eqb_tells k class) [
+      | inl same ↦ subst (λ (c : ℕ). IsNoLess (look_at c mid.looks) (look_at c new.looks)) (sym same.1) next.here
+      | inr other ↦ subst (IsNoLess (look_at k mid.looks)) (sym (next.others k other.1)) (no_less (look_at k mid.looks))
+    ]
+
+-- ---- what a pass made
+
+-- the pass made these entries, whatever it sees besides
+pub record Leads (made : List Entry) (old new : PassValue) : Type 0 where
+  pub table : new.table ≡ old.table
+  pub number : new.number ≡ old.number
+  pub begins : IsPrefix old.seen new.seen
+  pub once : own_entries new ≡ own_entries old ++ made
+
+pub leads_none : (pass : PassValue) → Leads [] pass pass
+leads_none pass = record { table = refl; number = refl; begins = prefix_self pass.seen; once = sym (append-nil (own_entries pass)) }
+
+pub leads_both : (a b : List Entry) (old mid new : PassValue) → Leads a old mid → Leads b mid new → Leads (a ++ b) old new
+leads_both a b old mid new first next = record {
+  table = next.table ∙ first.table;
+  number = next.number ∙ first.number;
+  begins = prefix_both old.seen mid.seen new.seen first.begins next.begins;
+  once = next.once ∙ (ap (λ (l : List Entry). l ++ b) first.once ∙ append_assoc (own_entries old) a b);
+}
+
+-- of a list that a filter leaves whole it leaves the front whole
+front_left : {A : Type 0} (f : A → Bool) (xs ys : List A) → filter f xs ++ filter f ys ≡ xs ++ ys → filter f xs ≡ xs
+front_left f [] ys e = refl
+front_left {A} f (x ∷ xs) ys e = by (f x) e (front_left f xs ys)
+  where
+    by : (b : Bool) → cond b (x ∷ filter f xs) (filter f xs) ++ filter f ys ≡ x ∷ (xs ++ ys) → (filter f xs ++ filter f ys ≡ xs ++ ys → filter f xs ≡ xs)
+        → cond b (x ∷ filter f xs) (filter f xs) ≡ x ∷ xs
+    by true e more = ap (λ (l : List A). x ∷ l) (more (cc e))
+    by false e more =
+        absurd (omega (arith, ap length e, length-append (filter f xs) (filter f ys), length-append xs ys, filter_fits f xs, filter_fits f ys))
+
+-- a call that stood alone did so in each of its parts
+pub alone_parts : (a b : List Entry) (old mid new : PassValue) → Leads a old mid → Leads b mid new → StoodAlone (a ++ b) old new
+    → StoodAlone a old mid × StoodAlone b mid new
+alone_parts a b old mid new first next alone =
+    let x = first.begins.0 in
+    let y = next.begins.0 in
+    let n = old.number in
+    let mine : Entry → Bool = λ e. pass_of e == n in
+    let both : x ++ y ≡ a ++ b = append_cancel_left old.seen (x ++ y) (a ++ b)
+    (sym (append_assoc old.seen x y) ∙ (ap (λ (l : List Entry). l ++ y) first.begins.1 ∙ (next.begins.1 ∙ alone))) in
+    let own_x : filter mine x ≡ a = append_cancel_left (filter mine old.seen) (filter mine x) a
+    (sym (filter-append mine old.seen x) ∙ (ap (filter mine) first.begins.1 ∙ (ap (λ (k : ℕ). of_pass k mid.seen) (sym first.number) ∙ first.once))) in
+    let own_y : filter mine y ≡ b = append_cancel_left (filter mine mid.seen) (filter mine y) b
+    (sym (filter-append mine mid.seen y) ∙ (ap (filter mine) next.begins.1 ∙ (ap (λ (k : ℕ). of_pass k new.seen) (sym (next.number ∙ first.number))
+    ∙ (next.once ∙ ap (λ (k : ℕ). of_pass k mid.seen ++ b) first.number)))) in
+    let x_is : x ≡ a = sym (front_left mine x y ((λ i. own_x i ++ own_y i) ∙ sym both)) ∙ own_x in
+    let y_is : y ≡ b = append_cancel_left a y b (ap (λ (l : List Entry). l ++ y) (sym x_is) ∙ both) in
+    (sym first.begins.1 ∙ ap (λ (l : List Entry). old.seen ++ l) x_is, sym next.begins.1 ∙ ap (λ (l : List Entry). mid.seen ++ l) y_is)
+
+-- ---- drains of a class
+
+pub are_both : (pass class now : ℕ) (xs ys : List Entry) → AreDrainsOf pass class now xs → AreDrainsOf pass class now ys → AreDrainsOf pass class now (xs ++ ys)
+are_both pass class now [] ys first next = next
+are_both pass class now (x ∷ xs) ys first next = (first.0, are_both pass class now xs ys first.1 next)
+
+are_some : (s : State) (pass class now : ℕ) (xs : List Entry) → AreDrainsOf pass class now xs → IsLegalHistory s xs → DrainsSome s pass class now xs
+are_some s pass class now [] are legal = tt
+are_some s pass class now (x ∷ xs) are legal = (are.0, (legal.0, are_some (after s x) pass class now xs are.1 legal.1))
+
+-- they are about no other class
+not_about : (pass class now k : ℕ) (e : Entry) → IsDrainOf pass class now e → k ≢ class → is_about k e ≡ false
+not_about pass class now k (entry.Put by path time value end) is apart = absurd is
+not_about pass class now k (entry.Drain by path at) is apart = ne_eqb (class_of path) k (λ same. apart (sym same ∙ is.1.0))
+not_about pass class now k (entry.Ask by number try at) is apart = absurd is
+not_about pass class now k (entry.Fault by of_class) is apart = absurd is
+
+are_apart : (pass class now k : ℕ) (xs : List Entry) → AreDrainsOf pass class now xs → k ≢ class → about_class k xs ≡ []
+are_apart pass class now k [] are apart = refl
+are_apart pass class now k (x ∷ xs) are apart =
+    ap (λ (b : Bool). cond b (x ∷ about_class k xs) (about_class k xs)) (not_about pass class now k x are.0 apart) ∙ are_apart pass class now k xs are.1 apart
+
+fault_apart : (pass class k : ℕ) → k ≢ class → about_class k (entry.Fault pass class ∷ []) ≡ []
+fault_apart pass class k apart = ap (λ (b : Bool). cond b (entry.Fault pass class ∷ []) []) (ne_eqb class k (λ same. apart (sym same)))
+
+-- what is whole in a class stays so where nothing of the class is entered, and no look at it is had
+still_whole : (k : ℕ) (more : List Entry) (old new : PassValue) → IsWhole k old → look_at k new.looks ≡ look_at k old.looks → new.seen ≡ old.seen ++ more
+    → about_class k more ≡ [] → IsWhole k new
+still_whole k more old new whole look seen none =
+    let same : about_class k new.seen ≡ about_class k old.seen =
+    ap (about_class k) seen ∙ (filter-append (is_about k) old.seen more ∙ (ap (λ (l : List Entry). about_class k old.seen ++ l) none ∙ append-nil (about_class k old.seen))) in record {
+      all = ap (λ (l : Look). drains l.list) look ∙ (whole.all ∙ ap drains (sym same));
+      settled = subst (λ (l : Look). drains l.list ≡ l.settled) (sym look) whole.settled;
+    }
+
+-- ---- drains in rising class
+
+rise_from : (pass now low class : ℕ) (xs : List Entry) → low ≤ class → AreDrainsOf pass class now xs → RiseWithin pass now low (suc class) xs
+rise_from pass now low class [] le are = omega (arith, le)
+rise_from pass now low class (x ∷ xs) le are = (class, le, (omega arith, (are.0, rise_from pass now class class xs (omega arith) are.1)))
+
+rise_more : (pass now low class : ℕ) (xs ys : List Entry) → RiseWithin pass now low class xs → AreDrainsOf pass class now ys
+    → RiseWithin pass now low (suc class) (xs ++ ys)
+rise_more pass now low class [] ys rise are = rise_from pass now low class ys rise are
+rise_more pass now low class (x ∷ xs) ys rise are =
+    (rise.0, rise.1, (omega (arith, rise.2.0), (rise.2.1.0, rise_more pass now rise.0 class xs ys rise.2.1.1 are)))
+
+rise_wider : (pass now low class most : ℕ) (xs : List Entry) → class ≤ most → RiseWithin pass now low class xs → RiseWithin pass now low most xs
+rise_wider pass now low class most [] le rise = omega (arith, le, rise)
+rise_wider pass now low class most (x ∷ xs) le rise =
+    (rise.0, rise.1, (omega (arith, le, rise.2.0), (rise.2.1.0, rise_wider pass now rise.0 class most xs le rise.2.1.1)))
+
+-- ---- what the calls tell, one after the other
+
+room_kept : (old new : PassValue) → Leads [] old new → HasRoom old → HasRoom new
+room_kept old new leads room = subst (λ (l : List Entry). length l + 4 ≤ 2 ^ 48) (sym (leads.once ∙ append-nil (own_entries old))) room
+
+-- ---- calls so far
+
+-- so many metrics of the class were drained, or another pass drained there: no more are pending than are left of the first count
+pub record DrainsTurns (start : State) (passes class now most turns : ℕ) (old new : PassValue) : Type 0 where
+  pub part : DrainsPart start passes class now old new
+  pub left : StoodAlone part.made old new → length ((replay start new.seen).pending class) + turns ≤ most
+  pub whole : IsWhole class new
+  pub room : HasRoom new
+
+-- the first classes, so many, were drained
+pub record DrainsFirst (start : State) (passes now count : ℕ) (old new : PassValue) : Type 0 where
+  pub made : List Entry
+  pub leads : Leads made old new
+  pub seen : 0 < count → IsLegalHistory start new.seen × NamesPasses passes new.seen
+  pub rise : RiseWithin old.number now 0 count made
+  pub alone : StoodAlone made old new → DrainsClasses (replay start old.seen) old.number count now made
+  pub written : StoodAlone made old new → (k : ℕ) → k < count → IsWhole k new
+
+module _ (start : State) (passes : ℕ) where
+  pub leads_of : (made : List Entry) (old new : PassValue) → Enters start passes made old new → Leads made old new
+  leads_of made old new enters = record { table = enters.table; number = enters.number; begins = enters.begins; once = enters.once }
+
+  pub enters_more : (a b : List Entry) (old mid new : PassValue) → Leads a old mid → Enters start passes b mid new → Enters start passes (a ++ b) old new
+  enters_more a b old mid new first next =
+      let both = leads_both a b old mid new first (leads_of b mid new next) in record {
+        table = both.table;
+        number = both.number;
+        begins = both.begins;
+        legal = next.legal;
+        made = next.made;
+        once = both.once;
+      }
+
+  pub enters_room : (old new : PassValue) → Enters start passes [] old new → HasRoom old → HasRoom new
+  enters_room old new enters room = room_kept old new (leads_of [] old new enters) room
+
+  -- a part and then another
+  abbrev pub part_both : (class now : ℕ) (old mid new : PassValue) → DrainsPart start passes class now old mid → DrainsPart start passes class now mid new
+      → DrainsPart start passes class now old new
+  part_both class now old mid new first next = record {
+    made = first.made ++ next.made;
+    enters = enters_more first.made next.made old mid new (leads_of first.made old mid first.enters) next.enters;
+    each = are_both old.number class now first.made next.made first.each
+        (subst (λ (n : ℕ). AreDrainsOf n class now next.made) first.enters.number next.each);
+  }
+
+  abbrev pub part_none : (class now : ℕ) (old new : PassValue) → Enters start passes [] old new → DrainsPart start passes class now old new
+  part_none class now old new enters = record { made = []; enters = enters; each = tt }
+
+  pub stops_more : (class now : ℕ) (stop : Stop) (old mid new : PassValue) → DrainsPart start passes class now old mid → StopsIn start passes class now stop mid new
+      → StopsIn start passes class now stop old new
+  stops_more class now stop.DiskFault old mid new first next = record {
+    made = first.made ++ next.made;
+    enters = subst (λ (l : List Entry). Enters start passes l old new)
+        (sym (append_assoc first.made next.made (entry.Fault mid.number class ∷ []))
+        ∙ ap (λ (n : ℕ). (first.made ++ next.made) ++ entry.Fault n class ∷ []) first.enters.number)
+        (enters_more first.made (next.made ++ entry.Fault mid.number class ∷ []) old mid new (leads_of first.made old mid first.enters) next.enters);
+    each = are_both old.number class now first.made next.made first.each
+        (subst (λ (n : ℕ). AreDrainsOf n class now next.made) first.enters.number next.each);
+    planned = next.planned;
+    either = next.either;
+  }
+  stops_more class now stop.Spent old mid new first next = (part_both class now old mid new first next.0, next.1)
+  stops_more class now stop.NoMemory old mid new first next = (part_both class now old mid new first next.0, next.1)
+
+  -- ---- a drain is written to its end
+
+  pub has_planned : (class : ℕ) (old new : PassValue) → LooksAgain class old new → HasPlanned class new
+  has_planned class old new look = ap drains look.list
+
+  pub write_done : (class : ℕ) (old mid new : PassValue) → Leads [] old mid → Enters start passes [] mid new → LooksAgain class mid new → IsSettled class new
+      → HasRoom mid → WritesWhole start passes class old new
+  write_done class old mid new first next look settled room = record {
+    enters = enters_more [] [] old mid new first next;
+    whole = record { all = has_planned class mid new look; settled = settled };
+    room = enters_room mid new next room;
+  }
+
+  pub write_fails : (class : ℕ) (old mid new : PassValue) → Leads [] old mid → Enters start passes (entry.Fault mid.number class ∷ []) mid new
+      → LooksAgain class mid new → IsUnderWay class new → (now : ℕ) → DrainsFailing start passes class now old new
+  write_fails class old mid new first next look under now = record {
+    made = [];
+    enters = subst (λ (n : ℕ). Enters start passes (entry.Fault n class ∷ []) old new) first.number
+        (enters_more [] (entry.Fault mid.number class ∷ []) old mid new first next);
+    each = tt;
+    planned = has_planned class mid new look;
+    either = inr under;
+  }
+
+  -- ---- the next metric of a class
+
+  abbrev pub part_took : (class now : ℕ) (path : List ℕ) (old new : PassValue) → Enters start passes (entry.Drain old.number path now ∷ []) old new
+      → TookMetric start class now path new → DrainsPart start passes class now old new
+  part_took class now path old new enters took = record { made = entry.Drain old.number path now ∷ []; enters = enters; each = ((refl, (took.here, refl)), tt) }
+
+  pending_fewer : (class : ℕ) (seen seen' before before' : List Entry) → seen ≡ seen' → before ≡ before'
+      → length ((replay start seen).pending class) < length ((replay start before).pending class)
+      → length ((replay start seen').pending class) < length ((replay start before').pending class)
+  pending_fewer class seen seen' before before' one other less =
+      subst (λ (l : List Entry). length ((replay start l).pending class) < length ((replay start before').pending class)) one
+      (subst (λ (l : List Entry). length ((replay start seen).pending class) < length ((replay start l).pending class)) other less)
+
+  pub next_took : (class now : ℕ) (path : List ℕ) (old mid new : PassValue) → Enters start passes (entry.Drain old.number path now ∷ []) old mid
+      → TookMetric start class now path mid → WritesWhole start passes class mid new → DrainsOne start passes class now old new
+  next_took class now path old mid new enters took writes =
+      let drain = entry.Drain old.number path now ∷ [] in
+      let parts = λ (alone : StoodAlone drain old new). alone_parts drain [] old mid new (leads_of drain old mid enters) (leads_of [] mid new writes.enters) alone in record {
+        part = part_both class now old mid new (part_took class now path old mid enters took) (part_none class now mid new writes.enters);
+        fewer = λ alone. pending_fewer class mid.seen new.seen took.before old.seen (sym ((parts alone).1 ∙ append-nil mid.seen))
+            (append_cancel_right took.before old.seen drain
+            (ap (λ (n : ℕ). took.before ++ entry.Drain n path now ∷ []) (sym enters.number) ∙ (sym took.last ∙ (parts alone).0)))
+            took.fewer;
+        whole = writes.whole;
+        room = writes.room;
+      }
+
+  pub next_busy : (class now : ℕ) (old mid new : PassValue) → IsWhole class old → Enters start passes [] old mid
+      → LooksAgain class old mid → IsUnderWay class mid → WritesWhole start passes class mid new → DrainsOne start passes class now old new
+  next_busy class now old mid new whole enters look under writes =
+      let parts = λ (alone : StoodAlone [] old new). alone_parts [] [] old mid new (leads_of [] old mid enters) (leads_of [] mid new writes.enters) alone in record {
+        part = part_none class now old new (enters_more [] [] old mid new (leads_of [] old mid enters) writes.enters);
+        fewer = λ alone. absurd (never ((parts alone).0 ∙ append-nil old.seen));
+        whole = writes.whole;
+        room = writes.room;
+      }
+    where
+      none_owed : (planned settled planned' settled' : ℕ) → planned ≡ settled → settled ≤ settled' → planned' ≡ settled' + 1 → planned' ≡ planned → ⊥
+      none_owed planned settled planned' settled' even le one same = omega (arith, even, le, one, same)
+
+      never : mid.seen ≡ old.seen → ⊥
+      never seen =
+          none_owed (planned_in class old) (settled_in class old) (planned_in class mid) (settled_in class mid) whole.settled look.settled under
+          (has_planned class old mid look ∙ (ap (λ (l : List Entry). drains (about_class class l)) seen ∙ sym whole.all))
+
+  pub next_idle : (class now : ℕ) (old new : PassValue) → Enters start passes [] old new → LooksAgain class old new → WasIdle start class old new
+      → HasRoom old → DrainsHere start passes class now old new
+  next_idle class now old new enters look idle room = record {
+    part = part_none class now old new enters;
+    none = λ alone. idle.none;
+    whole = record { all = has_planned class old new look; settled = idle.settled };
+    room = enters_room old new enters room;
+  }
+
+  pub next_fails : (class now : ℕ) (old new : PassValue) → Enters start passes (entry.Fault old.number class ∷ []) old new
+      → LooksAgain class old new → FailedPlan start class new → StopsIn start passes class now stop.DiskFault old new
+  next_fails class now old new enters look failed = record {
+    made = [];
+    enters = enters;
+    each = tt;
+    planned = has_planned class old new look;
+    either = inl failed.settled;
+  }
+
+  -- however the write of the drain ended
+  pub stops_writing : (class now : ℕ) (stop : Stop) (old mid new : PassValue) → DrainsPart start passes class now old mid → StopsWriting start passes class stop mid new
+      → StopsIn start passes class now stop old new
+  stops_writing class now stop.DiskFault old mid new part writes = stops_more class now stop.DiskFault old mid new part (writes now)
+  stops_writing class now stop.Spent old mid new part writes = (subst (DrainsPart start passes class now old) (sym writes.0) part, writes.1)
+  stops_writing class now stop.NoMemory old mid new part writes = absurd writes
+
+  pub took_whole : (class now : ℕ) (path : List ℕ) (result : Result Bool Stop) (old mid new : PassValue) → Enters start passes (entry.Drain old.number path now ∷ []) old mid
+      → TookMetric start class now path mid → WritesTo start passes class result mid new → DrainsNext start passes class now result old new
+  took_whole class now path (Ok true) old mid new enters took writes = next_took class now path old mid new enters took writes
+  took_whole class now path (Ok false) old mid new enters took writes = absurd writes
+  took_whole class now path (Err stop) old mid new enters took writes =
+      stops_writing class now stop old mid new (part_took class now path old mid enters took) writes
+
+  pub busy_whole : (class now : ℕ) (result : Result Bool Stop) (old mid new : PassValue) → IsWhole class old → Enters start passes [] old mid
+      → LooksAgain class old mid → IsUnderWay class mid → WritesTo start passes class result mid new → DrainsNext start passes class now result old new
+  busy_whole class now (Ok true) old mid new whole enters look under writes = next_busy class now old mid new whole enters look under writes
+  busy_whole class now (Ok false) old mid new whole enters look under writes = absurd writes
+  busy_whole class now (Err stop) old mid new whole enters look under writes =
+      stops_writing class now stop old mid new (part_none class now old mid enters) writes
+
+  -- ---- a class
+
+  pub turns_begin : (class now most : ℕ) (old mid new : PassValue) → Enters start passes [] old mid
+      → most ≡ length ((replay start mid.seen).pending class) → WritesWhole start passes class mid new → DrainsTurns start passes class now most 0 old new
+  turns_begin class now most old mid new first count writes = record {
+    part = part_none class now old new (enters_more [] [] old mid new (leads_of [] old mid first) writes.enters);
+    left = λ alone.
+        let seen : new.seen ≡ mid.seen = (alone_parts [] [] old mid new (leads_of [] old mid first) (leads_of [] mid new writes.enters) alone).1 ∙ append-nil mid.seen in
+        omega (arith, count, ap (λ (l : List Entry). length ((replay start l).pending class)) seen);
+    whole = writes.whole;
+    room = writes.room;
+  }
+
+  pub turns_more : (class now most turns : ℕ) (old mid new : PassValue) → DrainsTurns start passes class now most turns old mid → DrainsOne start passes class now mid new
+      → DrainsTurns start passes class now most (turns + 1) old new
+  turns_more class now most turns old mid new first next = record {
+    part = part_both class now old mid new first.part next.part;
+    left = λ alone.
+        let parts = alone_parts first.part.made next.part.made old mid new (leads_of first.part.made old mid first.part.enters)
+        (leads_of next.part.made mid new next.part.enters) alone in
+        omega (arith, first.left parts.0, next.fewer parts.1);
+    whole = next.whole;
+    room = next.room;
+  }
+
+  pub here_more : (class now : ℕ) (old mid new : PassValue) → DrainsPart start passes class now old mid → DrainsHere start passes class now mid new
+      → DrainsHere start passes class now old new
+  here_more class now old mid new first next = record {
+    part = part_both class now old mid new first next.part;
+    none = λ alone. next.none (alone_parts first.made next.part.made old mid new (leads_of first.made old mid first.enters)
+        (leads_of next.part.made mid new next.part.enters) alone).1;
+    whole = next.whole;
+    room = next.room;
+  }
+
+  -- one more than were pending, and so none where the call stood alone
+  pub here_last : (class now most turns : ℕ) (some : Bool) (old mid new : PassValue) → turns ≡ most → DrainsTurns start passes class now most turns old mid
+      → DrainsNext start passes class now (Ok some) mid new → DrainsHere start passes class now old new
+  here_last class now most turns true old mid new all first next = record {
+    part = part_both class now old mid new first.part next.part;
+    none = λ alone.
+        let parts = alone_parts first.part.made next.part.made old mid new (leads_of first.part.made old mid first.part.enters)
+        (leads_of next.part.made mid new next.part.enters) alone in
+        absurd (omega (arith, all, first.left parts.0, next.fewer parts.1));
+    whole = next.whole;
+    room = next.room;
+  }
+  here_last class now most turns false old mid new all first next = here_more class now old mid new first.part next
+
+  -- ---- all classes
+
+  pub first_none : (now : ℕ) (pass : PassValue) → DrainsFirst start passes now 0 pass pass
+  first_none now pass = record {
+    made = [];
+    leads = leads_none pass;
+    seen = λ some. absurd (omega (arith, some));
+    rise = omega arith;
+    alone = λ alone. refl;
+    written = λ alone k lt. absurd (omega (arith, lt));
+  }
+
+  -- the state that a pass sees, behind that which it saw
+  seen_after : (made : List Entry) (old new : PassValue) → StoodAlone made old new → replay start new.seen ≡ replay (replay start old.seen) made
+  seen_after made old new alone = ap (replay start) alone ∙ replay-append start old.seen made
+
+  some_of : (class now : ℕ) (made more : List Entry) (mid new : PassValue) → AreDrainsOf mid.number class now made → IsLegalHistory start new.seen
+      → new.seen ≡ mid.seen ++ (made ++ more) → DrainsSome (replay start mid.seen) mid.number class now made
+  some_of class now made more mid new are legal seen =
+      are_some (replay start mid.seen) mid.number class now made are
+      (legal_parts (replay start mid.seen) made more (legal_parts start mid.seen (made ++ more) (subst (IsLegalHistory start) seen legal)).1).0
+
+  -- and those of one class more behind them
+  some_behind : (class now : ℕ) (first made : List Entry) (old mid : PassValue) → mid.number ≡ old.number → StoodAlone first old mid
+      → DrainsSome (replay start mid.seen) mid.number class now made → DrainsSome (replay (replay start old.seen) first) old.number class now made
+  some_behind class now first made old mid number alone some =
+      subst (λ (n : ℕ). DrainsSome (replay (replay start old.seen) first) n class now made) number
+      (subst (λ (s : State). DrainsSome s mid.number class now made) (seen_after first old mid alone) some)
+
+  not_below : (k class : ℕ) → k < class → k ≢ class
+  not_below k class lt same = omega (arith, lt, same)
+
+  below_or_here : (k class : ℕ) → k < suc class → (k ≡ class) ⊎ (k < class)
+  below_or_here k class lt = elim (eqb_tells k class) [
+    | inl same ↦ inl same.1
+    | inr other ↦ inr (omega (arith, lt, λ (e : k ≡ class). other.1 e))
+  ]
+
+  pub first_more : (now class : ℕ) (old mid new : PassValue) → DrainsFirst start passes now class old mid → DrainsHere start passes class now mid new → LooksIn class mid new
+      → DrainsFirst start passes now (suc class) old new
+  first_more now class old mid new first next looks =
+      let made = next.part.made in
+      let leads = leads_of made mid new next.part.enters in
+      let parts = λ (alone : StoodAlone (first.made ++ made) old new). alone_parts first.made made old mid new first.leads leads alone in record {
+        made = first.made ++ made;
+        leads = leads_both first.made made old mid new first.leads leads;
+        seen = λ some. (next.part.enters.legal, next.part.enters.made);
+        rise = rise_more old.number now 0 class first.made made first.rise (subst (λ (n : ℕ). AreDrainsOf n class now made) first.leads.number next.part.each);
+        alone = λ alone. (
+          first.made,
+          made,
+          (
+            refl,
+            (
+              first.alone (parts alone).0,
+              record {
+                drains = some_behind class now first.made made old mid first.leads.number (parts alone).0
+                    (some_of class now made [] mid new next.part.each next.part.enters.legal ((parts alone).1 ∙ ap (λ (l : List Entry). mid.seen ++ l) (sym (append-nil made))));
+                none_pending = subst (λ (s : State). s.pending class ≡ [])
+                    (seen_after made mid new (parts alone).1 ∙ ap (λ (s : State). replay s made) (seen_after first.made old mid (parts alone).0))
+                    (next.none (parts alone).1);
+              },
+            ),
+          ),
+        );
+        written = λ alone k lt. elim (below_or_here k class lt) [
+          | inl same ↦ subst (λ (c : ℕ). IsWhole c new) (sym same) next.whole
+          | inr below ↦ still_whole k made mid new (first.written (parts alone).0 k below) (looks.others k (not_below k class below)) (parts alone).1
+              (are_apart mid.number class now k made next.part.each (not_below k class below))
+        ];
+      }
+
+  pub all_done : (now class count : ℕ) (old new : PassValue) → class ≡ 16 → DrainsFirst start passes now class old new
+      → (before left : ℕ) → before + length (own_entries old) ≡ 2 ^ 48 → left + length (own_entries new) ≡ 2 ^ 48 → count ≡ before - left → HasRoom new
+      → DrainsTo start passes now (done.Done count) old new
+  unfolding DrainsAll
+  all_done now class count old new all first before left room room' is has_room = (
+    record {
+      made = first.made;
+      enters = record {
+        table = first.leads.table;
+        number = first.leads.number;
+        begins = first.leads.begins;
+        legal = (first.seen (omega (arith, all))).0;
+        made = (first.seen (omega (arith, all))).1;
+        once = first.leads.once;
+      };
+      rise = subst (λ (k : ℕ). RiseWithin old.number now 0 k first.made) all first.rise;
+      counted = counts (length (own_entries old)) (length (own_entries new)) (length first.made) count before left
+          (ap length first.leads.once ∙ length-append (own_entries old) first.made) room room' is;
+      alone = λ alone. subst (λ (k : ℕ). DrainsClasses (replay start old.seen) old.number k now first.made) all (first.alone alone);
+      written = λ alone k lt. first.written alone k (subst (λ (n : ℕ). k < n) (sym all) lt);
+    },
+    has_room,
+  )
+    where
+      counts : (old_own new_own made count before left : ℕ) → new_own ≡ old_own + made → before + old_own ≡ 2 ^ 48 → left + new_own ≡ 2 ^ 48 → count ≡ before - left
+          → made ≡ count
+      counts old_own new_own made count before left own room room' is = omega (arith, own, room, room', is)
+
+  up_to : (now class : ℕ) (made more : List Entry) (old mid new : PassValue) → (first : DrainsFirst start passes now class old mid) → AreDrainsOf mid.number class now made
+      → Leads (made ++ more) mid new → IsLegalHistory start new.seen → StoodAlone (first.made ++ (made ++ more)) old new
+      → DrainsUpTo (replay start old.seen) old.number class now (first.made ++ made)
+  up_to now class made more old mid new first are leads legal alone =
+      let parts = alone_parts first.made (made ++ more) old mid new first.leads leads alone in (
+        first.made,
+        made,
+        (
+          refl,
+          (
+            first.alone parts.0,
+            some_behind class now first.made made old mid first.leads.number parts.0
+                (some_of class now made more mid new are legal parts.1),
+          ),
+        ),
+      )
+
+  pub partly : (now class : ℕ) (old mid new : PassValue) → class < 16 → DrainsFirst start passes now class old mid → DrainsPart start passes class now mid new
+      → DrainsPartly start passes now old new
+  partly now class old mid new within first next = record {
+    made = first.made ++ next.made;
+    class = class;
+    within = omega (arith, within);
+    enters = enters_more first.made next.made old mid new first.leads next.enters;
+    rise = rise_wider old.number now 0 (suc class) 16 (first.made ++ next.made) (omega (arith, within))
+        (rise_more old.number now 0 class first.made next.made first.rise (subst (λ (n : ℕ). AreDrainsOf n class now next.made) first.leads.number next.each));
+    alone = λ alone. up_to now class next.made [] old mid new first next.each
+        (subst (λ (l : List Entry). Leads l mid new) (sym (append-nil next.made)) (leads_of next.made mid new next.enters)) next.enters.legal
+        (subst (λ (l : List Entry). StoodAlone (first.made ++ l) old new) (sym (append-nil next.made)) alone);
+  }
+
+  pub to_fault : (now class : ℕ) (old mid new : PassValue) → class < 16 → DrainsFirst start passes now class old mid → DrainsFailing start passes class now mid new
+      → LooksIn class mid new → DrainsToFault start passes now class old new
+  to_fault now class old mid new within first next looks =
+      let fault = entry.Fault mid.number class ∷ [] in
+      let leads = leads_of (next.made ++ fault) mid new next.enters in
+      let told : first.made ++ (next.made ++ fault) ≡ (first.made ++ next.made) ++ entry.Fault old.number class ∷ [] =
+      sym (append_assoc first.made next.made fault) ∙ ap (λ (n : ℕ). (first.made ++ next.made) ++ entry.Fault n class ∷ []) first.leads.number in record {
+        within = within;
+        made = first.made ++ next.made;
+        enters = subst (λ (l : List Entry). Enters start passes l old new) told
+            (enters_more first.made (next.made ++ fault) old mid new first.leads next.enters);
+        rise = rw add-one (rise_more old.number now 0 class first.made next.made first.rise
+            (subst (λ (n : ℕ). AreDrainsOf n class now next.made) first.leads.number next.each));
+        alone = λ alone. up_to now class next.made fault old mid new first next.each leads next.enters.legal
+            (subst (λ (l : List Entry). StoodAlone l old new) (sym told) alone);
+        written = λ alone k lt.
+            let parts = alone_parts first.made (next.made ++ fault) old mid new first.leads leads (subst (λ (l : List Entry). StoodAlone l old new) (sym told) alone) in
+            still_whole k (next.made ++ fault) mid new (first.written parts.0 k lt) (looks.others k (not_below k class lt)) parts.1
+            (filter-append (is_about k) next.made fault ∙ (λ i. are_apart mid.number class now k next.made next.each (not_below k class lt) i
+            ++ fault_apart mid.number class k (not_below k class lt) i));
+        planned = next.planned;
+        either = next.either;
+      }
+
+  pub all_stop : (now class : ℕ) (stop : Stop) (old mid new : PassValue) → class < 16 → DrainsFirst start passes now class old mid → StopsIn start passes class now stop mid new
+      → LooksIn class mid new → DrainsTo start passes now (end_of stop class) old new
+  all_stop now class stop.DiskFault old mid new within first next looks = to_fault now class old mid new within first next looks
+  all_stop now class stop.Spent old mid new within first next looks = (partly now class old mid new within first next.0, next.1)
+  all_stop now class stop.NoMemory old mid new within first next looks = (partly now class old mid new within first next.0, next.1)

@@ -1,0 +1,44 @@
+use Rattle.std.proofs.Common.{arith}
+use Rattle.shared_store.proofs.DrainLemmas.{here_last, here_more, in_both, in_same, part_none, stops_more, stops_writing, turns_begin, turns_more}
+use Rattle.shared_store.proofs.store.Store.drain_class.Goals as goal
+
+pub returns-in-Err-clause-drains : goal.returns-in-Err-clause-drains
+returns-in-Err-clause-drains g c =
+    stops_writing g.N.Named.start g.N.Named.passes c.args.class c.args.now c.in-Err.stop c.args.pass.now c.pending-most.new.pass c.finish.new.pass
+    (part_none g.N.Named.start g.N.Named.passes c.args.class c.args.now c.args.pass.now c.pending-most.new.pass c.pending-most.ensures.enters) c.in-Err.ensures.writes
+
+pub loop-turn-init : goal.loop-turn-init
+loop-turn-init g c = record {
+  turns = turns_begin g.N.Named.start g.N.Named.passes c.args.class c.args.now c.pending-most.result c.args.pass.now c.pending-most.new.pass c.finish.new.pass
+      c.pending-most.ensures.enters c.pending-most.ensures.count c.in-Ok.ensures.writes;
+  looks = in_both c.args.class c.args.pass.now c.pending-most.new.pass c.finish.new.pass
+      (in_same c.args.class c.args.pass.now c.pending-most.new.pass c.pending-most.ensures.looks) c.finish.ensures.looks;
+}
+
+pub loop-turn-preserved : goal.loop-turn-preserved
+loop-turn-preserved g c =
+    let drains = rw c.in-Ok-true.field-0-test at c.in-Ok-true.ensures.drains in record {
+      turns = turns_more g.N.Named.start g.N.Named.passes c.args.class c.args.now c.pending-most.result c.loop-turn._turn c.args.pass.now c.loop-turn.pass c.drain_next.new.pass
+          c.loop-turn.invariant.turns drains;
+      looks = in_both c.args.class c.args.pass.now c.loop-turn.pass c.drain_next.new.pass c.loop-turn.invariant.looks c.drain_next.ensures.looks;
+    }
+
+pub returns-in-Ok-false-clause-drains : goal.returns-in-Ok-false-clause-drains
+returns-in-Ok-false-clause-drains g c =
+    let drains = rw c.in-Ok-false.field-0-test at c.in-Ok-false.ensures.drains in
+    here_more g.N.Named.start g.N.Named.passes c.args.class c.args.now c.args.pass.now c.loop-turn.pass c.drain_next.new.pass c.loop-turn.invariant.turns.part drains
+
+pub returns-in-Err-drain_next-clause-drains : goal.returns-in-Err-drain_next-clause-drains
+returns-in-Err-drain_next-clause-drains g c =
+    stops_more g.N.Named.start g.N.Named.passes c.args.class c.args.now c.in-Err-drain_next.stop c.args.pass.now c.loop-turn.pass c.drain_next.new.pass
+    c.loop-turn.invariant.turns.part c.in-Err-drain_next.ensures.drains
+
+pub returns-in-Ok-drain_next-clause-drains : goal.returns-in-Ok-drain_next-clause-drains
+returns-in-Ok-drain_next-clause-drains g c =
+    here_last g.N.Named.start g.N.Named.passes c.args.class c.args.now c.pending-most.result c.loop-turn._turn c.in-Ok-drain_next.field-0 c.args.pass.now c.loop-turn.pass
+    c.drain_next-2.new.pass (omega (arith, c.loop-turn-test.false, c.loop-turn.auto._turn-end)) c.loop-turn.invariant.turns c.in-Ok-drain_next.ensures.drains
+
+pub returns-in-Err-drain_next-2-clause-drains : goal.returns-in-Err-drain_next-2-clause-drains
+returns-in-Err-drain_next-2-clause-drains g c =
+    stops_more g.N.Named.start g.N.Named.passes c.args.class c.args.now c.in-Err-drain_next-2.stop c.args.pass.now c.loop-turn.pass c.drain_next-2.new.pass
+    c.loop-turn.invariant.turns.part c.in-Err-drain_next-2.ensures.drains

@@ -1,0 +1,9 @@
+use Rattle.shared_store.specs.Drains.{LooksIn}
+use Rattle.shared_store.proofs.DrainLemmas.{DrainsTurns}
+use Rattle.shared_store.proofs.store.Store.drain_class.Given as goal
+
+abbrev pub invariant-loop-turn : goal.invariant-loop-turn
+invariant-loop-turn g l = record {
+  turns : DrainsTurns g.N.Named.start g.N.Named.passes l.class l.now l.most l._turn l.fn.pass l.pass;
+  looks : LooksIn l.class l.fn.pass l.pass;
+}

@@ -1,0 +1,168 @@
+//! The drain of all that is pending.
+ghost use Rattle.std.specs.Prelude.{◌≡◌};
+ghost use Rattle.shared_store.specs.Drains.{end_of};
+
+use crate::class_desk::ClassDesk;
+use crate::drain_end::{DrainEnd, Stop};
+use crate::named::Named;
+use crate::order_desk::OrderDesk;
+use crate::store::Store;
+use metric_path::CLASSES;
+use outside_io::Disk;
+use shard_core::{Planned, Wrote};
+use shared_history::Pass;
+use std::sync::{Mutex, Wait};
+
+impl<D: Disk, N: Named> ClassDesk<D, N> {
+    ghost use Rattle.std.specs.Prelude.{◌≡◌, [], length};
+    ghost use Rattle.carbon_model.specs.Replay.{replay};
+    ghost use Rattle.shared_store.specs.Passes.{Enters, SameLooks};
+
+    /// How many metrics of the class have pending points, in all that the pass sees from now on.
+    pub(crate) fn pending(
+        &mut self,
+        rt: &impl Wait,
+        order: &Mutex<OrderDesk<N>>,
+        pass: &mut Pass,
+    ) -> usize
+        requires one { pass.old.table ≡ N.table }
+        ensures count { result ≡ length ((replay N.start pass.new.seen).pending self.old.class) }
+        ensures enters { Enters N.start N.passes [] pass.old pass.new }
+        ensures looks { SameLooks pass.old pass.new }
+    {
+        order.lock(rt).see(pass, &mut self.tail);
+        self.shard.cached_metrics()
+    }
+}
+
+impl<D: Disk, N: Named> Store<D, N> {
+    ghost use Rattle.std.specs.Prelude.{◌≡◌, ◌<◌, [], length};
+    ghost use Rattle.carbon_model.specs.Replay.{replay};
+    ghost use Rattle.shared_store.specs.Drains.{DrainsClassTo, DrainsNext, DrainsTo, Finishes, IsWhole, LooksIn, WritesTo};
+    ghost use Rattle.shared_store.specs.Passes.{Enters, HasRoom, LooksOn, SameLooks};
+
+    /// Drains all that is pending at the moment `now`: for the classes in order it finishes the drain that is being written, and then drains as
+    /// many metrics as were pending when it came to the class. It stops at the first fault.
+    pub fn drain_all(&self, rt: &impl Wait, pass: &mut Pass, now: u32) -> DrainEnd
+        requires one { pass.old.table ≡ N.table }
+        requires room { HasRoom pass.old }
+        ensures drains { DrainsTo N.start N.passes now result pass.old pass.new }
+        ensures looks { LooksOn pass.old pass.new }
+    {
+        let before = pass.left();
+        for class in 0..CLASSES {
+            match self.drain_class(rt, pass, class, now) {
+                Ok(()) => {}
+                Err(stop) => return end_of(stop, class),
+            }
+        }
+        DrainEnd::Done(before - pass.left())
+    }
+
+    // Finishes the drain of a class that is being written. Then it drains as many metrics as were pending, and tries one more, where another pass
+    // may have put points of it.
+    fn drain_class(&self, rt: &impl Wait, pass: &mut Pass, class: u32, now: u32) -> Result<(), Stop>
+        requires class { class < 16 }
+        requires one { pass.old.table ≡ N.table }
+        requires room { HasRoom pass.old }
+        ensures drains { DrainsClassTo N.start N.passes class now result pass.old pass.new }
+        ensures looks { LooksIn class pass.old pass.new }
+    {
+        let most = self.pending(rt, pass, class);
+        match self.finish(rt, pass, class) {
+            Ok(()) => {}
+            Err(stop) => return Err(stop),
+        }
+        for _turn in 0..most {
+            match self.drain_next(rt, pass, class, now) {
+                Ok(true) => {}
+                Ok(false) => return Ok(()),
+                Err(stop) => return Err(stop),
+            }
+        }
+        match self.drain_next(rt, pass, class, now) {
+            Ok(_) => Ok(()),
+            Err(stop) => Err(stop),
+        }
+    }
+
+    // How many metrics of a class have pending points.
+    fn pending(&self, rt: &impl Wait, pass: &mut Pass, class: u32) -> usize
+        requires class { class < 16 }
+        requires one { pass.old.table ≡ N.table }
+        ensures count { result ≡ length ((replay N.start pass.new.seen).pending class) }
+        ensures enters { Enters N.start N.passes [] pass.old pass.new }
+        ensures looks { SameLooks pass.old pass.new }
+    {
+        let mut desk = self.lock_class(rt, class);
+        desk.pending(rt, &self.order, pass)
+    }
+
+    // Drains the metric of a class that goes next, and writes it whole: whether there was one.
+    fn drain_next(
+        &self,
+        rt: &impl Wait,
+        pass: &mut Pass,
+        class: u32,
+        now: u32,
+    ) -> Result<bool, Stop>
+        requires class { class < 16 }
+        requires one { pass.old.table ≡ N.table }
+        requires room { HasRoom pass.old }
+        requires whole { IsWhole class pass.old }
+        ensures drains { DrainsNext N.start N.passes class now result pass.old pass.new }
+        ensures looks { LooksIn class pass.old pass.new }
+    {
+        match self.plan_step(rt, pass, class, now) {
+            Planned::Took(_) => return self.write_whole(rt, pass, class),
+            Planned::Busy => return self.write_whole(rt, pass, class),
+            Planned::Idle => return Ok(false),
+            Planned::DiskFault => return Err(Stop::DiskFault),
+            Planned::NoMemory => return Err(Stop::NoMemory),
+        }
+    }
+
+    // Writes the drain that was begun to its end, where the pass has the room for it.
+    fn write_whole(&self, rt: &impl Wait, pass: &mut Pass, class: u32) -> Result<bool, Stop>
+        requires class { class < 16 }
+        requires one { pass.old.table ≡ N.table }
+        ensures whole { WritesTo N.start N.passes class result pass.old pass.new }
+        ensures looks { LooksIn class pass.old pass.new }
+    {
+        if pass.left() < 4 {
+            return Err(Stop::Spent);
+        }
+        match self.finish(rt, pass, class) {
+            Ok(()) => Ok(true),
+            Err(stop) => Err(stop),
+        }
+    }
+
+    // Writes the drain of a class that is being written to its end.
+    fn finish(&self, rt: &impl Wait, pass: &mut Pass, class: u32) -> Result<(), Stop>
+        requires class { class < 16 }
+        requires one { pass.old.table ≡ N.table }
+        requires room { HasRoom pass.old }
+        ensures writes { Finishes N.start N.passes class result pass.old pass.new }
+        ensures looks { LooksIn class pass.old pass.new }
+    {
+        for _run in rt.forever() {
+            match self.write_step(rt, pass, class) {
+                Wrote::Run => {}
+                Wrote::Finished | Wrote::Nothing => return Ok(()),
+                Wrote::DiskFault => return Err(Stop::DiskFault),
+            }
+        }
+        unreachable!()
+    }
+}
+
+fn end_of(stop: Stop, class: u32) -> DrainEnd
+    ensures { result ≡ end_of stop class }
+{
+    match stop {
+        Stop::DiskFault => DrainEnd::DiskFault(class),
+        Stop::Spent => DrainEnd::Spent,
+        Stop::NoMemory => DrainEnd::NoMemory,
+    }
+}
