@@ -1,0 +1,47 @@
+//! Answering a query.
+ghost use Rattle.std.specs.Prelude.{◌≡◌, ◌≤◌, All, IfOk};
+ghost use Rattle.render_plan.specs.Asked.{plan_seen};
+ghost use Rattle.render_plan.specs.Bounds.{AreRows};
+ghost use Rattle.render_plan.specs.declared.settings.Format.TheVariants.{Csv};
+ghost use Rattle.render_json.specs.Csv.{latest_csv_end};
+ghost use Rattle.series_set.specs.Series.{end_of};
+ghost use Rattle.render_answer.specs.Answer.{AnswersRows, body_of};
+
+use crate::answer::{Answer, Text};
+use crate::refusal::Refusal;
+use render_json::{csv_text, json_text, raw_text};
+use render_plan::{Format, RenderPlan};
+use series_set::{EvalFault, SeriesRows, SeriesSet};
+use std::alloc::{AllocError, Global};
+
+/// What a query is answered, of these rows: the series that its targets make of them, in its form, or why they have none together.
+pub fn answer_rows(
+    alloc: Global,
+    plan: &RenderPlan,
+    rows: &SeriesRows,
+) -> Result<Answer, AllocError>
+    requires { AreRows rows.now }
+    ensures { IfOk result (AnswersRows (plan_seen plan.now) rows.now) }
+{
+    match plan.evaluate(alloc, rows) {
+        Ok(set) => {
+            let text = text_of(alloc, plan.format(), &set)?;
+            Ok(Answer::Body(plan.format(), Text::new(text)))
+        }
+        Err(EvalFault::StepTooWide(step)) => Ok(Answer::Refused(Refusal::StepTooWide(step))),
+        Err(EvalFault::TooLong(count)) => Ok(Answer::Refused(Refusal::GridTooLong(count))),
+        Err(EvalFault::NoMemory) => Err(AllocError),
+    }
+}
+
+// Series in a form.
+fn text_of(alloc: Global, format: Format, set: &SeriesSet) -> Result<Vec<u8>, AllocError>
+    requires { format ≡ Csv → All (λ s. end_of s ≤ latest_csv_end) set.now }
+    ensures { IfOk result (λ text. text.items ≡ body_of format set.now) }
+{
+    match format {
+        Format::Json => json_text(alloc, set),
+        Format::Raw => raw_text(alloc, set),
+        Format::Csv => csv_text(alloc, set),
+    }
+}

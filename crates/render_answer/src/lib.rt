@@ -1,0 +1,13 @@
+//! What carbon answers to a query of Graphite's render API: the series that a state has, in the form that is asked, or the reason why not.
+#![tactic(auto)]
+
+mod answer;
+mod answering;
+mod refusal;
+
+pub use answer::{Answer, Text};
+pub use answering::answer_rows;
+pub use refusal::Refusal;
+
+#[cfg(test)]
+mod tests;

@@ -1,0 +1,3 @@
+mod ListLemmas
+mod OpeningLemmas
+pub mod StateLemmas

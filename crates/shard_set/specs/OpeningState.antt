@@ -1,0 +1,67 @@
+-- The state in which a run begins over shards that started.
+use Rattle.std.specs.Prelude.{◌≡◌, ℕ, List, [], ◌∷◌, Option, Some, None, option_and_then, option_map, slice_get}
+use Rattle.outside_io.specs.Image.{Image}
+use Rattle.outside_io.specs.declared.disk.Disk.{Ghosts}
+use Rattle.metric_path.specs.Class.{class_of}
+use Rattle.metric_path.specs.Path.{path_fault}
+use Rattle.schema_rules.specs.LayoutBy.{layout_by}
+use Rattle.drain_order.specs.declared.strategy.Strategy.TheVariants.{Naive}
+use Rattle.carbon_model.specs.RingFiles.{Settings, kept_on, of_legal}
+use Rattle.carbon_model.specs.State.{Kept, State, no_rings}
+use Rattle.shard_core.specs.Shard.{Holds}
+use Rattle.shard_core.specs.Table.{Table, kept_layout}
+use Rattle.shard_core.specs.View.{inside_of}
+use Rattle.shard_core.specs.declared.shard.Shard.{Shard}
+
+-- What is kept of a path: what the disk shows of it. Where the disk does not tell its image, it is
+-- the layout that the shard read of the file, and no values.
+abbrev pub kept_from : Option Image → Table → List ℕ → Option Kept
+kept_from (Some image) table path = kept_on image path
+kept_from None table path =
+    option_map (λ layout. record { layout = layout; rings = no_rings }) (kept_layout table path)
+
+abbrev pub kept_by : {D : Type 0} {d : Ghosts D} → Shard D d → List ℕ → Option Kept
+kept_by {D} {d} shard path = kept_from (d.image shard.disk) shard.table path
+
+-- What is fixed for the run: all shards have the same, and so the first has it.
+abbrev pub settings_in : {D : Type 0} {d : Ghosts D} → List (Shard D d) → Settings
+settings_in [] = record {
+  rules = layout_by (record { schemas = []; aggregations = [] });
+  limit = 0;
+  strategy = Naive;
+}
+settings_in (shard ∷ shards) = record {
+  rules = layout_by shard.rules;
+  limit = shard.cache.limit;
+  strategy = shard.picker.strategy;
+}
+
+-- The state in which a run begins over these shards: nothing is pending and nothing was drained. Of
+-- each path is kept what the shard of its class keeps, and of a text that is no path nothing.
+unfoldable pub opening_of : {D : Type 0} {d : Ghosts D} → List (Shard D d) → State
+opening_of shards = record {
+  pending = λ class. [];
+  queue = λ class. [];
+  kept = λ path. of_legal (path_fault path)
+      (option_and_then (λ shard. kept_by shard path) (slice_get shards (class_of path)));
+  drains = λ path. 0;
+  rules = (settings_in shards).rules;
+  limit = (settings_in shards).limit;
+  strategy = (settings_in shards).strategy;
+}
+
+-- The shard of this class stands for the part that the class has of a state, and writes no drain.
+-- So many calls of its disk have failed.
+pub record IsReadyShard {D : Type 0} {d : Ghosts D} (told : ℕ → Option Image) (start : State)
+    (earlier : ℕ → ℕ) (place : ℕ) (shard : Shard D d) : Type 0 where
+  pub class : shard.class ≡ place
+  pub empty : shard.shelf ≡ None
+  pub holds : Holds (told place) (inside_of shard) start
+  pub faults : earlier place ≡ d.faults shard.disk
+
+-- each shard does, at its place
+abbrev pub AreReadyShards : {D : Type 0} {d : Ghosts D} → (ℕ → Option Image) → State → (ℕ → ℕ)
+    → List (Shard D d) → Type 0
+AreReadyShards {D} {d} told start earlier shards =
+    (k : ℕ) (shard : Shard D d) → slice_get shards k ≡ Some shard
+    → IsReadyShard told start earlier k shard
