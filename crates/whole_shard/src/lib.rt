@@ -19,3 +19,6 @@ pub use opening::Refusal;
 pub use setup::Setup;
 pub use shard::Shard;
 pub use shards::{CLASSES, Shards};
+
+#[cfg(test)]
+mod drain_tests;
