@@ -86,6 +86,18 @@ pub record HasTooManyPoints (s : State) (now : ℕ) (needs : List Need) (count :
   pub all : value_count_all s now needs found ≡ count
   pub many : most_points < count
 
+-- The needs find no more series, and these no more values, than one question may have.
+pub record FindsFew (s : State) (now : ℕ) (needs : List Need) : Type 0 where
+  pub found : List (List (List ℕ))
+  pub finds : FindsAll s now needs found
+  pub few : series_count found ≤ most_series
+  pub short : value_count_all s now needs found ≤ most_points
+
+-- The metric is one that is read for a question: some need finds it, and what is found is within the limits.
+pub record IsReadFor (s : State) (now : ℕ) (needs : List Need) (path : List ℕ) : Type 0 where
+  pub found : IsFoundBy s now needs path
+  pub within : FindsFew s now needs
+
 -- ---- the rows
 
 -- the series has the start, the step and the values that are shown
@@ -98,11 +110,13 @@ pub record IsOf (shown : Series) (series : SeriesValue) : Type 0 where
 abbrev pub ShowsPending : LayoutValue → List (ℕ × ℤ) → Window → SeriesValue → Type 0
 ShowsPending layout points window series = (rings : Rings) × IsSomeAnd (series_in layout rings points window) (λ shown. IsOf shown series)
 
--- A series of a need shows what the state has of its metric, whose path is its name: the pending points over some archives, and over those that
--- are kept where the disk of the metric's class told at the opening what it held.
+-- A series of a need shows what the state has of its metric, whose path is its name: the pending points over some archives, over none where
+-- nothing is kept of it, and over those that are kept where the disk of its class told at the opening what it held.
 pub record IsShown (told : ℕ → Option Image) (s : State) (now : ℕ) (need : Need) (series : SeriesValue) : Type 0 where
   pub named : series.name ≡ series.path
   pub pending : ShowsPending (layout_of s series.path) (points_in s series.path) (window_of s now need series.path) series
+  pub bare : s.kept series.path ≡ None
+      → IsSomeAnd (series_at s series.path now need.from need.until) (λ shown. IsOf shown series)
   pub kept : IfSome (told (class_of series.path))
       (λ opening. IsSomeAnd (series_at s series.path now need.from need.until) (λ shown. IsOf shown series))
 

@@ -149,7 +149,7 @@ module _ (table : TableId) (told : ℕ → Option Image) (start : State) (faults
   cap_one : (class count failed later : ℕ) → capped (faults class + count) ≤ failed → Rose failed later → capped (faults class + (count + 1)) ≤ later
   cap_one class count failed later le rose = omega (arith, le, rose)
 
-  keeps_fault : (old new : Inside) (failed later pass : ℕ) (tail : TailValue) → KeepsClass table told start faults old failed tail
+  pub keeps_fault : (old new : Inside) (failed later pass : ℕ) (tail : TailValue) → KeepsClass table told start faults old failed tail
       → new.class ≡ old.class → new.shelf ≡ old.shelf → Holds (told old.class) new (replay start tail.list) → Rose failed later
       → KeepsClass table told start faults new later (tail_with tail (entry.Fault pass tail.class))
   keeps_fault old new failed later pass tail keeps class shelf holds rose =

@@ -6,3 +6,9 @@ mod LookLemmas
 mod PutLemmas
 mod StartLemmas
 mod CloseLemmas
+mod AskPassLemmas
+mod AskStateLemmas
+mod AskFoundLemmas
+mod AskChainLemmas
+mod AskReadLemmas
+mod AskSeriesLemmas

@@ -7,3 +7,5 @@ pub mod Desks
 pub mod Starts
 pub mod Closes
 pub mod Drains
+pub mod Asks
+pub mod Asking

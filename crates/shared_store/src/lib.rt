@@ -2,20 +2,28 @@
 //! and ask, and each of them sees one history.
 #![tactic(auto)]
 
+mod ask_fault;
+mod asking;
+mod class_asking;
 mod class_desk;
 mod close;
 mod drain_end;
 mod draining;
 mod events;
+mod finding;
+mod found_set;
 mod laws;
 mod named;
 mod order_desk;
+mod reading;
 mod runs;
 mod start;
 mod step;
 mod store;
 mod tally;
+mod try_end;
 
+pub use ask_fault::AskFault;
 pub use close::Closed;
 pub use drain_end::DrainEnd;
 pub use laws::a_started_shard_is_fresh;

@@ -1,0 +1,205 @@
+-- How the reads of a question end.
+use Rattle.std.proofs.Common.{◌≡◌, ◌≢◌, ◌⊎◌, inl, inr, ◌∙◌, ℕ, ℤ, zero, suc, ◌<◌, ◌≤◌, ◌+◌, ◌-◌, ◌*◌, ◌/◌, ◌^◌, List, [], ◌∷◌, ◌++◌, length, Option, Some, None, refl, sym, ap, subst, arith, take, get_or, slice_get}
+use Rattle.std.specs.Prelude.{All, Contains, IfOk, IfSome, IsErrAnd, IsOk, Result, Ok, Err, slice_index_or}
+use Rattle.std.specs.Option.{option_map_or}
+use Rattle.outside_io.specs.Image.{Image}
+use Rattle.metric_path.specs.Class.{class_of}
+use Rattle.ring_format.specs.Layout.{LayoutValue}
+use Rattle.ring_format.specs.declared.archive.Archive.{Archive}
+use Rattle.archive_update.specs.Batch.{step_of}
+use Rattle.series_fetch.specs.declared.range.Window.{Window}
+use Rattle.series_fetch.specs.declared.range.Window.TheVariants.{Empty, Range}
+use Rattle.series_fetch.specs.Window.{HasBuckets, IsWindow}
+use Rattle.carbon_history.specs.declared.entry.Entry.{Entry}
+use Rattle.carbon_model.specs.State.{State}
+use Rattle.carbon_model.specs.Replay.{replay}
+use Rattle.render_plan.specs.declared.need.Need.{Need}
+use Rattle.render_plan.specs.Bounds.{AreRows, IsEarly, latest_row_end}
+use Rattle.render_plan.specs.Values.{Rows}
+use Rattle.render_answer.specs.Rows.{IsReadFor, most_points}
+use Rattle.series_funcs.specs.Combined.{most_series}
+use Rattle.series_set.specs.Series.{SeriesValue}
+use Rattle.shard_core.specs.Looks.{looked_paths}
+use Rattle.shard_core.specs.declared.looked.Looked.{Looked}
+use Rattle.shard_core.specs.declared.looked.LookFault.{LookFault}
+use Rattle.shard_core.specs.declared.looked.LookFault.TheVariants as look
+use Rattle.shared_history.specs.Parts.{PassValue}
+use Rattle.shared_store.specs.declared.ask_fault.AskFault.{AskFault}
+use Rattle.shared_store.specs.declared.ask_fault.AskFault.TheVariants.{DiskFault, TooManySeries, TooManyPoints, NoMemory}
+use Rattle.shared_store.specs.declared.try_end.TryEnd.{TryEnd}
+use Rattle.shared_store.specs.declared.try_end.TryEnd.TheVariants.{Moved, Ended}
+use Rattle.std.specs.declared.sync.MutexGuard.{MutexGuard}
+use Rattle.shared_store.specs.Desks.{DeskValue}
+use Rattle.shared_store.specs.Asking.{AnswersTry, AreDesksOf, Counts, EndsAs, HasMovedOn, HasNotMoved, IsHeld, IsLookAt, IsNoMove, IsSeriesAt, IsSeriesOf, IsShortLook, IsWithin, KeepsDesks, OnlyLooks, Pairwise, ReadsAll, ReadsAt, ReadsOne, ReadsSet, ReadsWell, ShowsAt, Stops, all_buckets, all_series}
+use Rattle.shared_store.proofs.AskFoundLemmas.{FoundOf, are_rows, finds_few, found_within, has_rows, pairwise_more, path_in, too_many_points, too_many_series}
+use Rattle.shared_store.proofs.AskPassLemmas.{fault_behind, only_both}
+
+-- ---- early ends
+
+module _ (start : State) (passes : ℕ) where
+  pub stops_behind : (within : List ℕ → Type 0) (end : TryEnd) (old mid new : PassValue) → OnlyLooks old mid → Stops within start passes end mid new → Stops within start passes end old new
+  stops_behind within Moved old mid new only stops = (only_both old mid new only stops.0, stops.1)
+  stops_behind within (Ended (DiskFault class)) old mid new only stops =
+      record { path = stops.path; one = stops.one; here = stops.here; fault = fault_behind start passes class old mid new only stops.fault }
+  stops_behind within (Ended NoMemory) old mid new only stops = only_both old mid new only stops
+  stops_behind within (Ended (TooManySeries count)) old mid new only stops = stops
+  stops_behind within (Ended (TooManyPoints count)) old mid new only stops = stops
+
+  pub stops_for : (within among : List ℕ → Type 0) → ((path : List ℕ) → within path → among path) → (end : TryEnd) (old new : PassValue) → Stops within start passes end old new
+      → Stops among start passes end old new
+  stops_for within among more Moved old new stops = (stops.0, record { path = stops.1.path; one = more stops.1.path stops.1.one; was = stops.1.was })
+  stops_for within among more (Ended (DiskFault class)) old new stops =
+      record { path = stops.path; one = more stops.path stops.one; here = stops.here; fault = stops.fault }
+  stops_for within among more (Ended NoMemory) old new stops = stops
+  stops_for within among more (Ended (TooManySeries count)) old new stops = stops
+  stops_for within among more (Ended (TooManyPoints count)) old new stops = stops
+
+-- ---- one read
+
+module _ (class : ℕ) where
+  pub no_move : (read : Result (List (Option ℤ)) LookFault) (result : Result (List (Option ℤ)) TryEnd) → EndsAs class read result → HasNotMoved read → IsNoMove result
+  no_move (Ok values) result is not = subst (λ (r : Result (List (Option ℤ)) TryEnd). IsNoMove r) (sym is) tt
+  no_move (Err (look.Moved drains)) result is not = absurd not
+  no_move (Err look.DiskFault) result is not = subst (λ (r : Result (List (Option ℤ)) TryEnd). IsNoMove r) (sym is) tt
+  no_move (Err look.NoMemory) result is not = subst (λ (r : Result (List (Option ℤ)) TryEnd). IsNoMove r) (sym is) tt
+
+  pub if_well : (P : Type 0) (read : Result (List (Option ℤ)) LookFault) (result : Result (List (Option ℤ)) TryEnd) → EndsAs class read result → (ReadsWell read → P)
+      → IfOk result (λ values. P)
+  if_well P (Ok values) result is well = subst (λ (r : Result (List (Option ℤ)) TryEnd). IfOk r (λ v. P)) (sym is) (well tt)
+  if_well P (Err (look.Moved drains)) result is well = subst (λ (r : Result (List (Option ℤ)) TryEnd). IfOk r (λ v. P)) (sym is) tt
+  if_well P (Err look.DiskFault) result is well = subst (λ (r : Result (List (Option ℤ)) TryEnd). IfOk r (λ v. P)) (sym is) tt
+  if_well P (Err look.NoMemory) result is well = subst (λ (r : Result (List (Option ℤ)) TryEnd). IfOk r (λ v. P)) (sym is) tt
+
+pub ok_any : {A E : Type 0} (P : Type 0) (r : Result A E) → P → IfOk r (λ x. P)
+ok_any P (Ok x) p = p
+ok_any P (Err e) p = tt
+
+pub reads_one : (start : State) (told : ℕ → Option Image) (passes : ℕ) (looked : Looked) (read : Result (List (Option ℤ)) LookFault) (result : Result (List (Option ℤ)) TryEnd) (old new : PassValue)
+    → EndsAs (class_of looked.path) read result → ReadsAt start told passes looked read old new → ReadsOne start told passes looked result old new
+reads_one start told passes looked (Ok values) result old new is reads = subst (λ (r : Result (List (Option ℤ)) TryEnd). ReadsOne start told passes looked r old new) (sym is) reads
+reads_one start told passes looked (Err (look.Moved drains)) result old new is reads =
+    subst (λ (r : Result (List (Option ℤ)) TryEnd). ReadsOne start told passes looked r old new) (sym is) (reads.0, record { path = looked.path; one = refl; was = reads.1 })
+reads_one start told passes looked (Err look.DiskFault) result old new is reads =
+    subst (λ (r : Result (List (Option ℤ)) TryEnd). ReadsOne start told passes looked r old new) (sym is) (record { path = looked.path; one = refl; here = refl; fault = reads })
+reads_one start told passes looked (Err look.NoMemory) result old new is reads =
+    subst (λ (r : Result (List (Option ℤ)) TryEnd). ReadsOne start told passes looked r old new) (sym is) reads
+
+-- ---- a series
+
+pub series_at_look : (told : ℕ → Option Image) (s : State) (looked : Looked) (values : List (Option ℤ)) (series : SeriesValue) → ShowsAt told s looked values → IsSeriesOf looked values series
+    → IsSeriesAt told s looked series
+series_at_look told s looked values series shows of = record {
+  path = of.path;
+  named = of.named;
+  grid = of.grid;
+  values = subst (λ (v : List (Option ℤ)). ShowsAt told s looked v) (sym of.values) shows;
+  count = of.count;
+  early = of.early;
+}
+
+-- ---- several reads
+
+module _ (start : State) (told : ℕ → Option Image) (passes : ℕ) where
+  -- the read of one metric of those that a need found
+  pub set_stops : (found : List Looked) (looked : Looked) (end : TryEnd) (old mid new : PassValue) → Contains found looked → OnlyLooks old mid
+      → Stops (λ path. looked.path ≡ path) start passes end mid new → Stops (Contains (looked_paths found)) start passes end old new
+  set_stops found looked end old mid new there only stops =
+      stops_behind start passes (Contains (looked_paths found)) end old mid new only
+      (stops_for start passes (λ path. looked.path ≡ path) (Contains (looked_paths found))
+      (λ path same. subst (λ (p : List ℕ). Contains (looked_paths found) p) same (path_in found looked there)) end mid new stops)
+
+  pub set_more : (taken : List Looked) (set : List SeriesValue) (looked : Looked) (values : List (Option ℤ)) (series : SeriesValue) (old mid : PassValue) → OnlyLooks old mid
+      → Pairwise (IsSeriesAt told (replay start old.seen)) taken set → ShowsAt told (replay start mid.seen) looked values → IsSeriesOf looked values series
+      → Pairwise (IsSeriesAt told (replay start old.seen)) (taken ++ looked ∷ []) (set ++ series ∷ [])
+  set_more taken set looked values series old mid only pairs shows of =
+      pairwise_more (IsSeriesAt told (replay start old.seen)) taken set looked series pairs
+      (series_at_look told (replay start old.seen) looked values series (subst (λ (l : List Entry). ShowsAt told (replay start l) looked values) only.seen shows) of)
+
+  -- the reads of one need of all
+  pub all_stops : (sets : List (List Looked)) (set : List Looked) (end : TryEnd) (old mid new : PassValue) → Contains sets set → OnlyLooks old mid
+      → Stops (Contains (looked_paths set)) start passes end mid new → Stops (IsWithin sets) start passes end old new
+  all_stops sets set end old mid new there only stops =
+      stops_behind start passes (IsWithin sets) end old mid new only
+      (stops_for start passes (Contains (looked_paths set)) (IsWithin sets) (λ path one. record { set = set; there = there; one = one }) end mid new stops)
+
+  pub rows_more : (taken : List (List Looked)) (rows : Rows) (set : List Looked) (row : List SeriesValue) (old mid : PassValue) → OnlyLooks old mid
+      → Pairwise (Pairwise (IsSeriesAt told (replay start old.seen))) taken rows → Pairwise (IsSeriesAt told (replay start mid.seen)) set row
+      → Pairwise (Pairwise (IsSeriesAt told (replay start old.seen))) (taken ++ set ∷ []) (rows ++ row ∷ [])
+  rows_more taken rows set row old mid only pairs reads =
+      pairwise_more (Pairwise (IsSeriesAt told (replay start old.seen))) taken rows set row pairs
+      (subst (λ (l : List Entry). Pairwise (IsSeriesAt told (replay start l)) set row) only.seen reads)
+
+  pub set_fails : (found : List Looked) (looked : Looked) (result : Result (List SeriesValue) TryEnd) (end : TryEnd) (old mid new : PassValue) → IsErrAnd result (λ e. e ≡ end)
+      → Contains found looked → OnlyLooks old mid → Stops (λ path. looked.path ≡ path) start passes end mid new → ReadsSet start told passes found result old new
+  set_fails found looked (Ok set) end old mid new is there only stops = absurd is
+  set_fails found looked (Err e) end old mid new is there only stops =
+      subst (λ (x : TryEnd). Stops (Contains (looked_paths found)) start passes x old new) (sym is) (set_stops found looked end old mid new there only stops)
+
+  pub all_fails : (sets : List (List Looked)) (set : List Looked) (result : Result Rows TryEnd) (end : TryEnd) (old mid new : PassValue) → IsErrAnd result (λ e. e ≡ end)
+      → Contains sets set → OnlyLooks old mid → Stops (Contains (looked_paths set)) start passes end mid new → ReadsAll start told passes sets result old new
+  all_fails sets set (Ok rows) end old mid new is there only stops = absurd is
+  all_fails sets set (Err e) end old mid new is there only stops =
+      subst (λ (x : TryEnd). Stops (IsWithin sets) start passes x old new) (sym is) (all_stops sets set end old mid new there only stops)
+
+  -- no memory
+  pub set_ends : (found : List Looked) (result : Result (List SeriesValue) TryEnd) (old new : PassValue) → IsErrAnd result (λ end. end ≡ Ended NoMemory) → OnlyLooks old new
+      → ReadsSet start told passes found result old new
+  set_ends found (Ok set) old new is only = absurd is
+  set_ends found (Err end) old new is only = subst (λ (e : TryEnd). Stops (Contains (looked_paths found)) start passes e old new) (sym is) only
+
+  pub all_ends : (sets : List (List Looked)) (result : Result Rows TryEnd) (old new : PassValue) → IsErrAnd result (λ end. end ≡ Ended NoMemory) → OnlyLooks old new
+      → ReadsAll start told passes sets result old new
+  all_ends sets (Ok rows) old new is only = absurd is
+  all_ends sets (Err end) old new is only = subst (λ (e : TryEnd). Stops (IsWithin sets) start passes e old new) (sym is) only
+
+-- the looks are as they were where the pass saw no more
+pub looks_still : (start : State) (looked : Looked) (old mid : PassValue) → OnlyLooks old mid → IsLookAt (replay start old.seen) looked → IsLookAt (replay start mid.seen) looked
+looks_still start looked old mid only look = subst (λ (l : List Entry). IsLookAt (replay start l) looked) (sym only.seen) look
+
+pub short_still : (start : State) (found : List Looked) (old mid : PassValue) → OnlyLooks old mid → All (IsShortLook (replay start old.seen)) found
+    → All (IsShortLook (replay start mid.seen)) found
+short_still start found old mid only looks = subst (λ (l : List Entry). All (IsShortLook (replay start l)) found) (sym only.seen) looks
+
+held_still : (n m : ℕ) → n ≡ m → (m ≡ 0) ⊎ (m ≡ 16) → (n ≡ 0) ⊎ (n ≡ 16)
+held_still n m e (inl none) = inl (e ∙ none)
+held_still n m e (inr all) = inr (e ∙ all)
+
+pub is_still_held : (old mid : PassValue) (before now : List (MutexGuard DeskValue)) → OnlyLooks old mid → IsHeld old.seen before → KeepsDesks old.seen before now → IsHeld mid.seen now
+is_still_held old mid before now only held keeps =
+    subst (λ (l : List Entry). IsHeld l now) (sym only.seen) (keeps.0, held_still (length now) (length before) keeps.1 held.1)
+
+pub keeps_both : (old mid : PassValue) (first before now : List (MutexGuard DeskValue)) → OnlyLooks old mid → KeepsDesks old.seen first before → KeepsDesks mid.seen before now
+    → KeepsDesks old.seen first now
+keeps_both old mid first before now only p q = (subst (λ (l : List Entry). AreDesksOf l now) only.seen q.0, q.1 ∙ p.1)
+
+-- ---- the answer of a try
+
+module _ (start : State) (told : ℕ → Option Image) (passes now : ℕ) (needs : List Need) (sets : List (List Looked)) (old new : PassValue)
+    (found : Pairwise (FoundOf (replay start old.seen) now) needs sets) where
+  pub answers_counts : (fault : AskFault) → Counts sets (Err fault) → OnlyLooks old old → AnswersTry start told passes now needs (Err (Ended fault)) old old
+  answers_counts (DiskFault class) counts only = absurd counts
+  answers_counts (TooManySeries count) counts only = (only, too_many_series (replay start old.seen) now needs sets count found counts.0 counts.1)
+  answers_counts (TooManyPoints count) counts only = (only, too_many_points (replay start old.seen) now needs sets count found counts.0 counts.1.0 counts.1.1)
+  answers_counts NoMemory counts only = only
+
+  read_for : all_series sets ≤ most_series → all_buckets sets ≤ most_points → (path : List ℕ) → IsWithin sets path → IsReadFor (replay start old.seen) now needs path
+  read_for few short path within = record {
+    found = found_within (replay start old.seen) now needs sets path found within;
+    within = finds_few (replay start old.seen) now needs sets found few short;
+  }
+
+  pub answers_reads : (result : Result Rows TryEnd) → all_series sets ≤ most_series → all_buckets sets ≤ most_points → ReadsAll start told passes sets result old new
+      → AnswersTry start told passes now needs result old new
+  answers_reads (Ok rows) few short reads = (reads.0, has_rows told (replay start old.seen) now needs sets rows found few short reads.1)
+  answers_reads (Err Moved) few short reads =
+      stops_for start passes (IsWithin sets) (IsReadFor (replay start old.seen) now needs) (read_for few short) Moved old new reads
+  answers_reads (Err (Ended (DiskFault class))) few short reads =
+      stops_for start passes (IsWithin sets) (IsReadFor (replay start old.seen) now needs) (read_for few short) (Ended (DiskFault class)) old new reads
+  answers_reads (Err (Ended NoMemory)) few short reads = reads
+  answers_reads (Err (Ended (TooManySeries count))) few short reads = absurd reads
+  answers_reads (Err (Ended (TooManyPoints count))) few short reads = absurd reads
+
+pub rows_reads : (start : State) (told : ℕ → Option Image) (passes : ℕ) (sets : List (List Looked)) (old new : PassValue) (result : Result Rows TryEnd) → all_series sets ≤ most_series
+    → ReadsAll start told passes sets result old new → IfOk result AreRows
+rows_reads start told passes sets old new (Ok rows) few reads = are_rows told (replay start old.seen) sets rows few reads.1
+rows_reads start told passes sets old new (Err end) few reads = tt

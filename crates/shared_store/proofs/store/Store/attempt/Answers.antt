@@ -1,0 +1,23 @@
+use Rattle.std.proofs.Common.{rules, ◌≡◌, ◌≢◌, ◌∙◌, ℕ, ◌+◌, ◌<◌, ◌≤◌, List, ◌++◌, ◌∷◌, [], length, length-append, take, sym, ap, subst, arith}
+use Rattle.carbon_history.specs.declared.entry.Entry.{Entry}
+use Rattle.shared_history.specs.Events.{ask_by}
+use Rattle.shared_history.specs.Parts.{own_entries}
+use Rattle.shared_store.proofs.AskChainLemmas.{looks_answered, try_answered}
+use Rattle.shared_store.proofs.store.Store.attempt.Goals as goal
+
+pub answer-requires-clause-room : goal.answer-requires-clause-room
+answer-requires-clause-room g c =
+    let entry : Entry = ask_by c.args.pass.now c.args.attempt c.args.now in
+    omega (arith, c.requires.room, ap length c.enter_try.ensures.enters.enters.once, length-append (own_entries c.args.pass.now) (entry ∷ []))
+
+pub returns-clause-tries : goal.returns-clause-tries
+returns-clause-tries g c =
+    let n = g.N.Named in
+    try_answered n.start n.told n.passes c.args.now c.args.needs.now c.args.attempt c.answer.result c.args.pass.now c.enter_try.new.pass c.answer.new.pass
+    c.enter_try.ensures.enters c.answer.ensures.answers c.answer.ensures.still
+
+pub returns-clause-looks : goal.returns-clause-looks
+returns-clause-looks g c =
+    let n = g.N.Named in
+    looks_answered n.start n.told n.passes c.args.now c.args.needs.now c.args.attempt c.answer.result c.args.pass.now c.enter_try.new.pass c.answer.new.pass
+    c.enter_try.ensures.enters.on c.answer.ensures.answers

@@ -1,0 +1,228 @@
+//! Questions.
+ghost use Rattle.std.specs.Prelude.{◌≡◌, ◌<◌, ◌≤◌, List, vec_len};
+ghost use Rattle.carbon_history.specs.declared.entry.Entry.{Entry};
+ghost use Rattle.shared_store.specs.Asking.{AreDesksOf, IsHeld};
+
+use crate::ask_fault::AskFault;
+use crate::class_desk::ClassDesk;
+use crate::finding::{count_all, find_all, put_in_order};
+use crate::named::Named;
+use crate::order_desk::OrderDesk;
+use crate::store::Store;
+use crate::try_end::TryEnd;
+use outside_io::Disk;
+use render_plan::Need;
+use series_set::SeriesRows;
+use shared_history::Pass;
+use std::alloc::{AllocError, Global};
+use std::sync::{MutexGuard, Wait};
+
+impl<D: Disk, N: Named> Store<D, N> {
+    ghost use Rattle.std.specs.Prelude.{◌≡◌, ◌≤◌, ◌+◌, ◌^◌, All, IfOk, length, vec_len};
+    ghost use Rattle.render_plan.specs.Bounds.{AreRows};
+    ghost use Rattle.render_plan.specs.Needed.{AreEnds};
+    ghost use Rattle.shared_history.specs.Events.{MayAsk, ask_by};
+    ghost use Rattle.shared_history.specs.Parts.{own_entries};
+    ghost use Rattle.shared_store.specs.Asking.{AnswersTry, AreDesks, AreDesksOf, EntersBehind, EntersTries, IsNoMove, MarksAll, TriesTo};
+    ghost use Rattle.shared_store.specs.Asks.{Asks};
+    ghost use Rattle.shared_store.specs.Passes.{HasRoom, LooksOn};
+
+    // The locks of all classes, taken in order.
+    fn lock_all<'a>(
+        &'a self,
+        rt: &impl Wait,
+        alloc: Global,
+    ) -> Result<Vec<MutexGuard<'a, ClassDesk<D, N>>>, AllocError>
+        ensures sixteen { IfOk result (λ desks. vec_len desks ≡ 16) }
+        ensures desks { IfOk result (λ desks. AreDesks desks.items) }
+    {
+        let mut desks = Vec::with_capacity(alloc, 16)?;
+        for class in 0..16 {
+            desks.push(self.lock_class(rt, class))?;
+        }
+        Ok(desks)
+    }
+
+    // The entries of all classes are those that the history has about them.
+    fn agree_all(desks: &mut Vec<MutexGuard<'_, ClassDesk<D, N>>>, order: &mut OrderDesk<N>)
+        requires sixteen { vec_len desks.old ≡ 16 }
+        requires desks { AreDesks desks.old.items }
+        ensures desks { AreDesksOf order.old desks.new.items }
+        ensures sixteen { vec_len desks.new ≡ 16 }
+        ensures order { order.new ≡ order.old }
+    {
+        for i in 0..desks.len() {
+            let desk = &mut desks[i];
+            desk.agree(order);
+        }
+    }
+
+    #[tactic(auto, using(crate::proofs::AskPassLemmas::only_itself))]
+    // The pass looks at all classes.
+    fn mark_all(desks: &mut Vec<MutexGuard<'_, ClassDesk<D, N>>>, pass: &mut Pass)
+        requires sixteen { vec_len desks.old ≡ 16 }
+        requires desks { AreDesksOf pass.old.seen desks.old.items }
+        requires one { pass.old.table ≡ N.table }
+        ensures marks { MarksAll pass.old.seen pass.old pass.new }
+        ensures desks { AreDesksOf pass.old.seen desks.new.items }
+        ensures sixteen { vec_len desks.new ≡ 16 }
+    {
+        for i in 0..desks.len() {
+            let desk = &mut desks[i];
+            desk.mark(pass);
+        }
+    }
+
+    // Enters a try under the lock of the order.
+    fn enter_behind(
+        &self,
+        rt: &impl Wait,
+        desks: &mut Vec<MutexGuard<'_, ClassDesk<D, N>>>,
+        pass: &mut Pass,
+        attempt: u32,
+        now: u32,
+    )
+        requires sixteen { vec_len desks.old ≡ 16 }
+        requires desks { AreDesks desks.old.items }
+        requires one { pass.old.table ≡ N.table }
+        requires may { MayAsk pass.old attempt }
+        ensures enters { EntersBehind N.start N.passes (ask_by pass.old attempt now)
+            pass.old pass.new }
+        ensures desks { AreDesksOf pass.new.seen desks.new.items }
+        ensures sixteen { vec_len desks.new ≡ 16 }
+    {
+        let mut guard = self.order.lock(rt);
+        let order = &mut *guard;
+        Self::agree_all(desks, order);
+        order.enter_try(pass, attempt, now);
+    }
+
+    // Enters a try, where the locks of all classes are held. The order is free before the pass looks at the classes.
+    fn enter_try(
+        &self,
+        rt: &impl Wait,
+        desks: &mut Vec<MutexGuard<'_, ClassDesk<D, N>>>,
+        pass: &mut Pass,
+        attempt: u32,
+        now: u32,
+    )
+        requires sixteen { vec_len desks.old ≡ 16 }
+        requires desks { AreDesks desks.old.items }
+        requires one { pass.old.table ≡ N.table }
+        requires may { MayAsk pass.old attempt }
+        ensures enters { EntersTries N.start N.passes now attempt pass.old pass.new }
+        ensures desks { AreDesksOf pass.new.seen desks.new.items }
+        ensures sixteen { vec_len desks.new ≡ 16 }
+    {
+        self.enter_behind(rt, desks, pass, attempt, now);
+        Self::mark_all(desks, pass);
+    }
+
+    #[tactic(auto, using(crate::proofs::AskPassLemmas::only_itself))]
+    // What was found when a try was entered. All locks are given back before it is put in order and read, but at a third try.
+    fn answer(
+        &self,
+        rt: &impl Wait,
+        alloc: Global,
+        desks: Vec<MutexGuard<'_, ClassDesk<D, N>>>,
+        pass: &mut Pass,
+        needs: &[Need],
+        now: u32,
+        attempt: u32,
+    ) -> Result<SeriesRows, TryEnd>
+        requires sixteen { vec_len desks ≡ 16 }
+        requires desks { AreDesksOf pass.old.seen desks.items }
+        requires one { pass.old.table ≡ N.table }
+        requires room { length (own_entries pass.old) + 1 ≤ 2 ^ 48 }
+        requires needs { All AreEnds needs.now }
+        requires now { now ≤ 4_000_000_000 }
+        ensures answers { AnswersTry N.start N.told N.passes now needs.now result pass.old pass.new }
+        ensures rows { IfOk result AreRows }
+        ensures still { 3 ≤ attempt → IsNoMove result }
+    {
+        let found = find_all(alloc, desks.as_slice(), needs, now)?;
+        let mut held = held_in(alloc, desks, attempt);
+        let found = put_in_order(alloc, found)?;
+        match count_all(found.as_slice()) {
+            Ok(()) => {}
+            Err(fault) => return Err(TryEnd::Ended(fault)),
+        }
+        self.read_all(rt, alloc, &mut held, pass, found.as_slice())
+    }
+
+    #[tactic(auto, using(crate::proofs::AskPassLemmas::on_same))]
+    // One try of a question.
+    fn attempt(
+        &self,
+        rt: &impl Wait,
+        alloc: Global,
+        pass: &mut Pass,
+        needs: &[Need],
+        now: u32,
+        attempt: u32,
+    ) -> Result<SeriesRows, TryEnd>
+        requires one { pass.old.table ≡ N.table }
+        requires may { MayAsk pass.old attempt }
+        requires room { length (own_entries pass.old) + 2 ≤ 2 ^ 48 }
+        requires needs { All AreEnds needs.now }
+        requires now { now ≤ 4_000_000_000 }
+        ensures tries { TriesTo N.start N.told N.passes now needs.now attempt result pass.old pass.new }
+        ensures rows { IfOk result AreRows }
+        ensures looks { LooksOn pass.old pass.new }
+    {
+        let Ok(mut desks) = self.lock_all(rt, alloc) else {
+            self.order.lock(rt).see_all(pass);
+            return Err(TryEnd::Ended(AskFault::NoMemory));
+        };
+        self.enter_try(rt, &mut desks, pass, attempt, now);
+        self.answer(rt, alloc, desks, pass, needs, now, attempt)
+    }
+
+    /// The series that these needs find at the moment `now`: a list for each need, in byte order of the paths, all as they are at one moment of the
+    /// history, which is the entry of the question's last try. No lock is held while series are read, but at a third try.
+    ///
+    /// # Errors
+    ///
+    /// What is found is counted at the same moment. A disk that fails while series are read is entered, and ends the question.
+    pub fn ask(
+        &self,
+        rt: &impl Wait,
+        alloc: Global,
+        pass: &mut Pass,
+        needs: &[Need],
+        now: u32,
+    ) -> Result<SeriesRows, AskFault>
+        requires one { pass.old.table ≡ N.table }
+        requires room { HasRoom pass.old }
+        requires needs { All AreEnds needs.now }
+        requires now { now ≤ 4_000_000_000 }
+        ensures asks { Asks N.start N.told N.passes now needs.now result pass.old pass.new }
+        ensures rows { IfOk result AreRows }
+        ensures looks { LooksOn pass.old pass.new }
+    {
+        for again in 0..3 {
+            match self.attempt(rt, alloc, pass, needs, now, again + 1) {
+                Ok(rows) => return Ok(rows),
+                Err(TryEnd::Ended(fault)) => return Err(fault),
+                Err(TryEnd::Moved) => {}
+            }
+        }
+        unreachable!()
+    }
+}
+
+// The locks that are held through the reads of a try: all at a third one, and else none.
+fn held_in<'a, D: Disk, N: Named>(
+    alloc: Global,
+    desks: Vec<MutexGuard<'a, ClassDesk<D, N>>>,
+    attempt: u32,
+) -> Vec<MutexGuard<'a, ClassDesk<D, N>>>
+    requires sixteen { vec_len desks ≡ 16 }
+    ensures held { (list : List Entry) → AreDesksOf list desks.entry.items → IsHeld list result.items }
+    ensures all { 3 ≤ attempt → 0 < vec_len result }
+{
+    if attempt < 3 {
+        return Vec::new(alloc);
+    }
+    desks
+}

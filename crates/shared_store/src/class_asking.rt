@@ -1,0 +1,109 @@
+//! What a question does under the lock of a class, and under that of the order.
+use crate::class_desk::ClassDesk;
+use crate::named::Named;
+use crate::order_desk::OrderDesk;
+use carbon_model::Values;
+use outside_io::Disk;
+use render_plan::Need;
+use shard_core::{LookFault, Looked};
+use shared_history::{Event, Pass, agree, enter_ask, mark, see};
+use std::alloc::AllocError;
+use std::sync::{Mutex, Wait};
+
+impl<D: Disk, N: Named> ClassDesk<D, N> {
+    ghost use Rattle.std.specs.Prelude.{◌≡◌, ◌≤◌, ◌+◌, ◌^◌, All, IfOk, length};
+    ghost use Rattle.metric_path.specs.Class.{class_of};
+    ghost use Rattle.metric_index.specs.Found.{IsFitted};
+    ghost use Rattle.carbon_history.specs.Entries.{about_class};
+    ghost use Rattle.carbon_model.specs.Replay.{replay};
+    ghost use Rattle.render_plan.specs.Needed.{AreEnds};
+    ghost use Rattle.shard_core.specs.Looks.{Looks};
+    ghost use Rattle.shared_history.specs.Parts.{own_entries};
+    ghost use Rattle.shared_store.specs.Asking.{HasNotMoved, IsLookAt, IsReadable, MarksClass, ReadsAt, ReadsWell};
+
+    /// The entries of the class are those that the history has about it. Nothing changes.
+    pub(crate) fn agree(&mut self, order: &mut OrderDesk<N>)
+        ensures agree { self.old.list ≡ about_class self.old.class order.old }
+        ensures desk { self.new ≡ self.old }
+        ensures order { order.new ≡ order.old }
+    {
+        agree(&mut order.order, &mut self.tail);
+    }
+
+    /// The pass looks at the class.
+    pub(crate) fn mark(&mut self, pass: &mut Pass)
+        requires one { pass.old.table ≡ N.table }
+        ensures marks { MarksClass self.old.class self.old.list pass.old pass.new }
+        ensures desk { self.new ≡ self.old }
+    {
+        mark(&mut self.tail, pass);
+    }
+
+    /// The metrics of the class that a need finds, in byte order of their paths. The disk is not read.
+    pub(crate) fn look(&self, need: &Need, now: u32) -> Result<Vec<Looked>, AllocError>
+        requires ends { AreEnds need.now }
+        requires now { now ≤ 4_000_000_000 }
+        ensures looks { IfOk result (λ looked. Looks self.now.class (replay N.start self.now.list)
+            (IsFitted need.now.glob) now need.now.from need.now.until looked.items) }
+        ensures readable { IfOk result (λ looked. All IsReadable looked.items) }
+    {
+        self.shard
+            .look(&need.glob, need.from, need.until, u64::from(now))
+    }
+
+    /// Reads a metric of the class that was looked at when the pass had seen what it sees now. A disk that fails is entered.
+    pub(crate) fn read(
+        &mut self,
+        rt: &impl Wait,
+        order: &Mutex<OrderDesk<N>>,
+        pass: &mut Pass,
+        looked: &Looked,
+    ) -> Result<Values, LookFault>
+        requires here { class_of looked.now.path ≡ self.old.class }
+        requires one { pass.old.table ≡ N.table }
+        requires room { length (own_entries pass.old) + 1 ≤ 2 ^ 48 }
+        requires look { IsLookAt (replay N.start pass.old.seen) looked.now }
+        ensures reads { ReadsAt N.start N.told N.passes looked.now result pass.old pass.new }
+        ensures still { self.old.list ≡ about_class self.old.class pass.old.seen
+            → HasNotMoved result }
+        ensures list { ReadsWell result → self.new.list ≡ self.old.list }
+        ensures class { self.new.class ≡ self.old.class }
+    {
+        mark(&mut self.tail, pass);
+        match self.shard.read(looked) {
+            Ok(values) => return Ok(values),
+            Err(LookFault::Moved(drains)) => return Err(LookFault::Moved(drains)),
+            Err(LookFault::NoMemory) => return Err(LookFault::NoMemory),
+            Err(LookFault::DiskFault) => {}
+        }
+        order
+            .lock(rt)
+            .tell(pass, &mut self.tail, Some(Event::Fault));
+        Err(LookFault::DiskFault)
+    }
+}
+
+impl<N: Named> OrderDesk<N> {
+    ghost use Rattle.std.specs.Prelude.{◌≡◌, []};
+    ghost use Rattle.shared_history.specs.Events.{MayAsk, ask_by};
+    ghost use Rattle.shared_store.specs.Asking.{EntersTry};
+    ghost use Rattle.shared_store.specs.Passes.{Enters, SameLooks};
+
+    /// The pass sees the whole history.
+    pub(crate) fn see_all(&mut self, pass: &mut Pass)
+        requires one { pass.old.table ≡ N.table }
+        ensures enters { Enters N.start N.passes [] pass.old pass.new }
+        ensures looks { SameLooks pass.old pass.new }
+    {
+        see(&mut self.order, pass);
+    }
+
+    /// Enters a try of a question of the pass.
+    pub(crate) fn enter_try(&mut self, pass: &mut Pass, attempt: u32, now: u32)
+        requires one { pass.old.table ≡ N.table }
+        requires may { MayAsk pass.old attempt }
+        ensures { EntersTry N.start N.passes self.old (ask_by pass.old attempt now) pass.old pass.new }
+    {
+        enter_ask(&mut self.order, pass, attempt, u64::from(now));
+    }
+}

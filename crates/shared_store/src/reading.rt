@@ -1,0 +1,167 @@
+//! Reading what a question found.
+ghost use Rattle.std.specs.Prelude.{◌≢◌, ◌≤◌, IfOk, length};
+ghost use Rattle.series_fetch.specs.Window.{HasBuckets, IsWindow};
+ghost use Rattle.series_fetch.specs.declared.range.Window.TheVariants.{Empty};
+ghost use Rattle.render_answer.specs.Rows.{most_points};
+ghost use Rattle.shared_store.specs.Asking.{EndsAs, IsSeriesOf, buckets_of};
+
+use crate::ask_fault::AskFault;
+use crate::class_desk::ClassDesk;
+use crate::found_set::FoundSet;
+use crate::named::Named;
+use crate::store::Store;
+use crate::try_end::TryEnd;
+use carbon_model::Values;
+use outside_io::Disk;
+use series_fetch::Window;
+use series_set::{Series, SeriesRows, SeriesSet};
+use shard_core::{LookFault, Looked};
+use shared_history::Pass;
+use std::alloc::{AllocError, Global};
+use std::sync::{MutexGuard, Wait};
+
+// How a read ended.
+fn end_of(read: Result<Values, LookFault>, class: u32) -> Result<Values, TryEnd>
+    ensures { EndsAs class read result }
+{
+    match read {
+        Ok(values) => Ok(values),
+        Err(LookFault::Moved(_)) => Err(TryEnd::Moved),
+        Err(LookFault::DiskFault) => Err(TryEnd::Ended(AskFault::DiskFault(class))),
+        Err(LookFault::NoMemory) => Err(TryEnd::Ended(AskFault::NoMemory)),
+    }
+}
+
+// The series of a metric that was looked at and has these values. Its name is its path.
+fn series_of(alloc: Global, looked: &Looked, values: &Values) -> Result<Series, AllocError>
+    requires some { looked.now.window ≢ Empty }
+    requires window { IsWindow looked.now.layout looked.now.window }
+    requires count { HasBuckets looked.now.layout looked.now.window (length values.now) }
+    requires few { buckets_of looked.now ≤ most_points }
+    ensures { IfOk result (IsSeriesOf looked.now values.now) }
+{
+    let Window::Range(i, first, _) = looked.window else {
+        unreachable!()
+    };
+    let step = u64::from(looked.layout.archive(i).step);
+    let name = looked.path.as_str().to_string(alloc)?;
+    let path = looked.path.as_str().to_string(alloc)?;
+    let values = values.list().to_vec(alloc)?;
+    Ok(Series::from_legal(name, path, first, step, values))
+}
+
+impl<D: Disk, N: Named> Store<D, N> {
+    ghost use Rattle.std.specs.Prelude.{◌≡◌, ◌<◌, ◌≤◌, ◌+◌, ◌^◌, All, IfOk, length, vec_len};
+    ghost use Rattle.carbon_model.specs.Replay.{replay};
+    ghost use Rattle.shared_history.specs.Parts.{own_entries};
+    ghost use Rattle.shared_store.specs.Asking.{AreDesksOf, IsHeld, IsLookAt, IsNoMove, IsShortLook, KeepsDesks, ReadsAll, ReadsOne, ReadsSet};
+
+    // Reads a metric under the lock of its class alone.
+    fn read_free(&self, rt: &impl Wait, pass: &mut Pass, looked: &Looked) -> Result<Values, TryEnd>
+        requires one { pass.old.table ≡ N.table }
+        requires room { length (own_entries pass.old) + 1 ≤ 2 ^ 48 }
+        requires look { IsLookAt (replay N.start pass.old.seen) looked.now }
+        ensures { ReadsOne N.start N.told N.passes looked.now result pass.old pass.new }
+    {
+        let class = looked.path.class();
+        let read = self
+            .lock_class(rt, class)
+            .read(rt, &self.order, pass, looked);
+        end_of(read, class)
+    }
+
+    // Reads a metric where the locks of all classes are held: none has moved.
+    fn read_held(
+        &self,
+        rt: &impl Wait,
+        held: &mut Vec<MutexGuard<'_, ClassDesk<D, N>>>,
+        pass: &mut Pass,
+        looked: &Looked,
+    ) -> Result<Values, TryEnd>
+        requires one { pass.old.table ≡ N.table }
+        requires room { length (own_entries pass.old) + 1 ≤ 2 ^ 48 }
+        requires look { IsLookAt (replay N.start pass.old.seen) looked.now }
+        requires held { AreDesksOf pass.old.seen held.old.items }
+        requires sixteen { vec_len held.old ≡ 16 }
+        ensures reads { ReadsOne N.start N.told N.passes looked.now result pass.old pass.new }
+        ensures still { IsNoMove result }
+        ensures held { IfOk result (λ values. KeepsDesks pass.old.seen held.old.items held.new.items) }
+    {
+        let class = looked.path.class();
+        let desk = &mut held[class as usize];
+        let read = desk.read(rt, &self.order, pass, looked);
+        end_of(read, class)
+    }
+
+    // Reads a metric, under the locks that are held where there are some.
+    fn read_one(
+        &self,
+        rt: &impl Wait,
+        held: &mut Vec<MutexGuard<'_, ClassDesk<D, N>>>,
+        pass: &mut Pass,
+        looked: &Looked,
+    ) -> Result<Values, TryEnd>
+        requires one { pass.old.table ≡ N.table }
+        requires room { length (own_entries pass.old) + 1 ≤ 2 ^ 48 }
+        requires look { IsLookAt (replay N.start pass.old.seen) looked.now }
+        requires held { IsHeld pass.old.seen held.old.items }
+        ensures reads { ReadsOne N.start N.told N.passes looked.now result pass.old pass.new }
+        ensures still { 0 < vec_len held.old → IsNoMove result }
+        ensures held { IfOk result (λ values. KeepsDesks pass.old.seen held.old.items held.new.items) }
+    {
+        if held.is_empty() {
+            return self.read_free(rt, pass, looked);
+        }
+        self.read_held(rt, held, pass, looked)
+    }
+
+    #[tactic(auto, using(crate::proofs::AskPassLemmas::only_itself))]
+    // Reads the metrics that a need found.
+    fn read_set(
+        &self,
+        rt: &impl Wait,
+        alloc: Global,
+        held: &mut Vec<MutexGuard<'_, ClassDesk<D, N>>>,
+        pass: &mut Pass,
+        found: &[Looked],
+    ) -> Result<SeriesSet, TryEnd>
+        requires one { pass.old.table ≡ N.table }
+        requires room { length (own_entries pass.old) + 1 ≤ 2 ^ 48 }
+        requires looks { All (IsShortLook (replay N.start pass.old.seen)) found.now }
+        requires held { IsHeld pass.old.seen held.old.items }
+        ensures reads { ReadsSet N.start N.told N.passes found.now result pass.old pass.new }
+        ensures still { 0 < vec_len held.old → IsNoMove result }
+        ensures held { IfOk result (λ set. KeepsDesks pass.old.seen held.old.items held.new.items) }
+    {
+        let mut set = SeriesSet::new(alloc);
+        for looked in found {
+            let values = self.read_one(rt, held, pass, looked)?;
+            set.push(series_of(alloc, looked, &values)?)?;
+        }
+        Ok(set)
+    }
+
+    #[tactic(auto, using(crate::proofs::AskPassLemmas::only_itself))]
+    /// Reads the metrics that all needs found.
+    pub(crate) fn read_all(
+        &self,
+        rt: &impl Wait,
+        alloc: Global,
+        held: &mut Vec<MutexGuard<'_, ClassDesk<D, N>>>,
+        pass: &mut Pass,
+        sets: &[FoundSet],
+    ) -> Result<SeriesRows, TryEnd>
+        requires one { pass.old.table ≡ N.table }
+        requires room { length (own_entries pass.old) + 1 ≤ 2 ^ 48 }
+        requires looks { All (All (IsShortLook (replay N.start pass.old.seen))) sets.now }
+        requires held { IsHeld pass.old.seen held.old.items }
+        ensures reads { ReadsAll N.start N.told N.passes sets.now result pass.old pass.new }
+        ensures still { 0 < vec_len held.old → IsNoMove result }
+    {
+        let mut rows = SeriesRows::new(alloc);
+        for found in sets {
+            rows.push(self.read_set(rt, alloc, held, pass, found.as_slice())?)?;
+        }
+        Ok(rows)
+    }
+}
