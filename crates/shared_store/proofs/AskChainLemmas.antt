@@ -1,12 +1,11 @@
 -- The tries of a question, one after the other.
-use Rattle.std.proofs.Common.{◌≡◌, ◌≢◌, ◌⊎◌, inl, inr, ◌∙◌, ℕ, zero, suc, ◌<◌, ◌≤◌, ◌+◌, ◌^◌, ◌==◌, Bool, true, false, if◌then◌else◌, List, [], ◌∷◌, ◌++◌, length, max, refl, sym, ap, subst, arith, length-append, Option}
+use Rattle.std.proofs.Common.{◌≡◌, inl, inr, ◌∙◌, ℕ, zero, suc, ◌<◌, ◌≤◌, ◌+◌, ◌^◌, ◌==◌, Bool, false, if◌then◌else◌, List, [], ◌∷◌, ◌++◌, length, max, refl, sym, ap, subst, arith, length-append, Option}
 use Rattle.std.specs.Prelude.{Result, Ok, Err}
 use Rattle.std.proofs.lemmas.Bool.Decides.{eqb_tells}
-use Rattle.std.proofs.lemmas.List.{append_assoc, append-nil}
+use Rattle.std.proofs.lemmas.List.{append-nil}
 use Rattle.outside_io.specs.Image.{Image}
 use Rattle.carbon_history.specs.declared.entry.Entry.{Entry}
 use Rattle.carbon_history.specs.declared.entry.Entry.TheVariants.{Ask, Fault}
-use Rattle.carbon_history.specs.Entries.{ask_number}
 use Rattle.carbon_model.specs.State.{State}
 use Rattle.carbon_model.specs.Replay.{replay}
 use Rattle.render_plan.specs.declared.need.Need.{Need}
@@ -19,10 +18,10 @@ use Rattle.shared_store.specs.declared.ask_fault.AskFault.TheVariants.{DiskFault
 use Rattle.shared_store.specs.declared.try_end.TryEnd.{TryEnd}
 use Rattle.shared_store.specs.declared.try_end.TryEnd.TheVariants.{Moved, Ended}
 use Rattle.shared_history.proofs.ListLemmas.{prefix_self}
-use Rattle.shared_store.specs.Asks.{Asks, AsksAgain, AsksPart, AsksPartly, AsksTo, AsksToFault, new_number, tries_of}
-use Rattle.shared_store.specs.Asking.{AnswersTry, AsksSoFar, EntersTries, FailsFor, GivesUp, HasMovedOn, IsNoMove, OnlyLooks, SoFar, Tries, TriesTo, TriesToFault}
+use Rattle.shared_store.specs.Asks.{Asks, AsksPartly, AsksTo, AsksToFault, new_number, tries_of}
+use Rattle.shared_store.specs.Asking.{AnswersTry, AsksSoFar, EntersTries, GivesUp, HasMovedOn, IsNoMove, OnlyLooks, SoFar, Tries, TriesTo, TriesToFault}
 use Rattle.shared_store.specs.Passes.{Enters, HasRoom, LooksOn}
-use Rattle.shared_store.proofs.AskPassLemmas.{enters_both, enters_only, on_both, only_both, tries_entered, tries_looked}
+use Rattle.shared_store.proofs.AskPassLemmas.{enters_both, on_both, tries_entered, tries_looked}
 
 -- ---- one try
 

@@ -1,6 +1,6 @@
 -- What the needs of a question find, and the rows that are read of it.
-use Rattle.std.proofs.Common.{◌≡◌, ◌≢◌, ◌⊎◌, ◌↔◌, inl, inr, ◌∙◌, ℕ, ℤ, zero, suc, ◌<◌, ◌≤◌, ◌+◌, ◌-◌, ◌*◌, ◌/◌, Ordering, Less, Bool, true, false, List, [], ◌∷◌, ◌++◌, length, map, Option, Some, None, IfSome, IsSome, refl, sym, ap, subst, arith, length-append, slice_get, option_map, rules}
-use Rattle.std.specs.Prelude.{All, Contains, IsSomeAnd, IfOk, Result, Ok, Err}
+use Rattle.std.proofs.Common.{◌≡◌, ◌≢◌, ◌⊎◌, ◌↔◌, inl, inr, ◌∙◌, ℕ, ℤ, zero, suc, ◌<◌, ◌≤◌, ◌+◌, ◌-◌, ◌*◌, ◌/◌, Ordering, Less, Bool, true, List, [], ◌∷◌, ◌++◌, length, map, Option, Some, None, IfSome, IsSome, refl, sym, ap, subst, arith, length-append, slice_get, rules}
+use Rattle.std.specs.Prelude.{All, Contains, IsSomeAnd}
 use Rattle.std.specs.Cmp.{IsEquivalence, IsStrictWeakOrder, IsTotalOrder}
 use Rattle.std.specs.Cmp.Lexicographic.{slice_cmp}
 use Rattle.std.specs.Cmp.Rules.{comparing}
@@ -26,7 +26,6 @@ use Rattle.metric_index.specs.Found.{IsFitted}
 use Rattle.ring_format.specs.Layout.{LayoutValue}
 use Rattle.ring_format.specs.declared.archive.Archive.{Archive}
 use Rattle.ring_archive.specs.Ring.{Rings}
-use Rattle.archive_update.specs.Batch.{step_of}
 use Rattle.series_fetch.specs.declared.range.Window.{Window}
 use Rattle.series_fetch.specs.declared.range.Window.TheVariants.{Empty, Range}
 use Rattle.series_fetch.specs.Window.{window}
@@ -34,9 +33,8 @@ use Rattle.series_fetch.specs.Shown.{shown, shown_from, shown_in}
 use Rattle.carbon_history.specs.declared.entry.Entry.{Entry}
 use Rattle.carbon_history.specs.Entries.{about_class}
 use Rattle.carbon_model.specs.declared.series.Series.{Series}
-use Rattle.carbon_model.specs.State.{Kept, SamePart, State, layout_of, layout_or, no_rings, points_in, rings_of}
-use Rattle.carbon_model.specs.Found.{Finds, IsKnown}
-use Rattle.carbon_model.specs.RingFiles.{IsOfClass}
+use Rattle.carbon_model.specs.State.{Kept, SamePart, State, layout_of, layout_or, points_in, rings_of}
+use Rattle.carbon_model.specs.Found.{IsKnown}
 use Rattle.carbon_model.specs.Replay.{replay}
 use Rattle.carbon_model.specs.Series.{series_at, series_in, series_of}
 use Rattle.carbon_model.proofs.PartLemmas.{same_sym}
@@ -49,7 +47,7 @@ use Rattle.render_plan.specs.declared.need.Need.{Need}
 use Rattle.render_plan.specs.Bounds.{AreRows, IsEarly, latest_row_end}
 use Rattle.render_plan.specs.Values.{Rows, concat}
 use Rattle.render_answer.specs.Rows as answer
-use Rattle.shared_store.specs.Asking.{HasGrid, InOrder, IsLookAt, IsLookOf, IsReadable, IsSeriesAt, IsShortLook, IsWithin, LooksBelow, LooksUp, Pairwise, PutsInOrder, ShowsAt, all_buckets, all_series, bucket_count, buckets_of, set_buckets}
+use Rattle.shared_store.specs.Asking.{HasGrid, InOrder, IsLookOf, IsReadable, IsSeriesAt, IsShortLook, IsWithin, LooksBelow, LooksUp, Pairwise, PutsInOrder, all_buckets, all_series, bucket_count, buckets_of, set_buckets}
 use Rattle.shared_store.proofs.AskStateLemmas.{known_alike, layout_alike, part_of, points_alike}
 
 -- ---- members

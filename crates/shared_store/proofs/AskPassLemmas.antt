@@ -1,5 +1,5 @@
 -- What a pass looks at and enters in a question.
-use Rattle.std.proofs.Common.{◌≡◌, ◌≢◌, ◌⊎◌, inl, inr, ◌∙◌, ℕ, zero, suc, ◌<◌, ◌≤◌, ◌+◌, ◌^◌, ◌==◌, Bool, true, false, cond, if◌then◌else◌, List, [], ◌∷◌, ◌++◌, length, max, refl, sym, ap, subst, arith, length-append}
+use Rattle.std.proofs.Common.{◌≡◌, ◌≢◌, ◌⊎◌, inl, inr, ◌∙◌, ℕ, zero, suc, ◌<◌, ◌≤◌, ◌+◌, ◌==◌, Bool, true, false, cond, List, [], ◌∷◌, ◌++◌, length, refl, sym, ap, subst, arith, length-append}
 use Rattle.std.specs.Prelude.{Contains, filter, slice_index_or, slice_set}
 use Rattle.std.proofs.lemmas.Grind.{get_or-set_at}
 use Rattle.std.proofs.lemmas.Bool.Decides.{eqb_tells}
@@ -10,19 +10,18 @@ use mathlib.Core.List.{IsPrefix}
 use Rattle.metric_path.specs.Class.{class_of, fnv1a}
 use Rattle.std.proofs.Math.Nat.{mod-lt}
 use Rattle.carbon_history.specs.declared.entry.Entry.{Entry}
-use Rattle.carbon_history.specs.declared.entry.Entry.TheVariants.{Drain, Ask, Fault}
-use Rattle.carbon_history.specs.Entries.{NamesPasses, about_class, ask_number, is_about, of_pass}
+use Rattle.carbon_history.specs.declared.entry.Entry.TheVariants.{Drain, Fault}
+use Rattle.carbon_history.specs.Entries.{NamesPasses, about_class, is_about, of_pass}
 use Rattle.carbon_model.specs.State.{State}
-use Rattle.carbon_model.specs.Replay.{IsLegalHistory, replay}
+use Rattle.carbon_model.specs.Replay.{IsLegalHistory}
 use Rattle.carbon_model.proofs.HistoryLemmas.{legal_more}
 use Rattle.render_plan.specs.declared.need.Need.{Need}
 use Rattle.shared_history.specs.declared.view.Look.{Look}
 use Rattle.shared_history.specs.Events.{ask_by}
-use Rattle.shared_history.specs.Parts.{IsNoMore, OrderValue, PassValue, TailValue, greatest_ask, look_now, order_with, own_entries, pass_looking, pass_seeing}
+use Rattle.shared_history.specs.Parts.{IsNoMore, OrderValue, PassValue, TailValue, look_now, order_with, own_entries, pass_looking, pass_seeing}
 use Rattle.shared_history.specs.Views.{look_at}
-use Rattle.shared_history.proofs.ListLemmas.{prefix_self, prefix_filter}
-use Rattle.shared_store.specs.Asks.{HasMoved}
-use Rattle.shared_store.specs.Asking.{AreDesksOf, EntersBehind, EntersFault, EntersTries, EntersTry, HadSeen, HasMovedOn, MarksAll, MarksClass, OnlyLooks, Tries, TriesToFault, WasDrained}
+use Rattle.shared_history.proofs.ListLemmas.{prefix_self}
+use Rattle.shared_store.specs.Asking.{AreDesksOf, EntersBehind, EntersFault, EntersTries, EntersTry, HadSeen, MarksAll, MarksClass, OnlyLooks, Tries, WasDrained}
 use Rattle.shared_store.specs.Desks.{DeskValue}
 use Rattle.shared_store.specs.Passes.{Enters, EntersLast, IsNoLess, LooksOn, SameLooks}
 use Rattle.shared_store.proofs.LookLemmas.{looked}

@@ -1,20 +1,13 @@
 -- How the reads of a question end.
-use Rattle.std.proofs.Common.{◌≡◌, ◌≢◌, ◌⊎◌, inl, inr, ◌∙◌, ℕ, ℤ, zero, suc, ◌<◌, ◌≤◌, ◌+◌, ◌-◌, ◌*◌, ◌/◌, ◌^◌, List, [], ◌∷◌, ◌++◌, length, Option, Some, None, refl, sym, ap, subst, arith, take, get_or, slice_get}
-use Rattle.std.specs.Prelude.{All, Contains, IfOk, IfSome, IsErrAnd, IsOk, Result, Ok, Err, slice_index_or}
-use Rattle.std.specs.Option.{option_map_or}
+use Rattle.std.proofs.Common.{◌≡◌, ◌⊎◌, inl, inr, ◌∙◌, ℕ, ℤ, ◌≤◌, ◌+◌, List, [], ◌∷◌, ◌++◌, length, Option, refl, sym, subst}
+use Rattle.std.specs.Prelude.{All, Contains, IfOk, IsErrAnd, Result, Ok, Err}
 use Rattle.outside_io.specs.Image.{Image}
 use Rattle.metric_path.specs.Class.{class_of}
-use Rattle.ring_format.specs.Layout.{LayoutValue}
-use Rattle.ring_format.specs.declared.archive.Archive.{Archive}
-use Rattle.archive_update.specs.Batch.{step_of}
-use Rattle.series_fetch.specs.declared.range.Window.{Window}
-use Rattle.series_fetch.specs.declared.range.Window.TheVariants.{Empty, Range}
-use Rattle.series_fetch.specs.Window.{HasBuckets, IsWindow}
 use Rattle.carbon_history.specs.declared.entry.Entry.{Entry}
 use Rattle.carbon_model.specs.State.{State}
 use Rattle.carbon_model.specs.Replay.{replay}
 use Rattle.render_plan.specs.declared.need.Need.{Need}
-use Rattle.render_plan.specs.Bounds.{AreRows, IsEarly, latest_row_end}
+use Rattle.render_plan.specs.Bounds.{AreRows}
 use Rattle.render_plan.specs.Values.{Rows}
 use Rattle.render_answer.specs.Rows.{IsReadFor, most_points}
 use Rattle.series_funcs.specs.Combined.{most_series}
@@ -30,7 +23,7 @@ use Rattle.shared_store.specs.declared.try_end.TryEnd.{TryEnd}
 use Rattle.shared_store.specs.declared.try_end.TryEnd.TheVariants.{Moved, Ended}
 use Rattle.std.specs.declared.sync.MutexGuard.{MutexGuard}
 use Rattle.shared_store.specs.Desks.{DeskValue}
-use Rattle.shared_store.specs.Asking.{AnswersTry, AreDesksOf, Counts, EndsAs, HasMovedOn, HasNotMoved, IsHeld, IsLookAt, IsNoMove, IsSeriesAt, IsSeriesOf, IsShortLook, IsWithin, KeepsDesks, OnlyLooks, Pairwise, ReadsAll, ReadsAt, ReadsOne, ReadsSet, ReadsWell, ShowsAt, Stops, all_buckets, all_series}
+use Rattle.shared_store.specs.Asking.{AnswersTry, AreDesksOf, Counts, EndsAs, HasNotMoved, IsHeld, IsLookAt, IsNoMove, IsSeriesAt, IsSeriesOf, IsShortLook, IsWithin, KeepsDesks, OnlyLooks, Pairwise, ReadsAll, ReadsAt, ReadsOne, ReadsSet, ReadsWell, ShowsAt, Stops, all_buckets, all_series}
 use Rattle.shared_store.proofs.AskFoundLemmas.{FoundOf, are_rows, finds_few, found_within, has_rows, pairwise_more, path_in, too_many_points, too_many_series}
 use Rattle.shared_store.proofs.AskPassLemmas.{fault_behind, only_both}
 

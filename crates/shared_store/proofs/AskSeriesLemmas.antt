@@ -1,5 +1,5 @@
 -- The series of a metric that was looked at.
-use Rattle.std.proofs.Common.{◌≡◌, ◌≢◌, ◌∙◌, ℕ, ℤ, zero, suc, ◌<◌, ◌≤◌, ◌+◌, ◌-◌, ◌*◌, ◌/◌, ◌^◌, List, length, Option, Some, None, refl, sym, ap, subst, arith, slice_get, option_map, unwrap_or}
+use Rattle.std.proofs.Common.{◌≡◌, ◌∙◌, ℕ, ℤ, ◌<◌, ◌≤◌, ◌+◌, ◌-◌, ◌*◌, ◌/◌, ◌^◌, List, length, Option, Some, None, refl, sym, ap, subst, arith, slice_get, option_map, unwrap_or}
 use Rattle.std.specs.Prelude.{IfSome}
 use Rattle.std.specs.Option.{option_map_or}
 use Rattle.std.proofs.lemmas.Nat.{div-mul-add}
@@ -8,10 +8,9 @@ use Rattle.ring_format.specs.Layout.{LayoutValue}
 use Rattle.ring_format.specs.declared.archive.Archive.{Archive}
 use Rattle.archive_update.specs.Batch.{step_of}
 use Rattle.series_fetch.specs.declared.range.Window.{Window}
-use Rattle.series_fetch.specs.declared.range.Window.TheVariants.{Empty, Range}
+use Rattle.series_fetch.specs.declared.range.Window.TheVariants.{Range}
 use Rattle.series_fetch.specs.Window.{HasBuckets, IsStretchOf, IsWindow}
 use Rattle.series_set.specs.Series.{IsSeries, SeriesValue, end_of}
-use Rattle.render_plan.specs.Bounds.{IsEarly, latest_row_end}
 use Rattle.shard_core.specs.declared.looked.Looked.{Looked}
 use Rattle.shared_store.specs.Asking.{HasGrid, IsSeriesOf, bucket_count, buckets_of}
 

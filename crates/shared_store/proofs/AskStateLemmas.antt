@@ -1,6 +1,6 @@
 -- What the entries behind a question leave of a metric, and what is read of it then.
-use Rattle.std.proofs.Common.{◌≡◌, ◌≢◌, ◌⊎◌, inl, inr, ◌∙◌, ℕ, ℤ, zero, suc, ◌<◌, ◌≤◌, ◌+◌, ◌==◌, Bool, true, false, List, [], ◌∷◌, ◌++◌, length, Option, Some, None, IfSome, IsSome, refl, sym, ap, subst, arith, length-append, unwrap_or, option_map, if◌then◌else◌}
-use Rattle.std.specs.Prelude.{All, Contains, IsSomeAnd, Result, Ok, Err}
+use Rattle.std.proofs.Common.{◌≡◌, ◌≢◌, ◌⊎◌, inl, inr, ◌∙◌, ℕ, ℤ, suc, ◌<◌, ◌+◌, ◌==◌, Bool, true, false, List, [], ◌∷◌, ◌++◌, length, Option, Some, None, IfSome, IsSome, refl, sym, ap, subst, arith, length-append, unwrap_or, option_map, if◌then◌else◌}
+use Rattle.std.specs.Prelude.{Contains, IsSomeAnd}
 use Rattle.std.specs.Map.{lookup, remove_entry}
 use Rattle.std.specs.Str.{bytes_eq}
 use Rattle.std.proofs.lemmas.Bool.{false≢true, true≢false}
@@ -26,18 +26,18 @@ use Rattle.carbon_history.specs.Entries.{about_class}
 use Rattle.carbon_model.specs.State.{Kept, SamePart, State, layout_of, layout_or, points_in, rings_of}
 use Rattle.carbon_model.specs.Found.{IsKnown}
 use Rattle.carbon_model.specs.RingFiles.{IsOfClass}
-use Rattle.carbon_model.specs.Replay.{after, kept_after, replay}
+use Rattle.carbon_model.specs.Replay.{after, replay}
 use Rattle.carbon_model.proofs.HistoryLemmas.{replay-append}
-use Rattle.carbon_model.proofs.PartLemmas.{replay_alike, same_part, same_sym}
+use Rattle.carbon_model.proofs.PartLemmas.{replay_alike, same_part}
 use Rattle.shard_core.specs.Shard.{Holds, Inside, KnowsAs}
 use Rattle.shard_core.specs.Looks.{MayRead}
-use Rattle.shard_core.specs.Reads.{ReadsTo, Shows}
-use Rattle.shard_core.specs.Table.{IsEntry, Lists, drains_in, kept_layout, layout_kept}
+use Rattle.shard_core.specs.Reads.{Shows}
+use Rattle.shard_core.specs.Table.{IsEntry, Lists, drains_in, layout_kept}
 use Rattle.shard_core.specs.declared.looked.Looked.{Looked}
 use Rattle.shard_core.proofs.FileLemmas.{same_text}
 use Rattle.shared_history.specs.Parts.{PassValue, TailValue}
 use Rattle.shared_history.specs.Views.{look_at}
-use Rattle.shared_store.specs.Asking.{IsLookAt, IsReadable, MarksClass, OnlyLooks, ShowsAt, WasDrained}
+use Rattle.shared_store.specs.Asking.{IsLookAt, MarksClass, ShowsAt, WasDrained}
 use Rattle.shared_store.specs.Desks.{KeepsClass}
 
 -- ---- two states that agree in a class

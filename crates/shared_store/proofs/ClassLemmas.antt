@@ -1,5 +1,5 @@
 -- What the lock of a class keeps stays so with an entry, a run and a settled drain more.
-use Rattle.std.proofs.Common.{◌≡◌, ◌↔◌, ◌∙◌, ℕ, ℤ, ◌<◌, ◌≤◌, ◌+◌, ◌*◌, Bool, true, false, cond, List, [], ◌∷◌, ◌++◌, length, drop, Option, Some, None, IfSome, refl, sym, ap, subst, arith, length-append}
+use Rattle.std.proofs.Common.{◌≡◌, ◌↔◌, ◌∙◌, ℕ, ℤ, ◌<◌, ◌≤◌, ◌+◌, ◌*◌, Bool, true, false, cond, List, [], ◌∷◌, ◌++◌, length, drop, Option, Some, None, IfSome, refl, sym, ap, subst, arith, append_assoc, length-append}
 use Rattle.std.specs.Prelude.{count_by, filter, is_some, IsSome}
 use Rattle.std.proofs.lemmas.List.Elements.{filter-append}
 use Rattle.std.proofs.lemmas.List.Sums.{sum_by-append}
@@ -29,7 +29,7 @@ use Rattle.shard_core.specs.declared.planned.Wrote.{Wrote}
 use Rattle.shard_core.specs.declared.planned.Wrote.TheVariants as wrote
 use Rattle.shared_history.specs.Parts.{PassValue, TailValue, tail_ran, tail_settled, tail_with}
 use Rattle.shared_history.specs.Rule.{OneOwed}
-use Rattle.shared_store.specs.Desks.{KeepsClass, runs_ahead}
+use Rattle.shared_store.specs.Desks.{KeepsClass, LastDrains, runs_ahead}
 use Rattle.shared_store.specs.Passes.{HasRoom}
 use Rattle.shared_store.specs.Steps.{plan_entry, put_entry, write_entry}
 use Rattle.shared_store.specs.Tails.{MayTell, Owes, OwesBegun, OwesRun, tail_begun, tail_told, tail_wrote}
@@ -72,6 +72,41 @@ one_fault list e is = one_more (count_by is_fault list) (count_by is_fault (list
 pub replay_with : (start : State) (list : List Entry) (e : Entry) → replay start (list ++ e ∷ []) ≡ after (replay start list) e
 replay_with start list e = replay-append start list (e ∷ [])
 
+-- ---- the last drain
+
+last_with : (path : List ℕ) (list : List Entry) (e : Entry) → is_drain e ≡ false → LastDrains path list → LastDrains path (list ++ e ∷ [])
+last_with path list e quiet was = record {
+  before = was.before;
+  pass = was.pass;
+  now = was.now;
+  since = was.since ++ e ∷ [];
+  is = ap (λ (l : List Entry). l ++ e ∷ []) was.is ∙ append_assoc was.before (entry.Drain was.pass path was.now ∷ was.since) (e ∷ []);
+  last = same_drains was.since e quiet ∙ was.last;
+}
+
+last_kept : (list : List Entry) (e : Entry) → is_drain e ≡ false → (shelf : Option DrainValue)
+    → IfSome shelf (λ drain. LastDrains drain.patch.path list) → IfSome shelf (λ drain. LastDrains drain.patch.path (list ++ e ∷ []))
+last_kept list e quiet None was = tt
+last_kept list e quiet (Some drain) was = last_with drain.patch.path list e quiet was
+
+last_begun : (list : List Entry) (pass now : ℕ) (path : List ℕ) (shelf : Option DrainValue)
+    → IfSome shelf (λ drain. (drain.patch.path ≡ path) × (length drain.left < 5000000))
+    → IfSome shelf (λ drain. LastDrains drain.patch.path (list ++ entry.Drain pass path now ∷ []))
+last_begun list pass now path None begun = tt
+last_begun list pass now path (Some drain) begun =
+    subst (λ (p : List ℕ). LastDrains p (list ++ entry.Drain pass path now ∷ [])) (sym begun.0)
+    (record { before = list; pass = pass; now = now; since = []; is = refl; last = refl })
+
+last_marked : (list : List Entry) (old new : Option DrainValue) → new ≡ marked old → IfSome old (λ drain. LastDrains drain.patch.path list)
+    → IfSome new (λ drain. LastDrains drain.patch.path list)
+last_marked list None new is was = subst (λ (s : Option DrainValue). IfSome s (λ drain. LastDrains drain.patch.path list)) (sym is) tt
+last_marked list (Some drain) new is was =
+    subst (λ (s : Option DrainValue). IfSome s (λ d. LastDrains d.patch.path list)) (sym is) (by (drop 1 drain.left))
+  where
+    by : (left : List Run) → IfSome (drain_with drain.patch left) (λ d. LastDrains d.patch.path list)
+    by [] = tt
+    by (run ∷ left) = was
+
 -- ---- numbers
 
 cap_later : (n failed later : ℕ) → capped n ≤ failed → failed ≤ later → capped n ≤ later
@@ -99,16 +134,18 @@ module _ (table : TableId) (told : ℕ → Option Image) (start : State) (faults
       → ended.table ≡ tail.table → ended.class ≡ tail.class → new.class ≡ old.class
       → Holds (told old.class) new (replay start ended.list)
       → (new.shelf ≡ None) ↔ (drains ended.list ≡ ended.settled) → OneOwed ended.settled ended.list
+      → IfSome new.shelf (λ drain. LastDrains drain.patch.path ended.list)
       → ended.runs + runs_ahead new.shelf ≤ 5000000 * drains ended.list
       → capped (faults old.class + count_by is_fault ended.list) ≤ later
       → KeepsClass table told start faults new later ended
-  keeps_now old new failed later tail ended keeps same_table same_class class holds settled owed runs few = record {
+  keeps_now old new failed later tail ended keeps same_table same_class class holds settled owed last runs few = record {
     same = same_table ∙ keeps.same;
     class = same_class ∙ (keeps.class ∙ sym class);
     within = subst (λ (k : ℕ). k < 16) (sym class) keeps.within;
     holds = subst (λ (k : ℕ). Holds (told k) new (replay start ended.list)) (sym class) holds;
     settled = settled;
     owed = owed;
+    last = last;
     runs = runs;
     faults = subst (λ (k : ℕ). capped (faults k + count_by is_fault ended.list) ≤ later) (sym class) few;
   }
@@ -120,6 +157,7 @@ module _ (table : TableId) (told : ℕ → Option Image) (start : State) (faults
   keeps_still old new failed later tail keeps class shelf holds more =
       keeps_now old new failed later tail tail keeps refl refl class holds
       ((λ none. keeps.settled.0 (sym shelf ∙ none)), (λ all. shelf ∙ keeps.settled.1 all)) keeps.owed
+      (subst (λ (s : Option DrainValue). IfSome s (λ drain. LastDrains drain.patch.path tail.list)) (sym shelf) keeps.last)
       (subst (λ (s : Option DrainValue). tail.runs + runs_ahead s ≤ 5000000 * drains tail.list) (sym shelf) keeps.runs)
       (cap_later (faults old.class + count_by is_fault tail.list) failed later keeps.faults more)
 
@@ -134,6 +172,8 @@ module _ (table : TableId) (told : ℕ → Option Image) (start : State) (faults
       (subst (λ (s : State). Holds (told old.class) new s) (sym (replay_with start tail.list e)) holds)
       ((λ none. same ∙ keeps.settled.0 (sym shelf ∙ none)), (λ all. shelf ∙ keeps.settled.1 (sym same ∙ all)))
       (record { low = subst (λ (n : ℕ). tail.settled ≤ n) (sym same) keeps.owed.low; high = subst (λ (n : ℕ). n ≤ tail.settled + 1) (sym same) keeps.owed.high })
+      (last_kept tail.list e quiet new.shelf
+      (subst (λ (s : Option DrainValue). IfSome s (λ drain. LastDrains drain.patch.path tail.list)) (sym shelf) keeps.last))
       (subst (λ (n : ℕ). tail.runs + runs_ahead new.shelf ≤ 5000000 * n) (sym same)
       (subst (λ (s : Option DrainValue). tail.runs + runs_ahead s ≤ 5000000 * drains tail.list) (sym shelf) keeps.runs))
       few
@@ -257,6 +297,7 @@ module _ (table : TableId) (told : ℕ → Option Image) (start : State) (faults
       (begun_holds old new failed now pass tail path keeps begins)
       ((λ none. one ∙ ap (λ (n : ℕ). n + 1) even), (λ all. is))
       (record { low = omega (arith, one, even); high = omega (arith, one, even) })
+      (last_begun tail.list pass now path new.shelf begins.shelf)
       (subst (λ (s : Option DrainValue). tail.runs + runs_ahead s ≤ 5000000 * drains (tail.list ++ e ∷ [])) (sym is)
       (subst (λ (n : ℕ). tail.runs + 0 ≤ 5000000 * n) (sym one) (more_runs tail.runs 0 (drains tail.list) (no_runs old failed tail keeps begins.empty))))
       (begun_few old failed now later pass tail path keeps more)
@@ -269,6 +310,7 @@ module _ (table : TableId) (told : ℕ → Option Image) (start : State) (faults
       (begun_holds old new failed now pass tail path keeps begins)
       ((λ none. absurd (cc (none, is))), (λ all. absurd (omega (arith, one, even, all))))
       (record { low = omega (arith, one, even); high = omega (arith, one, even) })
+      (last_begun tail.list pass now path new.shelf begins.shelf)
       (subst (λ (s : Option DrainValue). tail.runs + runs_ahead s ≤ 5000000 * drains (tail.list ++ e ∷ [])) (sym is)
       (subst (λ (n : ℕ). tail.runs + (length drain.left + 1) ≤ 5000000 * n) (sym one)
       (begun_runs tail.runs (length drain.left) (drains tail.list) (no_runs old failed tail keeps begins.empty) few)))
@@ -334,6 +376,7 @@ module _ (table : TableId) (told : ℕ → Option Image) (start : State) (faults
   keeps_write old new failed later pass tail wrote.Run keeps writes stays class more rose =
       keeps_now old new failed later tail (tail_ran tail) keeps refl refl class (stays (told old.class) (replay start tail.list) keeps.holds)
       ((λ none. absurd (some_none new.shelf writes.1 none)), (λ all. absurd (omega (arith, shelf_owes old failed tail keeps writes.0.some, all)))) keeps.owed
+      (last_marked tail.list old.shelf new.shelf writes.0.marked keeps.last)
       (fewer_runs tail.runs (runs_ahead old.shelf) (runs_ahead new.shelf) (drains tail.list) keeps.runs (marked_fewer old.shelf new.shelf writes.0.some writes.0.marked))
       (cap_later (faults old.class + count_by is_fault tail.list) failed later keeps.faults more)
     where
@@ -345,6 +388,7 @@ module _ (table : TableId) (told : ℕ → Option Image) (start : State) (faults
       keeps_now old new failed later tail (tail_settled (tail_ran tail)) keeps refl refl class (stays (told old.class) (replay start tail.list) keeps.holds)
       ((λ none. omega (arith, low, keeps.owed.high)), (λ all. writes.1))
       (record { low = omega (arith, low); high = omega (arith, keeps.owed.high) })
+      (last_marked tail.list old.shelf new.shelf writes.0.marked keeps.last)
       (fewer_runs tail.runs (runs_ahead old.shelf) (runs_ahead new.shelf) (drains tail.list) keeps.runs (marked_fewer old.shelf new.shelf writes.0.some writes.0.marked))
       (cap_later (faults old.class + count_by is_fault tail.list) failed later keeps.faults more)
   keeps_write old new failed later pass tail wrote.Nothing keeps writes stays class more rose =

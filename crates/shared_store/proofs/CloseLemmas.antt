@@ -1,5 +1,5 @@
 -- What the end of a store tells.
-use Rattle.std.proofs.Common.{◌≡◌, ◌∙◌, ℕ, ◌<◌, ◌≤◌, ◌+◌, List, [], ◌∷◌, ◌++◌, length, take, drop, get_or, set, Option, Some, None, refl, sym, ap, subst, arith, length-append, below_more}
+use Rattle.std.proofs.Common.{◌≡◌, ◌∙◌, ℕ, ◌<◌, ◌≤◌, ◌+◌, List, [], ◌∷◌, ◌++◌, length, take, drop, get_or, set, Option, Some, None, IfSome, refl, sym, ap, subst, arith, length-append, below_more}
 use Rattle.std.specs.Prelude.{count_by, slice_get}
 use Rattle.std.proofs.lemmas.List.{length-set, get_or-set_other, get_or-set_same, get_or_append_left}
 use Rattle.std.proofs.Math.Seq.{get_or-append_seam}
@@ -9,6 +9,7 @@ use Rattle.atomic_table.specs.Seated.{TableId}
 use Rattle.outside_io.specs.Image.{Image, WhereKnown}
 use Rattle.outside_io.specs.declared.disk.Disk.{Ghosts}
 use Rattle.ring_format.specs.Patch.{PatchValue}
+use Rattle.write_shelf.specs.Shelf.{DrainValue}
 use Rattle.carbon_history.specs.declared.entry.Entry.{Entry}
 use Rattle.carbon_history.specs.Entries.{NamesPasses, about_class, drains, of_pass}
 use Rattle.carbon_model.specs.RingFiles.{IsOfClass, SameKept, StandsUnder, kept_under}
@@ -20,6 +21,7 @@ use Rattle.shared_history.specs.declared.view.Look.{Look}
 use Rattle.shared_history.specs.Parts.{AllAgree, AllSeen, IsNoMore, OrderValue, PassValue, PassesOfTable, TailValue, TailsOfTable, look_now, pass_looking}
 use Rattle.shared_history.specs.Views.{look_at}
 use Rattle.shared_store.specs.Closes.{AllLook, Closes, EndsAs, EndsBelow, EndsClass, LookedBelow, LooksOnce}
+use Rattle.shared_store.specs.Desks.{LastDrains}
 use Rattle.shared_store.specs.Passes.{settled_in}
 use Rattle.shared_store.specs.Orders.{KeepsOrder}
 use Rattle.shared_store.specs.Tallies.{capped, is_fault, tally_of}
@@ -196,6 +198,7 @@ module _ {D : Type 0} (d : Ghosts D) (table : TableId) (told : ℕ → Option Im
         stands = where_alike (told class) (d.image disk) (patch_on shard.shelf) (replay start tail.list).kept (replay start history).kept class (λ path one. sym (alike.kept path one.here))
             (subst (λ (known : Option Image). WhereKnown (told class) known (λ opening now. StandsUnder opening now (patch_on shard.shelf) (replay start tail.list).kept class)) end.known
             (subst (λ (k : ℕ). WhereKnown (told k) shard.known (λ opening now. StandsUnder opening now (patch_on shard.shelf) (replay start tail.list).kept k)) end.here end.keeps.holds.kept.files));
+        last = on_patch shard.shelf (subst (λ (l : List Entry). IfSome shard.shelf (λ drain. LastDrains drain.patch.path l)) list end.keeps.last);
         whole = λ settled.
             let there : get_or passes settled.place settled.pass ≡ settled.pass = get_or_from_slice_get passes settled.place settled.pass settled.pass settled.there in
             let here : settled_in class settled.pass ≤ tail.settled = subst (λ (p : PassValue). settled_in class p ≤ tail.settled) there
@@ -206,6 +209,11 @@ module _ {D : Type 0} (d : Ghosts D) (table : TableId) (told : ℕ → Option Im
             (subst (λ (k : ℕ). capped (earlier k + count_by is_fault tail.list) ≤ d.faults disk) end.here end.keeps.faults);
       }
     where
+      on_patch : (shelf : Option DrainValue) → IfSome shelf (λ drain. LastDrains drain.patch.path (about_class class history))
+          → IfSome (patch_on shelf) (λ p. LastDrains p.path (about_class class history))
+      on_patch None last = tt
+      on_patch (Some drain) last = last
+
       even : (all of_class seen settled : ℕ) → all ≡ of_class → of_class ≤ seen → seen ≤ settled → settled ≤ all → all ≡ settled
       even all of_class seen settled is few less low = omega (arith, is, few, less, low)
 

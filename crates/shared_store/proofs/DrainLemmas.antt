@@ -333,7 +333,7 @@ module _ (start : State) (passes : ℕ) where
     enters = enters;
     each = tt;
     planned = has_planned class old new look;
-    either = inl failed.settled;
+    either = inl failed;
   }
 
   -- however the write of the drain ended

@@ -1,5 +1,5 @@
 -- What a store starts from stands for the opening state.
-use Rattle.std.proofs.Common.{◌≡◌, ◌∙◌, ℕ, zero, suc, ◌<◌, ◌≤◌, ◌+◌, ◌-◌, ◌*◌, List, [], ◌∷◌, ◌++◌, length, Option, Some, refl, sym, ap, subst, arith, length-append}
+use Rattle.std.proofs.Common.{◌≡◌, ◌∙◌, ℕ, zero, suc, ◌<◌, ◌≤◌, ◌+◌, ◌-◌, ◌*◌, List, [], ◌∷◌, ◌++◌, length, Option, Some, IfSome, refl, sym, ap, subst, arith, length-append}
 use Rattle.std.specs.Prelude.{count_by, slice_get}
 use Rattle.atomic_table.specs.Seated.{TableId}
 use Rattle.outside_io.specs.Image.{Image}
@@ -11,8 +11,9 @@ use Rattle.carbon_model.specs.Replay.{replay}
 use Rattle.shard_core.specs.Shard.{Holds}
 use Rattle.shard_core.specs.View.{inside_of}
 use Rattle.shard_core.specs.declared.shard.Shard.{Shard}
+use Rattle.write_shelf.specs.Shelf.{DrainValue}
 use Rattle.shared_history.specs.Parts.{TailValue}
-use Rattle.shared_store.specs.Desks.{KeepsClass, runs_ahead}
+use Rattle.shared_store.specs.Desks.{KeepsClass, LastDrains, runs_ahead}
 use Rattle.shared_store.specs.Starts.{AreFreshClasses, IsFresh, IsFreshClass}
 use Rattle.shared_store.specs.declared.start.Parts.{Parts}
 use Rattle.shared_store.specs.Tallies.{capped, is_fault}
@@ -42,6 +43,7 @@ keeps_fresh {D} {d} table told start earlier tail shard fresh =
           (subst (λ (l : List Entry). Holds (told fresh.place) (inside_of shard) (replay start l)) (sym t.list) s.holds);
       settled = ((λ none. no_drains tail.settled tail.list t.list t.settled), (λ all. s.empty));
       owed = record { low = owed.0; high = owed.1 };
+      last = subst (λ (o : Option DrainValue). IfSome o (λ drain. LastDrains drain.patch.path tail.list)) (sym s.empty) tt;
       runs = runs_none tail.runs (runs_ahead shard.shelf) (drains tail.list) t.runs (ap runs_ahead s.empty);
       faults = subst (λ (k : ℕ). capped (earlier k + count_by is_fault tail.list) ≤ d.faults shard.disk) (sym s.class)
           (faults_none (earlier fresh.place) (count_by is_fault tail.list) (d.faults shard.disk) (ap (count_by is_fault) t.list) s.faults);

@@ -1,5 +1,5 @@
 -- Inside a question.
-use Rattle.std.specs.Prelude.{◌≡◌, ◌≢◌, ◌↔◌, ◌⊎◌, ℕ, ℤ, zero, suc, ◌+◌, ◌-◌, ◌*◌, ◌/◌, ◌<◌, ◌≤◌, true, All, Contains, List, [], ◌∷◌, ◌++◌, length, slice_get, slice_index_or, Option, None, Some, IfSome, Result, Ok, Err}
+use Rattle.std.specs.Prelude.{◌≡◌, ◌≢◌, ◌↔◌, ◌⊎◌, ℕ, ℤ, zero, suc, ◌+◌, ◌-◌, ◌/◌, ◌<◌, ◌≤◌, true, All, Contains, List, [], ◌∷◌, ◌++◌, length, slice_get, slice_index_or, Option, None, IfSome, Result, Ok, Err}
 use Rattle.std.specs.List.{sum_by}
 use Rattle.std.specs.List.Sorted.{IsStrictlySortedBy}
 use Rattle.std.specs.Option.{option_map_or}
@@ -20,7 +20,7 @@ use Rattle.series_fetch.specs.declared.range.Window.TheVariants.{Empty, Range}
 use Rattle.series_fetch.specs.Window.{IsWindow}
 use Rattle.series_fetch.specs.Shown.{shown}
 use Rattle.carbon_history.specs.declared.entry.Entry.{Entry}
-use Rattle.carbon_history.specs.declared.entry.Entry.TheVariants.{Drain, Ask, Fault}
+use Rattle.carbon_history.specs.declared.entry.Entry.TheVariants.{Drain, Fault}
 use Rattle.carbon_history.specs.Entries.{about_class}
 use Rattle.carbon_model.specs.State.{State, layout_of, no_rings, points_in, rings_of}
 use Rattle.carbon_model.specs.Found.{IsKnown}

@@ -1,5 +1,5 @@
 -- What the end of a store tells.
-use Rattle.std.specs.Prelude.{◌≡◌, ◌≢◌, ◌<◌, ◌≤◌, ◌+◌, ℕ, List, Option, Some, None, get_or, length, slice_get, count_by}
+use Rattle.std.specs.Prelude.{◌≡◌, ◌≢◌, ◌<◌, ◌≤◌, ◌+◌, ℕ, List, Option, Some, None, IfSome, get_or, length, slice_get, count_by}
 use Rattle.atomic_table.specs.Seated.{TableId}
 use Rattle.outside_io.specs.Image.{Image, WhereKnown}
 use Rattle.outside_io.specs.declared.disk.Disk.{Ghosts}
@@ -13,7 +13,7 @@ use Rattle.shard_core.specs.Shard.{Inside}
 use Rattle.shared_history.specs.Parts.{AllSeen, PassValue, TailValue}
 use Rattle.shared_history.specs.Views.{look_at}
 use Rattle.shared_store.specs.declared.close.Closed.{Closed}
-use Rattle.shared_store.specs.Desks.{KeepsClass}
+use Rattle.shared_store.specs.Desks.{KeepsClass, LastDrains}
 use Rattle.shared_store.specs.Passes.{settled_in}
 use Rattle.shared_store.specs.Tallies.{capped, is_fault, tally_of}
 
@@ -25,10 +25,12 @@ pub record HasSettled (class : ℕ) (history : List Entry) (passes : List PassVa
   pub all : drains (about_class class history) ≤ settled_in class pass
 
 -- The disk of a class stands for what the history keeps of the class, where it tells its image: under a patch, perhaps, of a drain that was not
--- written whole, and under none where a pass saw all drains settled. Its count of faults is no less than that of the faults told of it.
+-- written whole, the last of the class, and under none where a pass saw all drains settled. Its count of faults is no less than that of the
+-- faults told of it.
 pub record EndsAs {D : Type 0} (d : Ghosts D) (told : ℕ → Option Image) (start : State) (earlier : ℕ → ℕ) (passes : List PassValue) (history : List Entry) (class : ℕ) (disk : D) : Type 0 where
   pub patch : Option PatchValue
   pub stands : WhereKnown (told class) (d.image disk) (λ opening now. StandsUnder opening now patch (replay start history).kept class)
+  pub last : IfSome patch (λ p. LastDrains p.path (about_class class history))
   pub whole : HasSettled class history passes → patch ≡ None
   pub faults : capped (earlier class + count_by is_fault (about_class class history)) ≤ d.faults disk
 

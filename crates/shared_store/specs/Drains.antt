@@ -12,6 +12,7 @@ use Rattle.shared_store.specs.declared.drain_end.DrainEnd.TheVariants.{Done, Dis
 use Rattle.shared_store.specs.declared.drain_end.Stop.{Stop}
 use Rattle.shared_store.specs.declared.drain_end.Stop.TheVariants as stop
 use Rattle.shared_store.specs.Passes.{Enters, HasRoom, IsNoLess, IsSettled, IsUnderWay, planned_in}
+use Rattle.shared_store.specs.Steps.{FailedPlan}
 
 -- drains by a pass at a moment, of classes from this one on and below that one, none of a lower class than one before it
 abbrev pub RiseWithin : ℕ → ℕ → ℕ → ℕ → List Entry → Type 0
@@ -41,8 +42,8 @@ pub record DrainsWhole (start : State) (passes now count : ℕ) (old new : PassV
   pub alone : StoodAlone made old new → DrainsAll (replay start old.seen) old.number now made
   pub written : StoodAlone made old new → (k : ℕ) → k < 16 → IsWhole k new
 
--- The disk of a class failed: the last entry tells so, behind drains of classes up to this one. It failed in a plan, with no drain of the class
--- under way, or in a run of the one that is.
+-- The disk of a class failed: the last entry tells so, behind drains of classes up to this one. It failed in a plan of what was pending, with no
+-- drain of the class under way, or in a run of the one that is.
 pub record DrainsToFault (start : State) (passes now class : ℕ) (old new : PassValue) : Type 0 where
   pub within : class < 16
   pub made : List Entry
@@ -51,7 +52,7 @@ pub record DrainsToFault (start : State) (passes now class : ℕ) (old new : Pas
   pub alone : StoodAlone (made ++ Fault old.number class ∷ []) old new → DrainsUpTo (replay start old.seen) old.number class now made
   pub written : StoodAlone (made ++ Fault old.number class ∷ []) old new → (k : ℕ) → k < class → IsWhole k new
   pub planned : HasPlanned class new
-  pub either : IsSettled class new ⊎ IsUnderWay class new
+  pub either : FailedPlan start class new ⊎ IsUnderWay class new
 
 -- The call was cut short, in some class.
 pub record DrainsPartly (start : State) (passes now : ℕ) (old new : PassValue) : Type 0 where
@@ -94,7 +95,7 @@ pub record DrainsFailing (start : State) (passes class now : ℕ) (old new : Pas
   pub enters : Enters start passes (made ++ Fault old.number class ∷ []) old new
   pub each : AreDrainsOf old.number class now made
   pub planned : HasPlanned class new
-  pub either : IsSettled class new ⊎ IsUnderWay class new
+  pub either : FailedPlan start class new ⊎ IsUnderWay class new
 
 -- what each end before a class is drained tells
 abbrev pub StopsIn : State → ℕ → ℕ → ℕ → Stop → PassValue → PassValue → Type 0

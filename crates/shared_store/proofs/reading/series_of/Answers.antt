@@ -1,4 +1,4 @@
-use Rattle.std.proofs.Common.{rules, refl, ◌≡◌, ◌∙◌, ℕ, ℤ, List, Option, sym, ap, subst}
+use Rattle.std.proofs.Common.{rules, refl, ◌≡◌, ◌∙◌, ℤ, List, Option, sym, subst}
 use Rattle.std.specs.Prelude.{string_bytes, length}
 use Rattle.series_set.specs.Series.{SeriesValue}
 use Rattle.series_fetch.specs.declared.range.Window.TheVariants.{Range}

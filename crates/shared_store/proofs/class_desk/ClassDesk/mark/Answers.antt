@@ -1,6 +1,5 @@
 use Rattle.std.proofs.Common.{rules, ◌≡◌, ℕ, List, subst}
 use Rattle.carbon_history.specs.declared.entry.Entry.{Entry}
-use Rattle.shared_history.specs.Parts.{TailValue}
 use Rattle.shared_store.specs.Asking.{MarksClass}
 use Rattle.shared_store.proofs.AskPassLemmas.{marks_class}
 use Rattle.shared_store.proofs.class_desk.ClassDesk.mark.Goals as goal

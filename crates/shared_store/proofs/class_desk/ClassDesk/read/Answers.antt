@@ -1,6 +1,5 @@
-use Rattle.std.proofs.Common.{rules, refl, ◌≡◌, ◌∙◌, ℕ, List, sym, ap, subst}
+use Rattle.std.proofs.Common.{rules, ◌≡◌, ◌∙◌, ℕ, sym, ap, subst}
 use Rattle.metric_path.specs.Class.{class_of}
-use Rattle.carbon_history.specs.declared.entry.Entry.{Entry}
 use Rattle.carbon_history.specs.declared.entry.Entry.TheVariants.{Fault}
 use Rattle.carbon_history.specs.Entries.{about_class}
 use Rattle.shared_history.specs.Parts.{TailValue, tail_with}

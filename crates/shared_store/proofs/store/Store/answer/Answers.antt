@@ -1,6 +1,5 @@
-use Rattle.std.proofs.Common.{rules, ◌≡◌, ◌≢◌, ◌∙◌, ℕ, ◌+◌, ◌<◌, ◌≤◌, List, ◌++◌, ◌∷◌, [], length, length-append, take, sym, ap, subst, arith}
+use Rattle.std.proofs.Common.{◌≡◌, ◌∙◌, ◌≤◌, List, sym, subst}
 use Rattle.std.specs.declared.sync.MutexGuard.{MutexGuard}
-use Rattle.carbon_history.specs.declared.entry.Entry.{Entry}
 use Rattle.carbon_model.specs.Replay.{replay}
 use Rattle.carbon_model.specs.State.{State}
 use Rattle.shard_core.specs.declared.looked.Looked.{Looked}

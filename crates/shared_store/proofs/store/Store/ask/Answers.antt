@@ -1,4 +1,4 @@
-use Rattle.std.proofs.Common.{rules, ◌≡◌, ◌≢◌, ◌∙◌, ℕ, ◌+◌, ◌<◌, ◌≤◌, List, ◌++◌, ◌∷◌, [], length, length-append, take, sym, ap, subst, arith}
+use Rattle.std.proofs.Common.{rules, ◌≡◌, ◌+◌, subst}
 use Rattle.std.specs.Prelude.{Err}
 use Rattle.shared_store.specs.Asking.{TriesTo}
 use Rattle.shared_store.specs.declared.try_end.TryEnd.{TryEnd}

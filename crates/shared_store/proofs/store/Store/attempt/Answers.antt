@@ -1,4 +1,4 @@
-use Rattle.std.proofs.Common.{rules, ◌≡◌, ◌≢◌, ◌∙◌, ℕ, ◌+◌, ◌<◌, ◌≤◌, List, ◌++◌, ◌∷◌, [], length, length-append, take, sym, ap, subst, arith}
+use Rattle.std.proofs.Common.{◌∷◌, [], length, length-append, ap, arith}
 use Rattle.carbon_history.specs.declared.entry.Entry.{Entry}
 use Rattle.shared_history.specs.Events.{ask_by}
 use Rattle.shared_history.specs.Parts.{own_entries}

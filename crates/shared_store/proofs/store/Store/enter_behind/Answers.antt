@@ -1,4 +1,4 @@
-use Rattle.std.proofs.Common.{rules, List, sym, subst}
+use Rattle.std.proofs.Common.{List, sym, subst}
 use Rattle.carbon_history.specs.declared.entry.Entry.{Entry}
 use Rattle.shared_store.specs.Asking.{AreDesksOf}
 use Rattle.shared_store.proofs.AskPassLemmas.{desks_entered, enters_behind}

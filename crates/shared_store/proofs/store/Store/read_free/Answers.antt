@@ -1,4 +1,4 @@
-use Rattle.std.proofs.Common.{rules, ◌≡◌, ◌≢◌, ◌∙◌, ℕ, ◌+◌, ◌<◌, ◌≤◌, List, ◌++◌, ◌∷◌, [], length, take, sym, ap, subst, arith}
+use Rattle.std.proofs.Common.{rules, ◌≡◌, ℕ, subst}
 use Rattle.metric_path.specs.Class.{class_of}
 use Rattle.shared_store.specs.Asking.{EndsAs}
 use Rattle.shared_store.proofs.AskReadLemmas.{reads_one}
