@@ -36,6 +36,7 @@ pub fn serve_lines<L: LineServer, S: Source, K: Sink>(
         (standing K.Sink server.old out.old) (S.left input.new)
         (standing K.Sink server.new out.new) }
     ensures reads { CountsReads S.Source input.old input.new (result ≡ ServiceEnd.ReadFault) }
+    ensures beside { S.beside_read input.new ≡ S.beside_read input.old }
     ensures writes { CountsWrites K.Sink out.old out.new
         (result ≡ ServiceEnd.Stopped Stop.WriteFault) }
 {
@@ -66,6 +67,7 @@ fn serve_input<L: LineServer, S: Source, K: Sink>(
         (standing K.Sink server.old out.old) (S.left input.new)
         (standing K.Sink server.new out.new) }
     ensures reads { CountsReads S.Source input.old input.new (result ≡ ServiceEnd.ReadFault) }
+    ensures beside { S.beside_read input.new ≡ S.beside_read input.old }
     ensures writes { CountsWrites K.Sink out.old out.new
         (result ≡ ServiceEnd.Stopped Stop.WriteFault) }
 {

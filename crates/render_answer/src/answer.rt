@@ -33,6 +33,13 @@ impl Text {
     {
         self.bytes.as_slice()
     }
+
+    /// The bytes, which are not copied.
+    pub fn into_vec(self) -> Vec<u8>
+        ensures { result.items ≡ self }
+    {
+        self.bytes
+    }
 }
 
 /// What a query is answered.

@@ -1,4 +1,4 @@
-use Rattle.std.proofs.Common.{ℕ, take, arith, length-take}
+use Rattle.std.proofs.Common.{ℕ, take, ◌∙◌, arith, length-take}
 use Rattle.std.proofs.lemmas.List.{length-take-le}
 use Rattle.line_service.specs.Service.{StepOf}
 use Rattle.line_service.proofs.StandingLemmas.{ends_memory, ends_stopped, reached_more}
@@ -14,6 +14,7 @@ loop-taken-preserved g c = record {
     later = omega (arith, c.loop-taken.invariant.reads.later, c.in-Got.ensures.later);
     cause = λ failed. absurd failed;
   };
+  beside = c.in-Got.ensures.beside ∙ c.loop-taken.invariant.beside;
   writes = record {
     later = omega (arith, c.loop-taken.invariant.writes.later, c.in-Ok.ensures.writes.later);
     cause = λ failed. absurd failed;

@@ -1,4 +1,4 @@
-use Rattle.std.proofs.Common.{◌-◌, ◌≤◌, ◌^◌}
+use Rattle.std.proofs.Common.{◌≡◌, ◌-◌, ◌≤◌, ◌^◌}
 use Rattle.outside_io.specs.Frames.{CountsReads, CountsWrites}
 use Rattle.line_service.specs.Service.{StepOf, standing}
 use Rattle.line_service.specs.Standing.{Reached}
@@ -9,6 +9,7 @@ invariant-loop-taken g l = record {
   reached : Reached (StepOf g.L.LineServer.serves) (g.S.Source.left l.fn.input) (standing g.K.Sink l.fn.server l.fn.out) l.taken (g.S.Source.left l.input) l.framer (standing g.K.Sink l.server l.out);
   limit : l.taken ≤ 2 ^ 40;
   reads : CountsReads g.S.Source l.fn.input l.input ⊥;
+  beside : g.S.Source.beside_read l.input ≡ g.S.Source.beside_read l.fn.input;
   writes : CountsWrites g.K.Sink l.fn.out l.out ⊥;
 }
 
