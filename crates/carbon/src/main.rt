@@ -27,7 +27,7 @@ fn main(rt: HostRuntime) -> io::Result<ExitCode> {
     let clock = FixedClock::new(MOMENT);
     let mut net = ClosedNet;
     let report = run(
-        alloc, &words, &mut input, &mut out, &mut conf, disks, &clock, &mut net,
+        &rt, alloc, &words, &mut input, &mut out, &mut conf, disks, &clock, &mut net,
     );
     Ok(ExitCode::from(report.status))
 }

@@ -3,12 +3,9 @@
 use crate::command::Question;
 use crate::disk_case::{bytes_of, names_of};
 use crate::fault::CaseFault;
-use crate::ring::{write_ring, write_value};
+use crate::ring::write_ring;
 use crate::runs::Ran;
 use crate::text::{first_word, number};
-use carbon_history::{Entry, PutEnd};
-use fixed_num::Milli;
-use metric_path::MetricPath;
 use outside_io::{Disk, DiskCalls, MemDisk, MemSource, ReadEnd, Source};
 use std::alloc::{AllocError, Global};
 
@@ -21,7 +18,7 @@ pub fn answer(
     page: &mut String,
 ) -> Result<(), CaseFault> {
     match question {
-        Question::History => Ok(write_history(page, ran.report.history.entries())?),
+        Question::History => Ok(writeln!(page, "history {}", ran.report.history.len())?),
         Question::Left => Ok(write_left(page, &mut ran.source)?),
         _ => {
             let (word, text) = first_word(text);
@@ -146,38 +143,4 @@ fn write_left(page: &mut String, source: &mut MemSource) -> Result<(), AllocErro
         }
     }
     writeln!(page, "left {left}")
-}
-
-fn write_history(page: &mut String, entries: &[Entry]) -> Result<(), AllocError> {
-    writeln!(page, "history {}", entries.len())?;
-    for entry in entries {
-        write_entry(page, entry)?;
-    }
-    Ok(())
-}
-
-// An entry, behind the number of its pass.
-fn write_entry(page: &mut String, entry: &Entry) -> Result<(), AllocError> {
-    match entry {
-        Entry::Put(pass, path, time, value, end) => {
-            write!(page, "  {pass} put {} {time} ", path.as_str())?;
-            write_put(page, *value, *end)
-        }
-        Entry::Drain(pass, path, moment) => {
-            writeln!(page, "  {pass} drain {} {moment}", path.as_str())
-        }
-        Entry::Ask(pass, number, tries, moment) => {
-            writeln!(page, "  {pass} ask {number} try {tries} {moment}")
-        }
-        Entry::Fault(pass, class) => writeln!(page, "  {pass} fault {class}"),
-    }
-}
-
-fn write_put(page: &mut String, value: Milli, end: PutEnd) -> Result<(), AllocError> {
-    write_value(page, value)?;
-    match end {
-        PutEnd::Stored => page.push_str(" stored\n"),
-        PutEnd::Replaced => page.push_str(" replaced\n"),
-        PutEnd::Full => page.push_str(" full\n"),
-    }
 }

@@ -8,6 +8,7 @@ use crate::runs::{Ran, run_case};
 use crate::text::first_word;
 use std::alloc::{AllocError, Global};
 use std::mem;
+use std::sync::Wait;
 
 /// The case that is being said, the one before it, and the last run.
 #[derive(Drop)]
@@ -28,7 +29,13 @@ impl Cases {
     }
 
     /// Does a line, and writes what it tells.
-    pub fn take(&mut self, alloc: Global, line: &str, page: &mut String) -> Result<(), CaseFault> {
+    pub fn take(
+        &mut self,
+        rt: &impl Wait,
+        alloc: Global,
+        line: &str,
+        page: &mut String,
+    ) -> Result<(), CaseFault> {
         let (word, text) = first_word(line);
         let Some(command) = command_of(word) else {
             return Err(CaseFault::Malformed);
@@ -39,7 +46,7 @@ impl Cases {
             Command::Keep => self.keep(alloc),
             Command::Set(setting) => self.case.set(alloc, setting, text),
             Command::SetDisk(setting) => self.case.set_disk(alloc, setting, text),
-            Command::Run => Ok(self.run(alloc, page)?),
+            Command::Run => Ok(self.run(rt, alloc, page)?),
             Command::Tell(question) => self.tell(alloc, question, text, page),
         }
     }
@@ -64,8 +71,8 @@ impl Cases {
         }
     }
 
-    fn run(&mut self, alloc: Global, page: &mut String) -> Result<(), AllocError> {
-        self.ran = Some(run_case(alloc, &self.case, page)?);
+    fn run(&mut self, rt: &impl Wait, alloc: Global, page: &mut String) -> Result<(), AllocError> {
+        self.ran = Some(run_case(rt, alloc, &self.case, page)?);
         Ok(())
     }
 

@@ -68,7 +68,7 @@ pub enum DiskSetting {
 /// What is told of a run.
 #[derive(Clone, Copy, Debug, PartialEq, Eq)]
 pub enum Question {
-    /// The entries of the history.
+    /// How many entries the history has.
     History,
     /// How many bytes of the input were not taken.
     Left,

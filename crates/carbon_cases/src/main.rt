@@ -19,7 +19,7 @@
 //! | `ring DISK NAME METHOD FACTOR STEPxPOINTS..` | an empty ring file |
 //! | `room DISK N`, `fail-disk DISK N..` | the room of a disk; its creates and writes that fail, from 1 on |
 //! | `run` | runs the case, and tells its status and what it wrote |
-//! | `history`, `left` | what was put, drained and asked; how many bytes of the input were not taken |
+//! | `history`, `left` | how many entries the history has; how many bytes of the input were not taken |
 //! | `show DISK NAME` | the layout of a ring file; archive, slot, bucket and value of each cell that is not empty |
 //! | `bytes DISK NAME N`, `names DISK`, `faults DISK` | the first bytes of a file; the files; how many calls failed |
 //!
@@ -42,6 +42,7 @@ use fault::CaseFault;
 use std::alloc::Global;
 use std::io::{self, BufRead, BufReader};
 use std::process::ExitCode;
+use std::sync::Wait;
 
 fn main(rt: HostRuntime) -> io::Result<ExitCode> {
     let alloc = rt.alloc();
@@ -57,12 +58,17 @@ fn main(rt: HostRuntime) -> io::Result<ExitCode> {
 }
 
 // Does a line and prints what it tells.
-fn take_line(rt: &impl Print, alloc: Global, cases: &mut Cases, line: &str) -> io::Result<()> {
+fn take_line<R: Print + Wait>(
+    rt: &R,
+    alloc: Global,
+    cases: &mut Cases,
+    line: &str,
+) -> io::Result<()> {
     let mut page = String::new(alloc);
     if line.is_empty() {
         return Ok(());
     }
-    match cases.take(alloc, line, &mut page) {
+    match cases.take(rt, alloc, line, &mut page) {
         Ok(()) => rt.print(page.as_str()),
         Err(CaseFault::Malformed) => println!(rt; "case error: {line}"),
         Err(CaseFault::NoMemory) => Err(io::Error::from(io::ErrorKind::OutOfMemory)),

@@ -171,8 +171,8 @@ fn cell_in(bytes: &[u8]) -> Option<(u32, Milli)> {
     Some((bucket, value))
 }
 
-/// Writes a value.
-pub fn write_value(page: &mut String, value: Milli) -> Result<(), AllocError> {
+// Writes a value.
+fn write_value(page: &mut String, value: Milli) -> Result<(), AllocError> {
     let mut text = [0; MILLI_TEXT];
     let len = print_milli(value, &mut text);
     for byte in text.iter().take(len) {

@@ -5,6 +5,7 @@ use crate::text::write_lines;
 use carbon_run::{Report, run};
 use outside_io::{ClosedNet, FixedClock, MemDisk, MemSink, MemSource};
 use std::alloc::{AllocError, Global};
+use std::sync::Wait;
 
 // The moment of the clock, which no command reads.
 const MOMENT: u64 = 1_700_000_000;
@@ -23,13 +24,19 @@ pub struct Ran {
 }
 
 /// Runs a case once, with one more cut of its input.
-fn run_once(alloc: Global, case: &Case, cut: Option<usize>) -> Result<Ran, AllocError> {
+fn run_once(
+    rt: &impl Wait,
+    alloc: Global,
+    case: &Case,
+    cut: Option<usize>,
+) -> Result<Ran, AllocError> {
     let disks = case.disks(alloc)?;
     let mut source = case.source(alloc, cut)?;
     let mut out = case.sink(alloc)?;
     let mut conf = case.conf.disk(alloc)?;
     let clock = FixedClock::new(MOMENT);
     let report = run(
+        rt,
         alloc,
         &case.words,
         &mut source,
@@ -48,20 +55,31 @@ fn run_once(alloc: Global, case: &Case, cut: Option<usize>) -> Result<Ran, Alloc
 }
 
 /// Runs a case and tells its status and what it wrote.
-pub fn run_case(alloc: Global, case: &Case, page: &mut String) -> Result<Ran, AllocError> {
-    let ran = run_once(alloc, case, None)?;
+pub fn run_case(
+    rt: &impl Wait,
+    alloc: Global,
+    case: &Case,
+    page: &mut String,
+) -> Result<Ran, AllocError> {
+    let ran = run_once(rt, alloc, case, None)?;
     write_end(page, &ran)?;
     if case.is_cut_each {
-        run_cut(alloc, case, &ran, page)?;
+        run_cut(rt, alloc, case, &ran, page)?;
     }
     Ok(ran)
 }
 
 // Runs a case once for each place inside its input, and tells those at which it ends otherwise.
-fn run_cut(alloc: Global, case: &Case, uncut: &Ran, page: &mut String) -> Result<(), AllocError> {
+fn run_cut(
+    rt: &impl Wait,
+    alloc: Global,
+    case: &Case,
+    uncut: &Ran,
+    page: &mut String,
+) -> Result<(), AllocError> {
     let mut alike: u64 = 0;
     for place in 1..case.input.len() {
-        let ran = run_once(alloc, case, Some(place))?;
+        let ran = run_once(rt, alloc, case, Some(place))?;
         if has_same_end(uncut, &ran) {
             alike = alike.saturating_add(1);
         } else {

@@ -1,3 +1,4 @@
 pub mod ConfLemmas
 pub mod FrontLemmas
 pub mod RunLemmas
+mod TellLemmas

@@ -1,226 +1,298 @@
--- From shards to disks, and from the end of a script to the end of a run.
-use Rattle.std.proofs.Common.{◌≡◌, ◌⊎◌, inl, inr, ◌∙◌, ℕ, zero, suc, ◌+◌, ◌<◌, ◌≤◌, List, [], ◌∷◌, ◌++◌, length, map, Option, Some, None, IfSome, option_map, append-nil, take, refl, sym, ap, subst, arith}
-use Rattle.std.specs.Prelude.{slice_get}
+-- From a store that was closed to the end of a run.
+use Rattle.std.proofs.Common.{◌≡◌, ◌⊎◌, inl, inr, ◌∙◌, ℕ, zero, suc, ◌+◌, ◌<◌, ◌≤◌, ◌==◌, true, List, [], ◌∷◌, ◌++◌, length, map, Option, Some, None, IfSome, option_map, refl, sym, ap, subst, arith, append_assoc, length-append}
+use Rattle.std.specs.Prelude.{count_by, filter, option_and_then, slice_get}
 use Rattle.std.specs.Option.{option_map_or}
-use Rattle.std.specs.Io.KnownBytes.{Appends}
+use Rattle.std.proofs.lemmas.Bool.Decides.{eqb_tells}
+use Rattle.std.proofs.lemmas.List.Elements.{filter-append}
+use Rattle.std.proofs.lemmas.List.Sums.{length-filter}
+use Rattle.std.proofs.lemmas.Option.{none-some, slice_get-map, slice_get_within}
+use mathlib.Core.Path.{fun_ext}
 use Rattle.outside_io.specs.Image.{Image, WhereKnown}
 use Rattle.outside_io.specs.Faults.{Rose}
 use Rattle.outside_io.specs.declared.disk.Disk.{Ghosts}
-use Rattle.outside_io.proofs.Known.{Appends-more, Appends-none}
+use Rattle.atomic_table.specs.Seated.{TableId}
 use Rattle.carbon_history.specs.declared.entry.Entry.{Entry}
-use Rattle.carbon_model.specs.State.{State}
-use Rattle.carbon_model.specs.RingFiles.{Settings, Stands}
+use Rattle.carbon_history.specs.declared.entry.Entry.TheVariants.{Fault}
+use Rattle.carbon_history.specs.Entries.{NamesPasses, about_class, drains, is_about, of_pass}
+use Rattle.ring_format.specs.Patch.{PatchValue}
+use Rattle.carbon_model.specs.State.{Kept, State}
+use Rattle.carbon_model.specs.RingFiles.{Settings, Stands, StandsUnder}
 use Rattle.carbon_model.specs.Replay.{IsLegalHistory, replay}
-use Rattle.whole_shard.specs.Opening.{StartsAll}
-use Rattle.whole_shard.specs.Shards.{DisksStand, FailedAt, HoldsAll, disk_faults, faults_at, told_of}
-use Rattle.whole_shard.specs.View.{StandsFor}
-use Rattle.whole_shard.specs.declared.shard.Shard.{Shard}
-use Rattle.whole_shard.proofs.ShardsLemmas.{AreInOrder}
-use Rattle.carbon_script.specs.Command.{Command, DrainAll}
-use Rattle.carbon_script.specs.Script.{Machine, ServesUpTo, opening, reply_at}
-use Rattle.carbon_script.specs.Sessions.{EndCause as SessionCause, Ends, EndsAs, Means, ServesAll as SessionServes, TakesInput}
+use Rattle.shard_core.specs.declared.fault.StartFault.TheVariants.{NoMemory}
+use Rattle.shard_core.specs.declared.shard.Shard.{Shard}
+use Rattle.shard_set.specs.Disks.{disk_faults, faults_at, told_at, told_of}
+use Rattle.shard_set.specs.Opening.{StartsAll}
+use Rattle.shard_set.specs.OpeningState.{AreReadyShards, opening_of}
+use Rattle.shard_set.proofs.StateLemmas.{opens_run}
+use Rattle.shared_history.specs.Parts.{HasSeen, PassValue, PassesOfTable}
+use Rattle.shared_store.specs.Closes.{Closes, EndsAs, HasSettled}
+use Rattle.shared_store.specs.Passes.{settled_in}
+use Rattle.shared_store.specs.Starts.{AreFreshShards}
+use Rattle.shared_store.specs.Tallies.{capped, is_fault}
+use Rattle.shared_store.specs.declared.close.Closed.{Closed}
+use Rattle.carbon_script.specs.Alone.{IsOnly}
+use Rattle.carbon_script.specs.Script.{Machine}
+use Rattle.carbon_script.specs.Scripts.{EndsWith}
+use Rattle.carbon_script.specs.Sessions.{Ends, SessionValue}
 use Rattle.carbon_script.specs.declared.serve.ScriptEnd.{ScriptEnd}
 use Rattle.carbon_script.specs.declared.serve.ScriptEnd.TheVariants as end
-use Rattle.carbon_script.specs.declared.session.Session.{Session}
-use Rattle.carbon_script.proofs.ScriptLemmas.{appends_part}
-use Rattle.carbon_script.proofs.LegalLemmas.{Stays, does_stay, fails_stay, none_pending, opening_stays, runs_stay, short_stays}
-use Rattle.carbon_run.specs.Runs.{Answer, EndCause, EndFrom, Leads, Leaves, Scripted, ServesAll, ShardsRun, Streams, Takes, TellsAlone, TellsBehind, TellsEnd}
+use Rattle.carbon_script.specs.declared.serve.Scripted.{Scripted as Served}
+use Rattle.carbon_script.proofs.AloneLemmas.{all_own}
+use Rattle.carbon_script.proofs.PendingLemmas.{none_pending}
+use Rattle.carbon_run.specs.Runs.{Answer, CameTo, EndsByDisk, IsDrained, NoStart, Scripted, Streams, TellsEnd}
+use Rattle.carbon_run.specs.Stores.{RunsShards}
 
--- the disk at a place
-disk_at : {D : Type 0} {d : Ghosts D} (shards : List (Shard D d)) (k : ℕ) → slice_get (map (λ shard. shard.disk) shards) k ≡ option_map (λ shard. shard.disk) (slice_get shards k)
-disk_at [] k = refl
-disk_at (s ∷ ss) zero = refl
-disk_at (s ∷ ss) (suc k) = disk_at ss k
+-- ---- the history
 
-stands_at : {D : Type 0} {d : Ghosts D} (o : Option (Shard D d)) (told : Option Image) (k : ℕ) (s : State) → IfSome o (λ shard. shard.class ≡ k) → IfSome o (λ shard. StandsFor told shard s)
-    → IfSome (option_map (λ shard. shard.disk) o) (λ disk. WhereKnown told (d.image disk) (λ opening now. Stands opening now s.kept k))
-stands_at None told k s class holds = tt
-stands_at {d = d} (Some shard) told k s class holds = subst (λ (c : ℕ). WhereKnown told (d.image shard.disk) (λ opening now. Stands opening now s.kept c)) class holds.kept.files
+-- the only pass has seen all of the history
+whole_history : (history : List Entry) (pass : PassValue) → pass.number ≡ 0 → NamesPasses 1 pass.seen → NamesPasses 1 history → HasSeen history pass → history ≡ pass.seen
+whole_history history pass number named all seen =
+    sym (all_own history all) ∙ (ap (λ (n : ℕ). of_pass n history) (sym number)
+    ∙ (seen.own ∙ (ap (λ (n : ℕ). of_pass n pass.seen) number ∙ all_own pass.seen named)))
 
--- the disks of shards that stand for a state do so alone
-pub disks_stand : {D : Type 0} {d : Ghosts D} (told : ℕ → Option Image) (shards : List (Shard D d)) (s : State) → AreInOrder shards → HoldsAll told shards s → DisksStand d.image told (map (λ shard. shard.disk) shards) s
-disks_stand told shards s order holds k = rw (disk_at shards k) (stands_at (slice_get shards k) (told k) k s (order k) (holds k))
+-- ---- disks
 
-faults_in : {D : Type 0} {d : Ghosts D} (o : Option (Shard D d)) → option_map_or d.faults (option_map (λ shard. shard.disk) o) 0 ≡ option_map_or (λ shard. d.faults shard.disk) o 0
-faults_in None = refl
-faults_in (Some shard) = refl
-
--- their counts of failed calls are those of the shards
-pub faults_of : {D : Type 0} {d : Ghosts D} (shards : List (Shard D d)) (k : ℕ) → disk_faults d.faults (map (λ shard. shard.disk) shards) k ≡ faults_at shards k
-faults_of shards k = rw (disk_at shards k) (faults_in (slice_get shards k))
-
--- ---- what is told
-
--- a line alone stands behind what was written before
-told_behind : (status : ℕ) (line : List ℕ) (answer : ℕ) (a b c : Option (List ℕ)) (text : List ℕ) → Appends a b text → TellsAlone status line answer b c → TellsBehind text status line answer a c
-told_behind status line answer a b c text wrote tells = record {
-  either = tells.either;
-  told = λ is. Appends-more a b c text line wrote (tells.told is);
-  short = λ is. appends_part a b c text line wrote (tells.short is);
+-- what is known of a disk once nothing lies over it
+stands_alone : (opening now : Image) (kept : List ℕ → Option Kept) (class : ℕ) → StandsUnder opening now None kept class → Stands opening now kept class
+stands_alone opening now kept class under = record {
+  rings = under.rings;
+  sound = λ path of_class. under.sound path of_class refl;
+  others = under.others;
 }
 
-more_none : (a b c : Option (List ℕ)) (text : List ℕ) → Appends a b text → Appends b c [] → Appends a c text
-more_none a b c text first second = subst (λ (t : List ℕ). Appends a c t) (append-nil text) (Appends-more a b c text [] first second)
+where_known : (told known : Option Image) (P Q : Image → Image → Type 0) → ((opening now : Image) → P opening now → Q opening now) → WhereKnown told known P → WhereKnown told known Q
+where_known None None P Q more holds = tt
+where_known None (Some now) P Q more holds = holds
+where_known (Some opening) None P Q more holds = holds
+where_known (Some opening) (Some now) P Q more holds = more opening now holds
 
-end_told : (reason : ScriptEnd) (answer : ℕ) (a b c : Option (List ℕ)) (text : List ℕ) → Appends a b text → TellsEnd reason [] answer b c → TellsEnd reason text answer a c
-end_told end.Done answer a b c text wrote tells = (tells.0, more_none a b c text wrote tells.1)
-end_told end.ReadFault answer a b c text wrote tells = told_behind _ _ answer a b c text wrote tells
-end_told end.WriteFault answer a b c text wrote tells = (tells.0, more_none a b c text wrote tells.1)
-end_told (end.DiskFault class) answer a b c text wrote tells = told_behind _ _ answer a b c text wrote tells
-end_told end.InputLimit answer a b c text wrote tells = told_behind _ _ answer a b c text wrote tells
-end_told end.NoMemory answer a b c text wrote tells = told_behind _ _ answer a b c text wrote tells
+ends_alone : {D : Type 0} (d : Ghosts D) (told : ℕ → Option Image) (start : State) (earlier : ℕ → ℕ) (pass : PassValue) (history : List Entry) (class : ℕ) (disk : D)
+    → drains (about_class class history) ≤ settled_in class pass → EndsAs d told start earlier (pass ∷ []) history class disk
+    → WhereKnown (told class) (d.image disk) (λ opening now. Stands opening now (replay start history).kept class)
+ends_alone d told start earlier pass history class disk all ends =
+    let settled : HasSettled class history (pass ∷ []) = record { place = 0; pass = pass; there = refl; all = all } in
+    let whole : ends.patch ≡ None = ends.whole settled in
+    let kept : List ℕ → Option Kept = (replay start history).kept in
+    where_known (told class) (d.image disk) (λ opening now. StandsUnder opening now None kept class) (λ opening now. Stands opening now kept class)
+    (λ opening now. stands_alone opening now kept class)
+    (subst (λ (patch : Option PatchValue). WhereKnown (told class) (d.image disk) (λ opening now. StandsUnder opening now patch kept class)) whole ends.stands)
 
--- ---- the end of a script is that of its run
+stands_each : {D : Type 0} (o : Option D) (P : D → Type 0) → ((disk : D) → o ≡ Some disk → P disk) → IfSome o P
+stands_each None P each = tt
+stands_each (Some disk) P each = each disk refl
 
--- what the session leaves, once its disks are handed back
-pub record Handed {D : Type 0} {d : Ghosts D} (session : Session D d) (answer : Answer D) : Type 0 where
-  pub history : answer.history ≡ session.store.history.entries
-  pub disks : (told : ℕ → Option Image) (s : State) → HoldsAll told session.store.shards.items.items s → DisksStand d.image told answer.disks s
-
-leaves : {D : Type 0} {d : Ghosts D} (told : ℕ → Option Image) (session : Session D d) (m : Machine) (answer : Answer D) → Handed session answer → Means told session m → Leaves d told m answer
-leaves told session m answer handed means = record {
-  history = handed.history ∙ means.store.entries;
-  disks = handed.disks told m.state means.store.shards;
-}
-
-all_leads : {D : Type 0} {d : Ghosts D} (reason : ScriptEnd) (told : ℕ → Option Image) (start : Machine) (bytes : List ℕ) (session : Session D d) (written : Option (List ℕ)) (streams : Streams) (answer : Answer D) → Handed session answer
-    → TellsEnd reason [] answer.status written streams.written' → SessionServes told start bytes streams.written session written → ServesAll d told reason start bytes streams answer
-all_leads reason told start bytes session written streams answer handed tells all =
-    (all.0, all.1, (all.2.0, (leaves told session all.0 answer handed all.2.1.0, end_told reason answer.status streams.written written streams.written' all.1 all.2.1.1 tells)))
-
-pub leads : {D : Type 0} {d : Ghosts D} (reason : ScriptEnd) (told : ℕ → Option Image) (start : State) (taken : List ℕ) (session : Session D d) (written : Option (List ℕ)) (streams : Streams) (answer : Answer D)
-    → Handed session answer → TellsEnd reason [] answer.status written streams.written'
-    → EndsAs reason told (opening start) taken streams.left' streams.written session written → Leads d told reason (opening start) taken streams answer
-leads end.Done told start taken session written streams answer handed tells ends =
-    let run = ends.2.0 in (
-      ends.0,
-      ends.1,
-      (
-        run,
-        (
-          leaves told session ends.0 answer handed ends.2.1.0,
-          (
-            end_told end.Done answer.status streams.written written streams.written' ends.1 ends.2.1.1 tells,
-            λ k few. none_pending told run.0 ends.0 run.2 run.3.1.0 k few,
-          ),
-        ),
-      ),
-    )
-leads end.ReadFault told start taken session written streams answer handed tells ends = all_leads end.ReadFault told (opening start) taken session written streams answer handed tells ends
-leads end.InputLimit told start taken session written streams answer handed tells ends = all_leads end.InputLimit told (opening start) taken session written streams answer handed tells ends
-leads end.WriteFault told start taken session written streams answer handed tells ends =
-    let part = ends.5.1.1 in
-    let text = reply_at ends.4.others ends.2 ends.3 in (
-      ends.0,
-      ends.1,
-      ends.2,
-      ends.3,
-      ends.4,
-      (
-        ends.5.0,
-        (
-          leaves told session ends.2 answer handed ends.5.1.0,
-          (tells.0, (part.0, part.1, more_none streams.written written streams.written' (ends.4.said ++ take part.0 text) part.2 tells.1)),
-        ),
-      ),
-    )
-leads (end.DiskFault class) told start taken session written streams answer handed tells ends =
-    let cut = ends.4 in
-    (ends.0, ends.1, ends.2, ends.3, (cut.0, (handed.history ∙ cut.1.0, end_told (end.DiskFault class) answer.status streams.written written streams.written' ends.3.said cut.1.1 tells)))
-leads end.NoMemory told start taken session written streams answer handed tells (inl ends) =
-    inl (ends.0, (ends.1.0, all_leads end.NoMemory told (opening start) ends.0 session written streams answer handed tells ends.1.1))
-leads end.NoMemory told start taken session written streams answer handed tells (inr ends) =
-    let cut = ends.4 in
-    inr (
-      ends.0,
-      ends.1,
-      ends.2,
-      ends.3,
-      (cut.0, (leaves told session ends.2 answer handed cut.1.0, end_told end.NoMemory answer.status streams.written written streams.written' ends.3.said cut.1.1 tells)),
-    )
-
--- ---- the history is legal
-
-legal_at : (start : State) (m : Machine) (history : List Entry) → history ≡ m.entries → Stays start m → IsLegalHistory start history
-legal_at start m history same stays = subst (λ (es : List Entry). IsLegalHistory start es) (sym same) stays.legal
-
-serves_stay : (told : ℕ → Option Image) (start : State) (taken : List ℕ) (left : Option (List ℕ)) (last : Machine) (command : Command) → ServesUpTo told (opening start) taken left last command → Stays start last
-serves_stay told start taken left last command serves = runs_stay told start (opening start) serves.handed last serves.said serves.runs (opening_stays start)
-
-all_legally : {D : Type 0} (d : Ghosts D) (reason : ScriptEnd) (told : ℕ → Option Image) (start : State) (bytes : List ℕ) (streams : Streams) (answer : Answer D) → ServesAll d told reason (opening start) bytes streams answer → IsLegalHistory start answer.history
-all_legally d reason told start bytes streams answer all = legal_at start all.0 answer.history all.2.1.0.history (runs_stay told start (opening start) _ all.0 all.1 all.2.0 (opening_stays start))
-
-pub leads_legally : {D : Type 0} (d : Ghosts D) (reason : ScriptEnd) (told : ℕ → Option Image) (start : State) (taken : List ℕ) (streams : Streams) (answer : Answer D) → Leads d told reason (opening start) taken streams answer → IsLegalHistory start answer.history
-leads_legally d end.Done told start taken streams answer leads =
-    let run = leads.2.0 in
-    legal_at start leads.0 answer.history leads.2.1.0.history (does_stay told start run.0 DrainAll leads.0 run.2 run.3.1.0 (runs_stay told start (opening start) _ run.0 run.1 run.3.0 (opening_stays start)))
-leads_legally d end.ReadFault told start taken streams answer leads = all_legally d end.ReadFault told start taken streams answer leads
-leads_legally d end.InputLimit told start taken streams answer leads = all_legally d end.InputLimit told start taken streams answer leads
-leads_legally d end.WriteFault told start taken streams answer leads =
-    legal_at start leads.2 answer.history leads.5.1.0.history (does_stay told start leads.0 leads.1 leads.2 leads.3 leads.5.0 (serves_stay told start taken streams.left' leads.0 leads.1 leads.4))
-leads_legally d (end.DiskFault class) told start taken streams answer leads =
-    legal_at start leads.2 answer.history leads.4.1.0 (fails_stay start leads.0 leads.1 class leads.2 leads.4.0 (serves_stay told start taken streams.left' leads.0 leads.1 leads.3))
-leads_legally d end.NoMemory told start taken streams answer (inl leads) = all_legally d end.NoMemory told start leads.0 streams answer leads.1.1
-leads_legally d end.NoMemory told start taken streams answer (inr leads) =
-    legal_at start leads.2 answer.history leads.4.1.0.history (short_stays start leads.0 leads.1 leads.2 leads.4.0 (serves_stay told start taken streams.left' leads.0 leads.1 leads.3))
-
--- ---- from the shards to the run
-
-cause_from : {D : Type 0} {d : Ghosts D} (reason : ScriptEnd) (shards : List (Shard D d)) (disks disks' : List D) → ((k : ℕ) → disk_faults d.faults disks k ≤ faults_at shards k) → EndFrom reason shards disks' → EndCause d reason disks disks'
-cause_from end.Done shards disks disks' later cause = tt
-cause_from end.ReadFault shards disks disks' later cause = tt
-cause_from end.WriteFault shards disks disks' later cause = tt
-cause_from (end.DiskFault class) shards disks disks' later cause = omega (arith, later class, cause)
-cause_from end.InputLimit shards disks disks' later cause = tt
-cause_from end.NoMemory shards disks disks' later cause = tt
-
-pub scripted : {D : Type 0} {d : Ghosts D} (settings : Settings) (disks : List D) (shards : List (Shard D d)) (streams : Streams) (answer : Answer D) → StartsAll settings disks shards → ((k : ℕ) → disk_faults d.faults disks k ≤ faults_at shards k)
-    → ShardsRun shards streams answer → Scripted d settings streams disks answer
-scripted {d = d} settings disks shards streams answer starts later run =
-    let led = run.leads (told_of d.image disks) starts.state starts.holds in record {
-      sound = starts.sound;
-      start = starts.state;
-      opens = starts.opens;
-      reason = run.reason;
-      taken = run.taken;
-      consumed = run.consumed;
-      takes = run.takes;
-      leads = led;
-      legal = leads_legally d run.reason (told_of d.image disks) starts.state run.taken streams answer led;
-      cause = cause_from run.reason shards disks answer.disks later run.cause;
+-- a script that is done leaves nothing pending, and no drain half written
+drained : {D : Type 0} (d : Ghosts D) (told : ℕ → Option Image) (start : State) (earlier : ℕ → ℕ) (session : SessionValue) (left before left' mid : Option (List ℕ)) (history : List Entry) (disks : List D)
+    → Ends told start end.Done left before left' session mid → history ≡ session.pass.seen → length disks ≡ 16
+    → ((k : ℕ) (disk : D) → slice_get disks k ≡ Some disk → EndsAs d told start earlier (session.pass ∷ []) history k disk)
+    → IsDrained d.image told disks (replay start history)
+drained d told start earlier session left before left' mid history disks ends same sixteen each =
+    let whole = ends.ends.0 in
+    let means = whole.means in
+    let entries : history ≡ whole.last.entries = same ∙ means.seen in record {
+      none = λ class few.
+          subst (λ (es : List Entry). (replay start es).pending class ≡ []) (sym entries)
+          (subst (λ (s : State). s.pending class ≡ []) means.state (none_pending whole.run.last whole.run.count whole.last whole.run.drained class few));
+      stand = λ k.
+          stands_each (slice_get disks k) _ (λ disk at.
+          let few : k < 16 = omega (arith, sixteen, slice_get_within disks k disk at) in
+          let settled : drains (about_class k history) ≤ settled_in k session.pass =
+          subst (λ (es : List Entry). drains (about_class k es) ≤ settled_in k session.pass) (sym entries) (means.settled k (whole.run.drained.none k few)) in
+          ends_alone d told start earlier session.pass history k disk settled (each k disk at));
     }
 
--- ---- from the session to the shards
+-- ---- a disk that failed
 
-end_from : {D : Type 0} {d : Ghosts D} (reason : ScriptEnd) (old new : Session D d) (shards : List (Shard D d)) (disks' : List D) → old.store.shards.items.items ≡ shards → SessionCause reason old new
-    → ((k : ℕ) → disk_faults d.faults disks' k ≡ faults_at new.store.shards.items.items k) → EndFrom reason shards disks'
-unfolding FailedAt
-end_from end.Done old new shards disks' same cause faults = tt
-end_from end.ReadFault old new shards disks' same cause faults = tt
-end_from end.WriteFault old new shards disks' same cause faults = tt
-end_from {d = d} (end.DiskFault class) old new shards disks' same cause faults =
-    subst (λ (n : ℕ). Rose (faults_at shards class) n) (sym (faults class)) (subst (λ xs. Rose (faults_at xs class) (faults_at new.store.shards.items.items class)) same cause)
-end_from end.InputLimit old new shards disks' same cause faults = tt
-end_from end.NoMemory old new shards disks' same cause faults = tt
+same_number : (k : ℕ) → (k == k) ≡ true
+same_number k = elim (eqb_tells k k) [
+  | inl same ↦ same.0
+  | inr other ↦ absurd (other.1 refl)
+]
 
-takes_as : (reason : ScriptEnd) (taken : List ℕ) (left : Option (List ℕ)) → TakesInput reason taken left → Takes reason taken left
-takes_as end.Done taken left takes = takes
-takes_as end.ReadFault taken left takes = takes
-takes_as end.WriteFault taken left takes = takes
-takes_as (end.DiskFault class) taken left takes = takes
-takes_as end.InputLimit taken left takes = takes
-takes_as end.NoMemory taken left takes = takes
+told_once : (class : ℕ) → length (filter is_fault (about_class class (Fault 0 class ∷ []))) ≡ 1
+told_once class = rw (same_number class) refl
 
-pub shards_run : {D : Type 0} {d : Ghosts D} (reason : ScriptEnd) (shards : List (Shard D d)) (old new : Session D d) (written : Option (List ℕ)) (streams : Streams) (answer : Answer D) → old.store.shards.items.items ≡ shards
-    → ((told : ℕ → Option Image) (s : State) → HoldsAll told shards s → Means told old (opening s))
-    → Ends reason streams.left old streams.written streams.left' new written → TellsEnd reason [] answer.status written streams.written'
-    → answer.history ≡ new.store.history.entries → ((told : ℕ → Option Image) (s : State) → HoldsAll told new.store.shards.items.items s → DisksStand d.image told answer.disks s)
-    → ((k : ℕ) → disk_faults d.faults answer.disks k ≡ faults_at new.store.shards.items.items k) → ShardsRun shards streams answer
-shards_run reason shards old new written streams answer same means ends tells history disks faults = record {
-  reason = reason;
-  taken = ends.taken;
-  consumed = ends.consumed;
-  takes = takes_as reason ends.taken streams.left' ends.input;
-  leads = λ told s holds. leads reason told s ends.taken new written streams answer (record { history = history; disks = disks }) tells (ends.ends told (opening s) (means told s holds));
-  cause = end_from reason old new shards answer.disks same ends.cause faults;
+some_fault : (class : ℕ) (before : List Entry) → 1 ≤ count_by is_fault (about_class class (before ++ Fault 0 class ∷ []))
+some_fault class before =
+    let all : List Entry = about_class class (before ++ Fault 0 class ∷ []) in
+    let first : List Entry = about_class class before in
+    let last : List Entry = about_class class (Fault 0 class ∷ []) in
+    let count : length (filter is_fault all) ≡ count_by is_fault all = length-filter is_fault all in
+    let parts : length (filter is_fault all) ≡ length (filter is_fault first) + length (filter is_fault last) =
+    ap (λ (es : List Entry). length (filter is_fault es)) (filter-append (is_about class) before (Fault 0 class ∷ []))
+    ∙ (ap (λ (es : List Entry). length es) (filter-append is_fault first last) ∙ length-append (filter is_fault first) (filter is_fault last)) in
+    let one : length (filter is_fault last) ≡ 1 = told_once class in
+    omega (arith, count, parts, one)
+
+rose_from : (earlier count failed : ℕ) → 1 ≤ count → capped (earlier + count) ≤ failed → Rose earlier failed
+rose_from earlier count failed some told = omega (arith, some, told)
+
+rose_at : {D : Type 0} (d : Ghosts D) (earlier : ℕ → ℕ) (class count : ℕ) (o : Option D) → IfSome o (λ disk. capped (earlier class + count) ≤ d.faults disk) → (o ≡ None → ⊥) → 1 ≤ count
+    → Rose (earlier class) (option_map_or d.faults o 0)
+rose_at d earlier class count None told there some = absurd (there refl)
+rose_at d earlier class count (Some disk) told there some = rose_from (earlier class) count (d.faults disk) some told
+
+there_below : {X : Type 0} (xs : List X) (k : ℕ) → k < length xs → slice_get xs k ≡ None → ⊥
+there_below [] k few none = absurd (omega (arith, few))
+there_below (x ∷ xs) zero few none = none-some x (sym none)
+there_below (x ∷ xs) (suc k) few none = there_below xs k (omega (arith, few)) none
+
+-- the drain at the end failed: the last entry tells so
+fault_last : {D : Type 0} (d : Ghosts D) (told : ℕ → Option Image) (start : State) (earlier : ℕ → ℕ) (session : SessionValue) (left before left' mid : Option (List ℕ)) (class : ℕ) (answer : Answer D)
+    → Ends told start (end.DiskFault class) left before left' session mid → answer.history ≡ session.pass.seen → length answer.disks ≡ 16
+    → ((k : ℕ) (disk : D) → slice_get answer.disks k ≡ Some disk → EndsAs d told start earlier (session.pass ∷ []) answer.history k disk)
+    → EndsByDisk d earlier class answer
+fault_last d told start earlier session left before left' mid class answer ends same sixteen each =
+    let stops = ends.ends.0 in
+    let fails = stops.cut.1.0 in
+    let silent = stops.cut.1.1 in
+    let first : List Entry = stops.last.entries ++ fails.made in
+    let last : answer.history ≡ first ++ Fault 0 class ∷ [] =
+    same ∙ (silent.means.seen ∙ (ap (λ (m : Machine). m.entries) fails.becomes ∙ sym (append_assoc stops.last.entries fails.made (Fault 0 class ∷ [])))) in
+    let some : 1 ≤ count_by is_fault (about_class class answer.history) =
+    subst (λ (es : List Entry). 1 ≤ count_by is_fault (about_class class es)) (sym last) (some_fault class first) in record {
+      before = first;
+      last = last;
+      cause = rose_at d earlier class (count_by is_fault (about_class class answer.history)) (slice_get answer.disks class)
+          (stands_each (slice_get answer.disks class) _ (λ disk at. (each class disk at).faults))
+          (there_below answer.disks class (omega (arith, sixteen, fails.within))) some;
+    }
+
+-- ---- the one pass
+
+-- the rest of a list of one, without its last
+none_left : {X : Type 0} (xs rest : List X) (x : X) → length xs ≡ 1 → xs ≡ rest ++ x ∷ [] → rest ≡ []
+none_left xs [] x one same = refl
+none_left xs (y ∷ rest) x one same = absurd (omega (arith, one, ap (λ (ys : List _). length ys) same, length-append rest (x ∷ [])))
+
+last_alone : {X : Type 0} (ys rest : List X) (y : X) → rest ≡ [] → ys ≡ rest ++ y ∷ [] → ys ≡ y ∷ []
+last_alone ys [] y none same = same
+last_alone ys (z ∷ rest) y none same = absurd cc
+
+-- the last was taken from a list of one, and another one put in its place
+pub one_taken : {X : Type 0} (xs rest : List X) (x : X) → length xs ≡ 1 → xs ≡ rest ++ x ∷ [] → xs ≡ x ∷ []
+one_taken xs rest x one same = last_alone xs rest x (none_left xs rest x one same) same
+
+pub one_put : {X : Type 0} (xs rest ys : List X) (x y : X) → length xs ≡ 1 → xs ≡ rest ++ x ∷ [] → ys ≡ rest ++ y ∷ [] → ys ≡ y ∷ []
+one_put xs rest ys x y one taken put = last_alone ys rest y (none_left xs rest x one taken) put
+
+some_same : {X : Type 0} (x y : X) → Some x ≡ Some y → x ≡ y
+some_same x y same = cc same
+
+pub alone_of_table : (table : TableId) (passes : List PassValue) (pass : PassValue) → passes ≡ pass ∷ [] → pass.table ≡ table → PassesOfTable table passes
+alone_of_table table passes pass one same = subst (λ (ps : List PassValue). PassesOfTable table ps) (sym one) (at_place pass same)
+  where
+    at_place : (p : PassValue) → p.table ≡ table → PassesOfTable table (p ∷ [])
+    at_place p same zero q there = ap (λ (x : PassValue). x.table) (sym (some_same p q there)) ∙ same
+    at_place p same (suc k) q there = absurd (none-some q there)
+
+-- ---- the end of a store
+
+-- what a script over a store came to, once the store is closed
+pub came_to : {D : Type 0} (d : Ghosts D) (own : TableId) (told : ℕ → Option Image) (start : State) (earlier : ℕ → ℕ) (made : ℕ) (served : Served) (passes : List PassValue) (closed : Closed D) (streams : Streams) (mid : Option (List ℕ)) (answer : Answer D)
+    → made ≡ 1 → passes ≡ served.pass ∷ [] → EndsWith told start served streams.left streams.written streams.left' mid → IsOnly own start served.pass
+    → Closes d made told start earlier passes closed → TellsEnd served.end answer.status mid streams.written'
+    → answer.history ≡ closed.history → answer.disks ≡ closed.disks.items → CameTo d told start earlier streams answer
+came_to {D = D} d own told start earlier made served passes closed streams mid answer alone one ends only closes tells history disks =
+    let pass : passes ≡ ends.code.pass ∷ [] = one ∙ ap (λ (p : PassValue). p ∷ []) (sym ends.pass) in
+    let at : slice_get passes 0 ≡ Some served.pass = ap (λ (ps : List PassValue). slice_get ps 0) one in
+    let named : NamesPasses 1 closed.history = subst (λ (n : ℕ). NamesPasses n closed.history) alone closes.names in
+    let whole : closed.history ≡ served.pass.seen = whole_history closed.history served.pass only.number only.named named (closes.seen 0 served.pass at) in
+    let seen : answer.history ≡ ends.code.pass.seen = history ∙ (whole ∙ ap (λ (p : PassValue). p.seen) (sym ends.pass)) in
+    let sixteen : length answer.disks ≡ 16 = ap (λ (ds : List D). length ds) disks ∙ closes.sixteen in
+    let each : (k : ℕ) (disk : D) → slice_get answer.disks k ≡ Some disk → EndsAs d told start earlier (ends.code.pass ∷ []) answer.history k disk = λ k disk there.
+    subst (λ (ps : List PassValue). EndsAs d told start earlier ps answer.history k disk) pass
+    (subst (λ (es : List Entry). EndsAs d told start earlier passes es k disk) (sym history)
+    (closes.disks k disk (ap (λ (ds : List D). slice_get ds k) (sym disks) ∙ there))) in record {
+      reason = served.end;
+      session = ends.code;
+      mid = mid;
+      ends = ends.ends;
+      tells = tells;
+      history = seen;
+      legal = subst (λ (es : List Entry). IsLegalHistory start es) (sym history) closes.legal;
+      disks = each;
+      done = λ is.
+          drained d told start earlier ends.code streams.left streams.written streams.left' mid answer.history answer.disks
+          (subst (λ (reason : ScriptEnd). Ends told start reason streams.left streams.written streams.left' ends.code mid) is ends.ends) seen sixteen each;
+      fault = λ class is.
+          fault_last d told start earlier ends.code streams.left streams.written streams.left' mid class answer
+          (subst (λ (reason : ScriptEnd). Ends told start reason streams.left streams.written streams.left' ends.code mid) is ends.ends) seen sixteen each;
+    }
+
+-- ---- from the shards to the disks that were given
+
+less_told : (earlier earlier' count failed : ℕ) → earlier' ≤ earlier → capped (earlier + count) ≤ failed → capped (earlier' + count) ≤ failed
+less_told earlier earlier' count failed later told = omega (arith, later, told)
+
+less_rose : (earlier earlier' failed : ℕ) → earlier' ≤ earlier → Rose earlier failed → Rose earlier' failed
+less_rose earlier earlier' failed later rose = omega (arith, later, rose)
+
+came_earlier : {D : Type 0} (d : Ghosts D) (told : ℕ → Option Image) (start : State) (earlier earlier' : ℕ → ℕ) (streams : Streams) (answer : Answer D) → ((k : ℕ) → earlier' k ≤ earlier k)
+    → CameTo d told start earlier streams answer → CameTo d told start earlier' streams answer
+came_earlier d told start earlier earlier' streams answer later came = record {
+  reason = came.reason;
+  session = came.session;
+  mid = came.mid;
+  ends = came.ends;
+  tells = came.tells;
+  history = came.history;
+  legal = came.legal;
+  disks = λ k disk there.
+      let ends = came.disks k disk there in record {
+        patch = ends.patch;
+        stands = ends.stands;
+        last = ends.last;
+        whole = ends.whole;
+        faults = less_told (earlier k) (earlier' k) (count_by is_fault (about_class k answer.history)) (d.faults disk) (later k) ends.faults;
+      };
+  done = came.done;
+  fault = λ class is.
+      let fails = came.fault class is in record {
+        before = fails.before;
+        last = fails.last;
+        cause = less_rose (earlier class) (earlier' class) (disk_faults d.faults answer.disks class) (later class) fails.cause;
+      };
 }
+
+-- what the disk of a shard told, it tells once it is handed back
+told_back : {D : Type 0} {d : Ghosts D} (o : Option (Shard D d)) → option_and_then d.image (option_map (λ shard. shard.disk) o) ≡ option_and_then (λ shard. d.image shard.disk) o
+told_back None = refl
+told_back (Some shard) = refl
+
+back_same : {D : Type 0} {d : Ghosts D} (shards : List (Shard D d)) (k : ℕ) → told_of d.image (map (λ shard. shard.disk) shards) k ≡ told_at shards k
+back_same {d = d} shards k = rw (slice_get-map (λ shard. shard.disk) shards k) (told_back (slice_get shards k))
+
+pub length_back : {D : Type 0} {d : Ghosts D} (shards : List (Shard D d)) → length (map (λ shard. shard.disk) shards) ≡ length shards
+length_back [] = refl
+length_back (shard ∷ shards) = ap suc (length_back shards)
+
+-- shards of these disks started: memory runs out for their history, or the script runs
+pub started : {D : Type 0} {d : Ghosts D} (settings : Settings) (given : List D) (shards : List (Shard D d)) (streams : Streams) (answer : Answer D) → StartsAll settings given shards
+    → RunsShards (told_at shards) (opening_of shards) (faults_at shards) shards streams answer → NoStart d streams given answer ⊎ Scripted d settings streams given answer
+started {d = d} settings given shards streams answer starts (inl lacks) = inl (record {
+  refusal = record { class = 0; fault = NoMemory };
+  refuses = record {
+    class = omega arith;
+    all = ap (λ (ds : List _). length ds) lacks.disks ∙ (length_back shards ∙ starts.all);
+    same = λ k. ap (λ (ds : List _). told_of d.image ds k) lacks.disks ∙ (back_same shards k ∙ starts.same k);
+    damaged = tt;
+    below = λ k few. absurd (omega (arith, few));
+    cause = λ failed. absurd failed;
+  };
+  tells = lacks.tells;
+  history = lacks.history;
+  input = lacks.input;
+})
+started {d = d} settings given shards streams answer starts (inr came) = inr (record {
+  sound = starts.sound;
+  start = opening_of shards;
+  opens = opens_run settings (told_of d.image given) given shards starts.all starts.each (λ k. refl);
+  came = came_earlier d (told_of d.image given) (opening_of shards) (faults_at shards) (disk_faults d.faults given) streams answer starts.later
+      (subst (λ (told : ℕ → Option Image). CameTo d told (opening_of shards) (faults_at shards) streams answer) (fun_ext starts.same) came);
+})
+
+-- shards that are ready are those that a store starts from
+pub fresh_from : {D : Type 0} {d : Ghosts D} (told : ℕ → Option Image) (start : State) (earlier : ℕ → ℕ) (shards : List (Shard D d)) → AreReadyShards told start earlier shards → AreFreshShards told start earlier shards
+fresh_from told start earlier shards ready k shard there =
+    let one = ready k shard there in record { class = one.class; empty = one.empty; holds = one.holds; faults = one.faults }

@@ -2,3 +2,4 @@ pub mod Words
 pub mod Conf
 pub mod Texts
 pub mod Runs
+pub mod Stores

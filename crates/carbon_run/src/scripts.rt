@@ -1,21 +1,31 @@
 //! The command `script`, once the rule files are read.
-ghost use Rattle.std.specs.Prelude.{◌≡◌, ◌⊎◌, ℕ, [], Option, vec_len};
+ghost use Rattle.std.specs.Prelude.{◌≡◌, ◌⊎◌, ◌<◌, ◌≤◌, ◌∷◌, ◌++◌, [], map, vec_capacity, vec_len};
 ghost use Rattle.outside_io.specs.Frames.{CountsReads, CountsWrites};
-ghost use Rattle.outside_io.specs.Image.{Image};
-ghost use Rattle.carbon_model.specs.State.{State};
-ghost use Rattle.whole_shard.specs.Shards.{DisksStand, HoldsAll, disk_faults, faults_at};
-ghost use Rattle.whole_shard.specs.Opening.{settings_of};
-ghost use Rattle.carbon_run.specs.Runs.{FailsToTell, NoStart, Scripted, ShardsRun, TellsEnd, TellsStart, answer_of, streams_of};
+ghost use Rattle.shard_set.specs.Disks.{faults_at, told_at};
+ghost use Rattle.shard_set.specs.Opening.{settings_of};
+ghost use Rattle.shard_set.specs.OpeningState.{AreReadyShards, opening_of};
+ghost use Rattle.shared_history.specs.Parts.{AreNewPasses};
+ghost use Rattle.shared_store.specs.Starts.{IsFresh};
+ghost use Rattle.carbon_run.specs.Runs.{CameTo, FailsToTell, NoStart, Scripted, TellsAlone, TellsEnd, TellsStart, answer_of, streams_of};
+ghost use Rattle.carbon_run.specs.Texts.{no_memory_line};
+ghost use Rattle.carbon_run.specs.Stores.{RunsShards};
 
 use crate::Report;
 use crate::telling::{tell_damaged, tell_disk_fault, tell_limit, tell_no_memory, tell_read_fault};
-use carbon_script::{ScriptEnd, Session, script};
+use carbon_script::{ScriptEnd, script};
+use metric_path::CLASSES;
 use outside_io::{Disk, Sink, Source};
+use shard_core::{Shard, StartFault};
+use shard_set::{Refusal, Setup, Started, hand_back, start_all};
+use shared_history::{Pass, make};
+use shared_store::{Closed, Named, Parts, Store};
 use std::alloc::Global;
-use whole_shard::{Refusal, Setup, Shards, StartFault};
+use std::marker::Brand;
+use std::sync::Wait;
 
 /// Runs the script of the input over the disks, so set up. All shards start before the input is read.
-pub(crate) fn run_script<D: Disk, S: Source, K: Sink>(
+pub(crate) fn run_script<R: Wait, D: Disk + Drop, S: Source, K: Sink>(
+    rt: &R,
     alloc: Global,
     disks: Vec<D>,
     setup: &Setup,
@@ -32,38 +42,125 @@ pub(crate) fn run_script<D: Disk, S: Source, K: Sink>(
     ensures writes { CountsWrites K.Sink out.old out.new (result.status ≡ 7) }
     ensures all { vec_len result.disks ≡ 16 }
 {
-    match Shards::start(alloc, disks, setup) {
-        Ok(shards) => run_shards(alloc, shards, input, out),
-        Err((disks, refusal)) => {
-            let status = tell_refusal(&refusal, out);
-            Report::without_command(alloc, status, disks)
+    match start_all(alloc, disks, setup) {
+        Ok(started) => run_shards(rt, alloc, started, input, out),
+        Err(refused) => {
+            let status = tell_refusal(&refused.refusal, out);
+            Report::without_command(status, refused.disks)
         }
     }
 }
 
-/// Runs the script of the input over shards that have started.
-fn run_shards<D: Disk, S: Source, K: Sink>(
+// Runs the script of the input over shards that have started, with a history of their own.
+fn run_shards<R: Wait, D: Disk + Drop, S: Source, K: Sink>(
+    rt: &R,
     alloc: Global,
-    shards: Shards<D>,
+    started: Started<D>,
     input: &mut S,
     out: &mut K,
 ) -> Report<D>
-    ensures runs { ShardsRun shards.items.items
+    requires { AreReadyShards (told_at started.shards.items) (opening_of started.shards.items)
+        (faults_at started.shards.items) started.shards.items }
+    ensures runs { RunsShards (told_at started.shards.items) (opening_of started.shards.items)
+        (faults_at started.shards.items) started.shards.items
         (streams_of S.Source K.Sink input.old input.new out.old out.new)
         (answer_of result.status result.history result.disks.items) }
     ensures reads { CountsReads S.Source input.old input.new (result.status ≡ 6) }
     ensures writes { CountsWrites K.Sink out.old out.new (result.status ≡ 7) }
     ensures all { vec_len result.disks ≡ 16 }
 {
-    let mut session = Session::new(alloc, shards);
-    let end = script(&mut session, alloc, input, out);
-    let status = tell_end(end, out);
-    report(status, session)
+    let Started { shards, room } = started;
+    match make(alloc, CLASSES, 1) {
+        Ok((order, tails, passes)) => {
+            let parts = Parts {
+                order,
+                tails,
+                shards,
+            };
+            run_parts::<Brand, R, D, S, K>(rt, alloc, parts, passes, room, input, out)
+        }
+        Err(_) => report_no_memory(shards, room, out),
+    }
 }
 
-/// Writes the fault line of a script's end, and answers the exit status.
+// Runs the script of the input over a store of these parts.
+fn run_parts<N: Named, R: Wait, D: Disk + Drop, S: Source, K: Sink>(
+    rt: &R,
+    alloc: Global,
+    parts: Parts<D>,
+    passes: Vec<Pass>,
+    room: Vec<D>,
+    input: &mut S,
+    out: &mut K,
+) -> Report<D>
+    requires fresh { IsFresh N.table N.passes N.told N.start N.faults parts }
+    requires one { (N.passes ≡ 1) × (vec_len passes ≡ 1) }
+    requires new { AreNewPasses N.table passes.items }
+    requires room { (vec_len room ≡ 0) × (16 ≤ vec_capacity room) }
+    ensures runs { RunsShards N.told N.start N.faults parts.shards.items
+        (streams_of S.Source K.Sink input.old input.new out.old out.new)
+        (answer_of result.status result.history result.disks.items) }
+    ensures reads { CountsReads S.Source input.old input.new (result.status ≡ 6) }
+    ensures writes { CountsWrites K.Sink out.old out.new (result.status ≡ 7) }
+    ensures all { vec_len result.disks ≡ 16 }
+{
+    match Store::<D, N>::start(alloc, parts) {
+        Ok(store) => run_store(rt, alloc, store, passes, input, out),
+        Err(parts) => report_no_memory(parts.shards, room, out),
+    }
+}
+
+// Runs the script of the input over a store, by the one pass of the store, and ends the store.
+fn run_store<N: Named, R: Wait, D: Disk + Drop, S: Source, K: Sink>(
+    rt: &R,
+    alloc: Global,
+    store: Store<D, N>,
+    passes: Vec<Pass>,
+    input: &mut S,
+    out: &mut K,
+) -> Report<D>
+    requires one { (N.passes ≡ 1) × (vec_len passes ≡ 1) }
+    requires new { AreNewPasses N.table passes.items }
+    ensures came { CameTo D.Disk N.told N.start N.faults
+        (streams_of S.Source K.Sink input.old input.new out.old out.new)
+        (answer_of result.status result.history result.disks.items) }
+    ensures reads { CountsReads S.Source input.old input.new (result.status ≡ 6) }
+    ensures writes { CountsWrites K.Sink out.old out.new (result.status ≡ 7) }
+    ensures all { vec_len result.disks ≡ 16 }
+{
+    let mut passes = passes;
+    let Some(pass) = passes.pop() else {
+        unreachable!()
+    };
+    let served = script(rt, alloc, &store, pass, input, out);
+    let status = tell_end(served.end, out);
+    put_back(&mut passes, served.pass);
+    let Closed {
+        history,
+        tally: _,
+        disks,
+    } = store.close(rt, passes);
+    Report {
+        status,
+        history,
+        disks,
+    }
+}
+
+// Puts a pass into a list that has room for it.
+fn put_back(passes: &mut Vec<Pass>, pass: Pass)
+    requires { vec_len passes.old < vec_capacity passes.old }
+    ensures { passes.new.items ≡ passes.old.items ++ pass ∷ [] }
+{
+    match passes.push(pass) {
+        Ok(()) => {}
+        Err(_) => unreachable!(),
+    }
+}
+
+// Writes the fault line of a script's end, and answers the exit status.
 fn tell_end<K: Sink>(end: ScriptEnd, out: &mut K) -> u8
-    ensures told { TellsEnd end [] result (K.written out.old) (K.written out.new) }
+    ensures told { TellsEnd end result (K.written out.old) (K.written out.new) }
     ensures writes { CountsWrites K.Sink out.old out.new (FailsToTell end result) }
 {
     match end {
@@ -72,30 +169,26 @@ fn tell_end<K: Sink>(end: ScriptEnd, out: &mut K) -> u8
         ScriptEnd::WriteFault => 7,
         ScriptEnd::DiskFault(class) => tell_disk_fault(out, class),
         ScriptEnd::InputLimit => tell_limit(out),
+        ScriptEnd::Spent => tell_limit(out),
         ScriptEnd::NoMemory => tell_no_memory(out),
     }
 }
 
-/// The report of a script that ended.
-fn report<D: Disk>(status: u8, session: Session<D>) -> Report<D>
-    ensures status { result.status ≡ status }
-    ensures history { result.history ≡ session.store.history }
-    ensures all { vec_len result.disks ≡ 16 }
-    ensures disks { (told : ℕ → Option Image) (s : State)
-        → HoldsAll told session.store.shards.items.items s
-        → DisksStand D.image told result.disks.items s }
-    ensures faults { (k : ℕ)
-        → disk_faults D.faults result.disks.items k ≡ faults_at session.store.shards.items.items k }
+// Tells that memory ran out before the script, and hands the disks back.
+fn report_no_memory<D: Disk, K: Sink>(shards: Vec<Shard<D>>, room: Vec<D>, out: &mut K) -> Report<D>
+    requires empty { vec_len room ≡ 0 }
+    requires room { vec_len shards ≤ vec_capacity room }
+    ensures told { TellsAlone 8 no_memory_line result.status (K.written out.old)
+        (K.written out.new) }
+    ensures writes { CountsWrites K.Sink out.old out.new (result.status ≡ 7) }
+    ensures history { result.history ≡ [] }
+    ensures disks { result.disks.items ≡ map (λ shard. shard.disk) shards.items }
 {
-    let (shards, history) = session.into_parts();
-    Report {
-        status,
-        history,
-        disks: shards.finish(),
-    }
+    let status = tell_no_memory(out);
+    Report::without_command(status, hand_back(shards, room))
 }
 
-/// Tells why the shards did not start.
+// Tells why the shards did not start.
 fn tell_refusal<K: Sink>(refusal: &Refusal, out: &mut K) -> u8
     ensures told { TellsStart refusal.now.fault refusal.now.class result (K.written out.old)
         (K.written out.new) }

@@ -1,18 +1,19 @@
 //! What no case of `carbon_cases` can say: lines about section numbers that no file reaches, and a run over real folders.
 ghost use Rattle.std.specs.Prelude.{◌≡◌, IfOk, vec_len};
 
+use crate::run;
 use crate::telling::{tell_conf_fault, tell_rule_fault};
-use crate::{Report, run};
 use outside_io::{ClosedNet, FixedClock, FolderDisk, MemSink, MemSource};
 use ring_format::LayoutFault;
 use schema_rules::{RuleCause, RuleFile};
 use std::alloc::{AllocError, Global};
 use std::process::Abort;
+use std::sync::Wait;
 use std::test::Fail;
 
 fn assert_told(rt: &impl Abort, alloc: Global, file: RuleFile, cause: RuleCause, line: &[u8]) {
     let mut out = MemSink::new(alloc);
-    assert_eq!(rt; tell_rule_fault(&mut out, file, cause), 3);
+    assert!(rt; tell_rule_fault(&mut out, file, cause) == 3);
     assert!(rt; out.bytes() == line, "{cause:?}");
 }
 
@@ -65,7 +66,7 @@ fn assert_conf_told(
     line: &[u8],
 ) -> Result<(), AllocError> {
     let mut out = MemSink::new(alloc).failing(Vec::from_slice(alloc, &[failing])?);
-    assert_eq!(rt; tell_conf_fault(&mut out), status);
+    assert!(rt; tell_conf_fault(&mut out) == status);
     assert!(rt; out.bytes() == line);
     Ok(())
 }
@@ -78,46 +79,64 @@ fn the_line_of_a_failed_folder_is_written_in_one_piece(rt: HostRuntime) -> Resul
 }
 
 // Disks over the folders of all classes.
-fn folders(rt: &HostRuntime) -> Result<Vec<FolderDisk<HostRuntime>>, AllocError>
+fn folders(host: &HostRuntime) -> Result<Vec<FolderDisk<HostRuntime>>, AllocError>
     ensures { IfOk result (λ disks. vec_len disks ≡ 16) }
 {
-    let alloc = rt.alloc();
+    let alloc = host.alloc();
     let mut disks = Vec::with_capacity(alloc, 16)?;
     for class in 0..16u32 {
         let folder = format!(in alloc; "run/{class:02}")?;
-        disks.push(FolderDisk::new(rt.clone()?, folder))?;
+        disks.push(FolderDisk::new(host.clone()?, folder))?;
     }
     Ok(disks)
 }
 
-// What a run over the folders came to.
-#[derive(Drop)]
-struct Ended {
-    report: Report<FolderDisk<HostRuntime>>,
-    out: MemSink,
-}
-
-// A run of a script over the folders.
-fn run_folders(rt: &HostRuntime, script: &[u8]) -> Result<Ended, AllocError> {
-    let alloc = rt.alloc();
+fn script_words(alloc: Global) -> Result<Vec<String>, AllocError> {
     let mut words = Vec::new(alloc);
     words.push(String::from_str(alloc, "script")?)?;
-    let mut input = MemSource::new(alloc, Vec::from_slice(alloc, script)?);
-    let mut out = MemSink::new(alloc);
-    let mut conf = FolderDisk::new(rt.clone()?, String::from_str(alloc, "conf")?);
-    let disks = folders(rt)?;
+    Ok(words)
+}
+
+// A run of a script over the folders, and its status.
+fn run_folders<R: Wait>(
+    rt: &R,
+    host: &HostRuntime,
+    words: &[String],
+    input: &mut MemSource,
+    out: &mut MemSink,
+    conf: &mut FolderDisk<HostRuntime>,
+) -> Result<u8, AllocError> {
+    let disks = folders(host)?;
     let clock = FixedClock::new(1_700_000_000);
     let report = run(
-        alloc,
-        &words,
-        &mut input,
-        &mut out,
-        &mut conf,
+        rt,
+        host.alloc(),
+        words,
+        input,
+        out,
+        conf,
         disks,
         &clock,
         &mut ClosedNet,
     );
-    Ok(Ended { report, out })
+    Ok(report.status)
+}
+
+fn assert_run<R: Wait + Abort>(
+    rt: &R,
+    host: &HostRuntime,
+    script: &[u8],
+    text: &[u8],
+) -> Result<(), Fail> {
+    let alloc = host.alloc();
+    let words = script_words(alloc)?;
+    let mut input = MemSource::new(alloc, Vec::from_slice(alloc, script)?);
+    let mut out = MemSink::new(alloc);
+    let mut conf = FolderDisk::new(host.clone()?, String::from_str(alloc, "conf")?);
+    let status = run_folders(rt, host, &words, &mut input, &mut out, &mut conf)?;
+    assert!(rt; status == 0);
+    assert!(rt; out.bytes() == text);
+    Ok(())
 }
 
 #[test]
@@ -138,9 +157,7 @@ fn a_second_run_over_real_folders_shows_what_the_first_drained(
         ),
     ];
     for (script, text) in table {
-        let ended = run_folders(&rt, script)?;
-        assert_eq!(rt; ended.report.status, 0);
-        assert!(rt; ended.out.bytes() == text);
+        assert_run(&rt, &rt, script, text)?;
     }
     Ok(())
 }

@@ -9,8 +9,9 @@ use crate::scripts::run_script;
 use crate::telling::{tell_conf_fault, tell_no_memory, tell_rule_fault, tell_usage};
 use crate::words::read_words;
 use outside_io::{Clock, Disk, Net, Sink, Source};
+use shard_set::Setup;
 use std::alloc::Global;
-use whole_shard::Setup;
+use std::sync::Wait;
 
 /// Runs carbon: does what the words of the command line say, and answers the program's exit status.
 ///
@@ -30,16 +31,17 @@ use whole_shard::Setup;
 /// | 2 | the words are no command |
 /// | 3 | a rule file is refused: its first fault, and those of the schema file before those of the aggregation file |
 /// | 4 | a ring file is damaged: the first of the least class, in byte order of its name |
-/// | 5 | a call of a disk failed, or one on the folder `conf` |
+/// | 5 | a call of a disk failed, in a start or in the drain at the end, or one on the folder `conf` |
 /// | 6 | a read of the input failed |
 /// | 7 | a write failed |
 /// | 8 | memory ran out |
-/// | 10 | 2^40 bytes of input were taken |
+/// | 10 | 2^40 bytes of input were taken, or so many entries were made that a command has no room for its own |
 ///
 /// At each status but 0 and 7 the last line that is written says the fault. All sixteen shards have started before the first byte of
-/// the input is taken. A run that 6, 7, 8 or 10 ends before the end of its input makes no drain at its end. The clock and the net
-/// are not looked at.
-pub fn run<S: Source, K: Sink, D: Disk + Send + Drop, C: Clock + Sync, N: Net + Sync>(
+/// the input is taken. A disk that fails at a command of the script is told in the reply, and the script goes on. A run that 6, 7, 8
+/// or 10 ends before the end of its input makes no drain at its end. The clock and the net are not looked at.
+pub fn run<R: Wait, S: Source, K: Sink, D: Disk + Send + Drop, C: Clock + Sync, N: Net + Sync>(
+    rt: &R,
     alloc: Global,
     words: &[String],
     input: &mut S,
@@ -63,7 +65,7 @@ pub fn run<S: Source, K: Sink, D: Disk + Send + Drop, C: Clock + Sync, N: Net + 
 {
     let Some(options) = read_words(words) else {
         let status = tell_usage(out);
-        return Report::without_command(alloc, status, disks);
+        return Report::without_command(status, disks);
     };
     match read_rules(alloc, conf) {
         Ok(rules) => {
@@ -72,11 +74,11 @@ pub fn run<S: Source, K: Sink, D: Disk + Send + Drop, C: Clock + Sync, N: Net + 
                 limit: options.limit(),
                 strategy: options.order(),
             };
-            run_script(alloc, disks, &setup, input, out)
+            run_script(rt, alloc, disks, &setup, input, out)
         }
         Err(fault) => {
             let status = tell_conf(&fault, out);
-            Report::without_command(alloc, status, disks)
+            Report::without_command(status, disks)
         }
     }
 }

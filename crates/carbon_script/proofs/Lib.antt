@@ -1,4 +1,8 @@
-pub mod StoreLemmas
+pub mod AloneLemmas
+pub mod RoundLemmas
+pub mod MachineLemmas
+pub mod AskLemmas
+pub mod DrainLemmas
 pub mod SessionLemmas
-pub mod LegalLemmas
+pub mod PendingLemmas
 pub mod ScriptLemmas

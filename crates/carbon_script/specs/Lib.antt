@@ -1,12 +1,11 @@
 pub mod Command
 pub mod Counts
-pub mod Answer
+pub mod Texts
 pub mod Script
 pub mod SeenCommand
-pub mod Windows
-pub mod Faults
-pub mod Stores
-pub mod PutEnds
+pub mod Alone
+pub mod Rounds
 pub mod Sessions
-pub mod Ends
 pub mod Replies
+pub mod Ends
+pub mod Scripts

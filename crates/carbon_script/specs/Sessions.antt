@@ -1,176 +1,249 @@
 -- How the code of a script is tied to the machine of the definitions.
-use Rattle.std.specs.Prelude.{◌≡◌, ◌⊎◌, ◌^◌, ℕ, false, List, ◌++◌, Option, Result, Ok, Err, length, codes, count_by}
-use Rattle.std.specs.Io.KnownBytes.{Appends, Consumes}
+use Rattle.std.specs.Prelude.{◌≡◌, ◌⊎◌, ◌≤◌, ◌<◌, ◌+◌, ◌^◌, ℕ, false, List, ◌∷◌, ◌++◌, Option, Result, Ok, Err, length}
+use Rattle.std.specs.Io.KnownBytes.{Appends, Consumes, IsAtEnd}
 use Rattle.outside_io.specs.Image.{Image}
-use Rattle.outside_io.specs.declared.disk.Disk.{Ghosts}
 use Rattle.outside_io.specs.Sink.{AppendsFront}
 use Rattle.line_frame.specs.Lines.{Line, lines}
 use Rattle.line_frame.specs.Machine.{Runs}
 use Rattle.line_service.specs.declared.ends.Stop.{Stop}
 use Rattle.line_service.specs.declared.ends.Stop.TheVariants as stop
 use Rattle.line_service.specs.Service.{RunsOut}
-use Rattle.whole_shard.specs.Shards.{FailedAt, NoFewer}
-use Rattle.carbon_script.specs.Command.{Command, DrainAll, command_of}
-use Rattle.carbon_script.specs.Script.{AppendsPart, Does, FailsAt, IsReadOut, Machine, RunsShort, ScriptRun, ServesUpTo, Steps, count_text, drains_word, is_drain, puts_text, refusals_text, reply_at, summary_text}
-use Rattle.carbon_script.specs.Stores.{Keeps}
-use Rattle.carbon_script.specs.declared.session.Session.{Session}
+use Rattle.carbon_history.specs.Entries.{NamesPasses, about_class, drains}
+use Rattle.carbon_model.specs.State.{State}
+use Rattle.carbon_model.specs.Replay.{replay}
+use Rattle.shared_history.specs.Parts.{PassValue}
+use Rattle.shared_store.specs.Passes.{runs_in, settled_in}
+use Rattle.carbon_script.specs.Command.{Command, Metric, Refused, Long, Clock, Ask, Plan, Write, DrainAll, Bad, command_of}
+use Rattle.carbon_script.specs.Script.{Does, DrainsFault, DrainsOut, DrainsPart, Eased, Machine, ScriptRun, Steps, ask_entries, opening, summary_text, with_entries}
+use Rattle.carbon_script.specs.declared.counts.Counts.{Counts}
 use Rattle.carbon_script.specs.declared.serve.ScriptEnd.{ScriptEnd}
 use Rattle.carbon_script.specs.declared.serve.ScriptEnd.TheVariants as end
 
--- The code, whose disks told these images at the opening, stands for a machine: its store for the machine's state and entries, and it has the
--- machine's clock and counts. Each of its drains is made whole, so no class owes anything.
-pub record Means {D : Type 0} {d : Ghosts D} (told : ℕ → Option Image) (code : Session D d) (machine : Machine) : Type 0 where
-  pub store : Keeps told code.store machine.state machine.entries
+-- what contracts see of the code: its pass, its clock and its counts
+pub record SessionValue : Type 0 where
+  pub pass : PassValue
+  pub clock : ℕ
+  pub counts : Counts
+
+-- The code stands for a machine, where the store began in a state and has one pass: the pass sees the machine's entries and nothing else, all drains of
+-- a class that owes nothing were seen written, and no more runs were told of than were seen.
+pub record Means (start : State) (code : SessionValue) (machine : Machine) : Type 0 where
+  pub seen : code.pass.seen ≡ machine.entries
+  pub number : code.pass.number ≡ 0
+  pub alone : NamesPasses 1 machine.entries
+  pub state : machine.state ≡ replay start machine.entries
   pub clock : code.clock ≡ machine.clock
   pub counts : code.counts ≡ machine.counts
-  pub whole : (class : ℕ) → machine.owes class ≡ false
+  pub settled : (class : ℕ) → machine.owes class ≡ false → drains (about_class class machine.entries) ≤ settled_in class code.pass
+  pub runs : (class : ℕ) → machine.runs class ≤ runs_in class code.pass
 
--- no disk's count of failed calls fell
-abbrev pub GoesLater : {D : Type 0} {d : Ghosts D} → Session D d → Session D d → Type 0
-GoesLater old new = NoFewer old.store.shards.items.items new.store.shards.items.items
+-- the pass has no room for what a call may enter
+abbrev pub IsSpent : Machine → Type 0
+IsSpent machine = 2 ^ 48 < length machine.entries + 4
 
 -- ---- commands
 
 -- the machine may do this at a command, the code stands for the machine after it, and what it says was written, and nothing else
-pub record Done {D : Type 0} {d : Ghosts D} (told : ℕ → Option Image) (machine : Machine) (command : Command) (before : Option (List ℕ)) (new : Session D d) (after : Option (List ℕ)) : Type 0 where
+pub record Done (told : ℕ → Option Image) (start : State) (machine : Machine) (command : Command) (before : Option (List ℕ)) (new : SessionValue) (after : Option (List ℕ)) : Type 0 where
   pub next : Machine
   pub said : List ℕ
   pub does : Does told machine command next said
-  pub means : Means told new next
+  pub means : Means start new next
   pub wrote : Appends before after said
 
--- all that was still pending is drained, and the summary was written
-pub record Summed {D : Type 0} {d : Ghosts D} (told : ℕ → Option Image) (machine : Machine) (before : Option (List ℕ)) (new : Session D d) (after : Option (List ℕ)) : Type 0 where
+-- debts were found to have ended, and nothing else was done
+pub record EasesOnly (m : Machine) (next : Machine) : Type 0 where
+  pub eases : Eased m.owes next.owes
+  pub becomes : next ≡ record m { owes = next.owes }
+
+-- a query was entered, once or not at all, and not answered
+pub record AsksPart (m : Machine) (next : Machine) : Type 0 where
+  pub tries : ℕ
+  pub few : tries ≤ 1
+  pub becomes : next ≡ with_entries m (ask_entries m tries)
+
+-- it was done, whatever it says
+abbrev pub DoesSome : (ℕ → Option Image) → Machine → Command → Machine → Type 0
+DoesSome told m command next = (said : List ℕ) × Does told m command next said
+
+-- Memory runs out at a command: before it, within it, or for its reply. Nothing else takes memory.
+abbrev pub RunsShort : (ℕ → Option Image) → Machine → Command → Machine → Type 0
+RunsShort told m (Metric point) next = next ≡ m
+RunsShort told m (Ask query) next = AsksPart m next ⊎ DoesSome told m (Ask query) next
+RunsShort told m Plan next = EasesOnly m next ⊎ DoesSome told m Plan next
+RunsShort told m Write next = DoesSome told m Write next
+RunsShort told m DrainAll next = DrainsPart m next ⊎ DoesSome told m DrainAll next
+RunsShort told m (Refused fault) next = ⊥
+RunsShort told m Long next = ⊥
+RunsShort told m (Clock t) next = ⊥
+RunsShort told m Bad next = ⊥
+
+-- The pass is spent at a command that would enter something: nothing of it is done, or some of the drains.
+abbrev pub StopsSpent : Machine → Command → Machine → Type 0
+StopsSpent m (Metric point) next = next ≡ m
+StopsSpent m (Ask query) next = next ≡ m
+StopsSpent m Plan next = next ≡ m
+StopsSpent m Write next = next ≡ m
+StopsSpent m DrainAll next = DrainsPart m next
+StopsSpent m (Refused fault) next = ⊥
+StopsSpent m Long next = ⊥
+StopsSpent m (Clock t) next = ⊥
+StopsSpent m Bad next = ⊥
+
+-- the code stands for a machine, and nothing was written
+pub record IsSilent (start : State) (next : Machine) (before : Option (List ℕ)) (new : SessionValue) (after : Option (List ℕ)) : Type 0 where
+  pub means : Means start new next
+  pub same : after ≡ before
+
+-- a command was done, but no more than a front of its reply could be written
+pub record IsHalfSaid (told : ℕ → Option Image) (start : State) (machine : Machine) (command : Command) (before : Option (List ℕ)) (new : SessionValue) (after : Option (List ℕ)) : Type 0 where
   pub next : Machine
   pub said : List ℕ
-  pub does : Does told machine DrainAll next said
-  pub means : Means told new next
-  pub wrote : Appends before after (summary_text next)
+  pub does : Does told machine command next said
+  pub means : Means start new next
+  pub wrote : AppendsFront before after said
 
--- what is written of a command that was done: what it says
-abbrev pub its_reply : Machine → List ℕ → List ℕ
-its_reply next said = said
-
--- or the summary
-abbrev pub its_summary : Machine → List ℕ → List ℕ
-its_summary next said = summary_text next
-
--- What stands where a command is cut short. It was done, but of what is to be written no more than a front could be; the disk of a class failed, and the
--- entries are those of that; or memory ran out. At the last two nothing was written.
-abbrev pub CutShort : {D : Type 0} {d : Ghosts D} → (Machine → List ℕ → List ℕ) → Stop → (ℕ → Option Image) → Machine → Command → Option (List ℕ) → Session D d → Option (List ℕ) → Type 0
-CutShort reply stop.WriteFault told machine command before new after =
-    (next : Machine) × (said : List ℕ) × (Does told machine command next said × (Means told new next × AppendsFront before after (reply next said)))
-CutShort reply (stop.DiskFault class) told machine command before new after =
-    (next : Machine) × (FailsAt machine command class next × ((new.store.history.entries ≡ next.entries) × (after ≡ before)))
-CutShort reply stop.Spent told machine command before new after = ⊥
-CutShort reply stop.NoMemory told machine command before new after =
-    (next : Machine) × (RunsShort machine command next × (Means told new next × (after ≡ before)))
-
--- a disk is told to have failed only where a call of it failed
-abbrev pub HasCause : {D : Type 0} {d : Ghosts D} → Stop → Session D d → Session D d → Type 0
-HasCause stop.WriteFault old new = Unit {0}
-HasCause (stop.DiskFault class) old new = FailedAt old.store.shards.items.items new.store.shards.items.items class
-HasCause stop.Spent old new = Unit {0}
-HasCause stop.NoMemory old new = Unit {0}
-
-abbrev pub CauseOf : {D T : Type 0} {d : Ghosts D} → Result T Stop → Session D d → Session D d → Type 0
-CauseOf (Ok x) old new = Unit {0}
-CauseOf (Err reason) old new = HasCause reason old new
+-- What stands where the script stops at a command. A disk that fails at one ends no script.
+abbrev pub CutShort : Stop → (ℕ → Option Image) → State → Machine → Command → Option (List ℕ) → SessionValue → Option (List ℕ) → Type 0
+CutShort stop.WriteFault told start machine command before new after = IsHalfSaid told start machine command before new after
+CutShort (stop.DiskFault class) told start machine command before new after = ⊥
+CutShort stop.Spent told start machine command before new after =
+    (next : Machine) × (StopsSpent machine command next × (IsSpent next × IsSilent start next before new after))
+CutShort stop.NoMemory told start machine command before new after =
+    (next : Machine) × (RunsShort told machine command next × IsSilent start next before new after)
 
 -- some text was written
 abbrev pub AppendsSome : Option (List ℕ) → Option (List ℕ) → Type 0
 AppendsSome before after = (text : List ℕ) × Appends before after text
 
--- the same of the end of a script
-abbrev pub EndCause : {D : Type 0} {d : Ghosts D} → ScriptEnd → Session D d → Session D d → Type 0
-EndCause (end.DiskFault class) old new = FailedAt old.store.shards.items.items new.store.shards.items.items class
-EndCause end.Done old new = Unit {0}
-EndCause end.ReadFault old new = Unit {0}
-EndCause end.WriteFault old new = Unit {0}
-EndCause end.InputLimit old new = Unit {0}
-EndCause end.NoMemory old new = Unit {0}
-
 -- What a command came to, whatever machine the code stood for.
-abbrev pub Obeys : {D T : Type 0} {d : Ghosts D} → Result T Stop → Session D d → Command → Option (List ℕ) → Session D d → Option (List ℕ) → Type 0
-Obeys (Ok u) old command before new after = (told : ℕ → Option Image) (machine : Machine) → Means told old machine → Done told machine command before new after
-Obeys (Err reason) old command before new after =
-    (told : ℕ → Option Image) (machine : Machine) → Means told old machine → CutShort its_reply reason told machine command before new after
+abbrev pub Obeys : {T : Type 0} → (ℕ → Option Image) → State → Result T Stop → SessionValue → Command → Option (List ℕ) → SessionValue → Option (List ℕ) → Type 0
+Obeys told start (Ok u) old command before new after = (machine : Machine) → Means start old machine → Done told start machine command before new after
+Obeys told start (Err reason) old command before new after =
+    (machine : Machine) → Means start old machine → CutShort reason told start machine command before new after
 
--- the summary, by the code's counts and history
-abbrev pub summary_of : {D : Type 0} {d : Ghosts D} → Session D d → List ℕ
-summary_of code =
-    puts_text code.counts ++ (refusals_text code.counts ++ (count_text drains_word (count_by is_drain code.store.history.entries) ++ codes "\n"))
+-- ---- the end of the input
 
--- The same of the end of the input: all that is still pending is drained, and the summary was written.
-abbrev pub Finishes : {D T : Type 0} {d : Ghosts D} → Result T Stop → Session D d → Option (List ℕ) → Session D d → Option (List ℕ) → Type 0
-Finishes (Ok u) old before new after = (told : ℕ → Option Image) (machine : Machine) → Means told old machine → Summed told machine before new after
-Finishes (Err reason) old before new after =
-    (told : ℕ → Option Image) (machine : Machine) → Means told old machine → CutShort its_summary reason told machine DrainAll before new after
+-- all that was still pending is drained, and the summary was written
+pub record Summed (start : State) (machine : Machine) (before : Option (List ℕ)) (new : SessionValue) (after : Option (List ℕ)) : Type 0 where
+  pub next : Machine
+  pub count : ℕ
+  pub drained : DrainsOut machine count next
+  pub means : Means start new next
+  pub wrote : Appends before after (summary_text next)
 
--- what became of the disks and of what was written, whatever came of a command: no count of failed calls fell, and some text was written
-pub record Frame {D T : Type 0} {d : Ghosts D} (result : Result T Stop) (old : Session D d) (before : Option (List ℕ)) (new : Session D d) (after : Option (List ℕ)) : Type 0 where
-  pub later : GoesLater old new
-  pub cause : CauseOf result old new
-  pub some : AppendsSome before after
+-- or only a front of it could be
+pub record IsHalfSummed (start : State) (machine : Machine) (before : Option (List ℕ)) (new : SessionValue) (after : Option (List ℕ)) : Type 0 where
+  pub next : Machine
+  pub count : ℕ
+  pub drained : DrainsOut machine count next
+  pub means : Means start new next
+  pub wrote : AppendsFront before after (summary_text next)
+
+-- some was drained, or all
+abbrev pub DrainsSoFar : Machine → Machine → Type 0
+DrainsSoFar machine next = DrainsPart machine next ⊎ ((count : ℕ) × DrainsOut machine count next)
+
+-- The same where it is cut short. A disk that fails ends the script here.
+abbrev pub FinishShort : Stop → State → Machine → Option (List ℕ) → SessionValue → Option (List ℕ) → Type 0
+FinishShort stop.WriteFault start machine before new after = IsHalfSummed start machine before new after
+FinishShort (stop.DiskFault class) start machine before new after =
+    (next : Machine) × (DrainsFault machine class next × IsSilent start next before new after)
+FinishShort stop.Spent start machine before new after =
+    (next : Machine) × (DrainsPart machine next × (IsSpent next × IsSilent start next before new after))
+FinishShort stop.NoMemory start machine before new after =
+    (next : Machine) × (DrainsSoFar machine next × IsSilent start next before new after)
+
+abbrev pub Finishes : {T : Type 0} → State → Result T Stop → SessionValue → Option (List ℕ) → SessionValue → Option (List ℕ) → Type 0
+Finishes start (Ok u) old before new after = (machine : Machine) → Means start old machine → Summed start machine before new after
+Finishes start (Err reason) old before new after = (machine : Machine) → Means start old machine → FinishShort reason start machine before new after
 
 -- ---- lines
 
 -- What a line may make of the code and of what was written, where the script goes on.
-pub record Serves {D : Type 0} {d : Ghosts D} (old : Session D d) (line : Line) (before : Option (List ℕ)) (new : Session D d) (after : Option (List ℕ)) : Type 0 where
-  pub does : (told : ℕ → Option Image) (machine : Machine) → Means told old machine → Done told machine (command_of line machine.clock) before new after
-  pub later : GoesLater old new
+pub record Serves (told : ℕ → Option Image) (start : State) (old : SessionValue) (line : Line) (before : Option (List ℕ)) (new : SessionValue) (after : Option (List ℕ)) : Type 0 where
+  pub does : (machine : Machine) → Means start old machine → Done told start machine (command_of line machine.clock) before new after
   pub some : AppendsSome before after
 
 -- and where it ends there
-pub record Stops {D : Type 0} {d : Ghosts D} (old : Session D d) (line : Line) (before : Option (List ℕ)) (reason : Stop) (new : Session D d) (after : Option (List ℕ)) : Type 0 where
-  pub cut : (told : ℕ → Option Image) (machine : Machine) → Means told old machine
-      → CutShort its_reply reason told machine (command_of line machine.clock) before new after
-  pub later : GoesLater old new
-  pub cause : HasCause reason old new
+pub record Stops (told : ℕ → Option Image) (start : State) (old : SessionValue) (line : Line) (before : Option (List ℕ)) (reason : Stop) (new : SessionValue) (after : Option (List ℕ)) : Type 0 where
+  pub cut : (machine : Machine) → Means start old machine
+      → CutShort reason told start machine (command_of line machine.clock) before new after
   pub some : AppendsSome before after
 
 -- ---- whole scripts
 
 -- all lines of these bytes were served, and what they say was written
-abbrev pub ServesAll : {D : Type 0} {d : Ghosts D} → (ℕ → Option Image) → Machine → List ℕ → Option (List ℕ) → Session D d → Option (List ℕ) → Type 0
-ServesAll told start bytes before new after =
-    (last : Machine) × (said : List ℕ) × (Runs (Steps told) start (lines bytes) last said × (Means told new last × Appends before after said))
+pub record ServesAll (told : ℕ → Option Image) (start : State) (bytes : List ℕ) (before : Option (List ℕ)) (new : SessionValue) (after : Option (List ℕ)) : Type 0 where
+  pub last : Machine
+  pub said : List ℕ
+  pub runs : Runs (Steps told) (opening start) (lines bytes) last said
+  pub means : Means start new last
+  pub wrote : Appends before after said
 
--- The entries at each end of a script, of which the bytes `taken` were read and which began at the machine `start`, and what was written. At the end of
--- the input they are those of the whole script. At a failed read and at the input's limit they are those of all lines that were taken, and nothing is
--- drained besides; so too where memory ran out between two reads, of what was taken before the last one. Else they are those of the first lines and of
--- the command that was cut short, which is the next line's, or the drain of all that is pending, once the input came to its end.
-abbrev pub EndsAs : {D : Type 0} {d : Ghosts D} → ScriptEnd → (ℕ → Option Image) → Machine → List ℕ → Option (List ℕ) → Option (List ℕ) → Session D d → Option (List ℕ) → Type 0
-EndsAs end.Done told start taken left before new after =
-    (last : Machine) × (said : List ℕ) × (ScriptRun told start taken last said × (Means told new last × Appends before after said))
-EndsAs end.ReadFault told start taken left before new after = ServesAll told start taken before new after
-EndsAs end.InputLimit told start taken left before new after = ServesAll told start taken before new after
-EndsAs end.WriteFault told start taken left before new after =
-    (last : Machine) × (command : Command) × (next : Machine) × (said : List ℕ) × (at : ServesUpTo told start taken left last command)
-    × (Does told last command next said × (Means told new next × AppendsPart before after at.said (reply_at at.others next said)))
-EndsAs (end.DiskFault class) told start taken left before new after =
-    (last : Machine) × (command : Command) × (next : Machine) × (at : ServesUpTo told start taken left last command)
-    × (FailsAt last command class next × ((new.store.history.entries ≡ next.entries) × Appends before after at.said))
-EndsAs end.NoMemory told start taken left before new after =
+-- the first of these lines were served, and the script came to the machine `last` and said this; then comes another line
+pub record ServesUpTo (told : ℕ → Option Image) (start : State) (all : List Line) (last : Machine) (line : Line) (said : List ℕ) : Type 0 where
+  pub handed : List Line
+  pub others : List Line
+  pub runs : Runs (Steps told) (opening start) handed last said
+  pub split : all ≡ handed ++ line ∷ others
+
+-- the script stopped at one of these lines, behind what those before it said
+pub record StopsAtLine (told : ℕ → Option Image) (start : State) (reason : Stop) (all : List Line) (before : Option (List ℕ)) (new : SessionValue) (after : Option (List ℕ)) : Type 0 where
+  pub last : Machine
+  pub line : Line
+  pub said : List ℕ
+  pub served : ServesUpTo told start all last line said
+  pub mid : Option (List ℕ)
+  pub wrote : Appends before mid said
+  pub cut : CutShort reason told start last (command_of line last.clock) mid new after
+
+-- or behind the last of them, at the end of the input, in the drain of all that is pending or the summary
+pub record StopsAtEnd (told : ℕ → Option Image) (start : State) (reason : Stop) (all : List Line) (before : Option (List ℕ)) (new : SessionValue) (after : Option (List ℕ)) : Type 0 where
+  pub last : Machine
+  pub said : List ℕ
+  pub served : Runs (Steps told) (opening start) all last said
+  pub mid : Option (List ℕ)
+  pub wrote : Appends before mid said
+  pub cut : FinishShort reason start last mid new after
+
+-- the input came to its end before its limit
+pub record IsReadOut (taken : List ℕ) (left : Option (List ℕ)) : Type 0 where
+  pub ended : IsAtEnd left
+  pub short : length taken < 2 ^ 40
+
+-- a script that was stopped, at a line or at the end
+abbrev pub StopsWith : (ℕ → Option Image) → State → Stop → List ℕ → Option (List ℕ) → Option (List ℕ) → SessionValue → Option (List ℕ) → Type 0
+StopsWith told start reason taken left before new after =
+    StopsAtLine told start reason (lines taken) before new after
+    ⊎ (StopsAtEnd told start reason (lines taken) before new after × IsReadOut taken left)
+
+-- all of it was run, and its text was written
+pub record RunsWhole (told : ℕ → Option Image) (start : State) (taken : List ℕ) (before : Option (List ℕ)) (new : SessionValue) (after : Option (List ℕ)) : Type 0 where
+  pub last : Machine
+  pub text : List ℕ
+  pub run : ScriptRun told (opening start) taken last text
+  pub means : Means start new last
+  pub wrote : Appends before after text
+
+-- Where a script stands at each of its ends, of which the bytes `taken` were read. At the end of the input it is that of the whole script. At a failed
+-- read and at the input's limit it is that of all lines that were taken, and nothing is drained besides; so too where memory ran out between two reads,
+-- of what was taken before the last one. Else it was stopped, at a line or at the end.
+abbrev pub EndsAs : (ℕ → Option Image) → State → ScriptEnd → List ℕ → Option (List ℕ) → Option (List ℕ) → SessionValue → Option (List ℕ) → Type 0
+EndsAs told start end.Done taken left before new after = RunsWhole told start taken before new after × IsReadOut taken left
+EndsAs told start end.ReadFault taken left before new after = ServesAll told start taken before new after
+EndsAs told start end.InputLimit taken left before new after = ServesAll told start taken before new after × (length taken ≡ 2 ^ 40)
+EndsAs told start end.WriteFault taken left before new after = StopsWith told start stop.WriteFault taken left before new after
+EndsAs told start (end.DiskFault class) taken left before new after =
+    StopsAtEnd told start (stop.DiskFault class) (lines taken) before new after × IsReadOut taken left
+EndsAs told start end.Spent taken left before new after = StopsWith told start stop.Spent taken left before new after
+EndsAs told start end.NoMemory taken left before new after =
     ((front : List ℕ) × (RunsOut front taken × ServesAll told start front before new after))
-    ⊎ ((last : Machine) × (command : Command) × (next : Machine) × (at : ServesUpTo told start taken left last command)
-    × (RunsShort last command next × (Means told new next × Appends before after at.said)))
+    ⊎ StopsWith told start stop.NoMemory taken left before new after
 
--- how much of the input was taken
-abbrev pub TakesInput : ScriptEnd → List ℕ → Option (List ℕ) → Type 0
-TakesInput end.Done taken left' = IsReadOut taken left'
-TakesInput end.InputLimit taken left' = length taken ≡ 2 ^ 40
-TakesInput end.ReadFault taken left' = Unit {0}
-TakesInput end.WriteFault taken left' = Unit {0}
-TakesInput (end.DiskFault class) taken left' = Unit {0}
-TakesInput end.NoMemory taken left' = Unit {0}
-
--- What a script came to, whatever machine the code stood for.
-pub record Ends {D : Type 0} {d : Ghosts D} (reason : ScriptEnd) (left : Option (List ℕ)) (old : Session D d) (before : Option (List ℕ)) (left' : Option (List ℕ)) (new : Session D d) (after : Option (List ℕ)) : Type 0 where
+-- What a script came to.
+pub record Ends (told : ℕ → Option Image) (start : State) (reason : ScriptEnd) (left : Option (List ℕ)) (before : Option (List ℕ)) (left' : Option (List ℕ)) (new : SessionValue) (after : Option (List ℕ)) : Type 0 where
   pub taken : List ℕ
   pub consumed : Consumes left left' taken
-  pub input : TakesInput reason taken left'
-  pub ends : (told : ℕ → Option Image) (start : Machine) → Means told old start → EndsAs reason told start taken left' before new after
-  pub later : GoesLater old new
-  pub cause : EndCause reason old new
+  pub ends : EndsAs told start reason taken left' before new after
   pub some : AppendsSome before after

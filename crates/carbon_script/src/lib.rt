@@ -3,18 +3,14 @@
 
 mod command;
 mod counts;
-mod fault;
 mod parse;
-mod question;
 mod reply;
+mod round;
+mod say;
 mod serve;
 mod session;
-mod store;
 mod summary;
+mod text;
 
 pub use counts::Counts;
-pub use fault::Fault;
-pub use question::Question;
-pub use serve::{ScriptEnd, script};
-pub use session::Session;
-pub use store::Store;
+pub use serve::{ScriptEnd, Scripted, script};

@@ -1,154 +1,283 @@
-ghost use Rattle.std.specs.Prelude.{◌≡◌, ◌++◌, ◌<◌, ◌≤◌, ◌*◌, ◌+◌, ◌^◌, IfOk, IfSome, OnOk, length};
-ghost use Rattle.carbon_script.specs.Replies.{reply_of};
-ghost use Rattle.carbon_model.specs.Series.{EndsInTime};
-ghost use Rattle.carbon_script.specs.Answer.{answer_text, series_text, points_text, next_text, point_text, value_text, separator, null_text, target_text, datapoints_text, series_end, no_series};
+//! What a script says.
+ghost use Rattle.std.specs.Prelude.{◌≡◌, ◌↔◌, ◌++◌, [], true, IfOk, codes, if◌then◌else◌};
+ghost use Rattle.render_plan.specs.Asked.{plan_seen};
+ghost use Rattle.render_plan.specs.Bounds.{AreRows};
+ghost use Rattle.carbon_script.specs.Replies.{SaysBegun, SaysDrained, SaysFound, SaysRows, SaysRun, SaysUnread, Tells};
+ghost use Rattle.carbon_script.specs.Texts.{answer_reply, count_line, drain_fault_text, drained_text, ends_line, fault_reply, plan_fault_text, plan_idle, plan_text, refused_reply, write_fault_text, write_finished, write_nothing, write_run};
 
-use carbon_model::Series;
-use fixed_num::{MILLI_TEXT, Milli, print_milli};
-use itoa::Buffer;
+use crate::round::{Begun, NextRun};
+use crate::text::push_count;
 use metric_path::MetricPath;
+use render_answer::{Answer, Refusal, answer_rows};
+use render_plan::{QueryFault, RenderPlan};
+use series_set::SeriesRows;
+use shared_store::{AskFault, DrainEnd};
 use std::alloc::{AllocError, Global};
+use std::marker::Model;
 
-/// The answer to a question about a metric, of which this is shown, with a line end.
-pub fn reply(
-    alloc: Global,
-    path: &MetricPath,
-    series: &Option<Series>,
-) -> Result<Vec<u8>, AllocError>
-    requires { IfSome series.now EndsInTime }
-    ensures { IfOk result (λ text. text.items ≡ reply_of path.now series.now) }
-{
-    let mut text = Vec::new(alloc);
-    push_answer(&mut text, path, series)?;
-    text.extend_from_slice(b"\n")?;
-    Ok(text)
+/// The bytes that a command says.
+#[derive(Drop)]
+pub struct Reply {
+    bytes: Vec<u8>,
 }
 
-/// Appends the answer to a question about a metric, of which this is shown, as JSON.
-fn push_answer(
-    out: &mut Vec<u8>,
-    path: &MetricPath,
-    series: &Option<Series>,
-) -> Result<(), AllocError>
-    requires { IfSome series.now EndsInTime }
-    ensures { OnOk result (out.new.items ≡ out.old.items ++ answer_text path.now series.now) }
-{
-    match series {
-        None => push_no_series(out),
-        Some(series) => push_series(out, path, series),
-    }
+impl Model for Reply {
+    ghost use Rattle.std.specs.Prelude.{List, ℕ};
+
+    ghost Value = { List ℕ };
+
+    ghost view = { λ r. r.bytes.items };
 }
 
-/// Appends the series of a metric.
-fn push_series(out: &mut Vec<u8>, path: &MetricPath, series: &Series) -> Result<(), AllocError>
-    requires { EndsInTime series.now }
-    ensures { OnOk result (out.new.items ≡ out.old.items ++ series_text path.now series.now) }
-{
-    push_target(out)?;
-    out.extend_from_slice(path.text())?;
-    push_datapoints(out)?;
-    push_points(out, series)?;
-    push_series_end(out)
-}
-
-/// Appends the points of a series.
-fn push_points(out: &mut Vec<u8>, series: &Series) -> Result<(), AllocError>
-    requires { EndsInTime series.now }
-    ensures { OnOk result
-        (out.new.items ≡ out.old.items ++ points_text series.now (length series.now.values)) }
-{
-    for i in 0..series.values.list().len() {
-        push_next(out, series, i)?;
-    }
-    Ok(())
-}
-
-/// Appends the i-th point of a series, and what stands before it.
-fn push_next(out: &mut Vec<u8>, series: &Series, i: usize) -> Result<(), AllocError>
-    requires ends { EndsInTime series.now }
-    requires within { i < length series.now.values }
-    ensures { OnOk result (out.new.items ≡ out.old.items ++ next_text series.now i) }
-{
-    push_separator(out, i)?;
-    push_point(out, series.values.list()[i], time_of(series, i))
-}
-
-/// The time of the i-th bucket of a series.
-fn time_of(series: &Series, i: usize) -> u32
-    requires ends { EndsInTime series.now }
-    requires within { i < length series.now.values }
-    ensures { result ≡ series.now.first + i * series.now.step }
-{
-    series.first + i as u32 * series.step
-}
-
-/// Appends what stands before the i-th point.
-fn push_separator(out: &mut Vec<u8>, i: usize) -> Result<(), AllocError>
-    ensures { OnOk result (out.new.items ≡ out.old.items ++ separator i) }
-{
-    if i == 0 {
-        return Ok(());
-    }
-    out.extend_from_slice(b", ")
-}
-
-/// Appends a point: a value and the time of its bucket.
-fn push_point(out: &mut Vec<u8>, value: Option<Milli>, time: u32) -> Result<(), AllocError>
-    ensures { OnOk result (out.new.items ≡ out.old.items ++ point_text value time) }
-{
-    let mut buffer = Buffer::new();
-    out.extend_from_slice(b"[")?;
-    push_value(out, value)?;
-    out.extend_from_slice(b", ")?;
-    out.extend_from_slice(buffer.format(time).as_bytes())?;
-    out.extend_from_slice(b"]")
-}
-
-/// Appends a value.
-fn push_value(out: &mut Vec<u8>, value: Option<Milli>) -> Result<(), AllocError>
-    ensures { OnOk result (out.new.items ≡ out.old.items ++ value_text value) }
-{
-    match value {
-        None => push_null(out),
-        Some(value) => {
-            let mut text = [0; MILLI_TEXT];
-            let length = print_milli(value, &mut text);
-            out.extend_from_slice(&text[..length])
+impl Reply {
+    /// No bytes. No memory is taken.
+    pub fn silent(alloc: Global) -> Reply
+        ensures { result ≡ [] }
+    {
+        Reply {
+            bytes: Vec::new(alloc),
         }
     }
+
+    /// These bytes.
+    pub fn new(bytes: Vec<u8>) -> Reply
+        ensures { result ≡ bytes.items }
+    {
+        Reply { bytes }
+    }
+
+    /// The bytes.
+    pub fn as_slice(&self) -> &[u8]
+        ensures { result.now ≡ self.now }
+    {
+        self.bytes.as_slice()
+    }
 }
 
-#[tactic(auto, unfolding(crate::specs::Answer::null_text))]
-fn push_null(out: &mut Vec<u8>) -> Result<(), AllocError>
-    ensures { OnOk result (out.new.items ≡ out.old.items ++ null_text) }
-{
-    out.extend_from_slice(b"null")
+/// Why a command says nothing.
+#[derive(Clone, Copy, Debug, PartialEq, Eq)]
+pub enum Shortage {
+    /// The pass has no room for what a call may enter.
+    Room,
+    /// Memory ran out.
+    Memory,
 }
 
-#[tactic(auto, unfolding(crate::specs::Answer::target_text))]
-fn push_target(out: &mut Vec<u8>) -> Result<(), AllocError>
-    ensures { OnOk result (out.new.items ≡ out.old.items ++ target_text) }
-{
-    out.extend_from_slice(b"[{\"target\": \"")
+impl From<AllocError> for Shortage {
+    ghost use Rattle.std.specs.Prelude.{◌≡◌};
+    ghost use Rattle.carbon_script.specs.declared.reply.Shortage.TheVariants.{Memory};
+
+    ghost from_gives = { λ _ why. why ≡ Memory };
+
+    fn from(_: AllocError) -> Shortage {
+        Shortage::Memory
+    }
 }
 
-#[tactic(auto, unfolding(crate::specs::Answer::datapoints_text))]
-fn push_datapoints(out: &mut Vec<u8>) -> Result<(), AllocError>
-    ensures { OnOk result (out.new.items ≡ out.old.items ++ datapoints_text) }
+/// The reply to a round of plans.
+pub fn begun_reply(alloc: Global, begun: &Begun) -> Result<Reply, Shortage>
+    ensures { SaysBegun begun.now result }
 {
-    out.extend_from_slice(b"\", \"datapoints\": [")
+    match begun {
+        Begun::Metric(path) => plan_reply(alloc, path),
+        Begun::DiskFault(class) => plan_fault_reply(alloc, *class),
+        Begun::Nothing => plan_idle_reply(alloc),
+        Begun::NoMemory => Err(Shortage::Memory),
+    }
 }
 
-#[tactic(auto, unfolding(crate::specs::Answer::series_end))]
-fn push_series_end(out: &mut Vec<u8>) -> Result<(), AllocError>
-    ensures { OnOk result (out.new.items ≡ out.old.items ++ series_end) }
+#[tactic(auto, unfolding(crate::specs::Texts::planned_word))]
+fn plan_reply(alloc: Global, path: &MetricPath) -> Result<Reply, Shortage>
+    ensures { Tells result (plan_text path.now) }
 {
-    out.extend_from_slice(b"]}]")
+    let mut text = Vec::new(alloc);
+    text.extend_from_slice(b"plan ")?;
+    text.extend_from_slice(path.text())?;
+    text.extend_from_slice(b"\n")?;
+    Ok(Reply::new(text))
 }
 
-#[tactic(auto, unfolding(crate::specs::Answer::no_series))]
-fn push_no_series(out: &mut Vec<u8>) -> Result<(), AllocError>
-    ensures { OnOk result (out.new.items ≡ out.old.items ++ no_series) }
+#[tactic(auto, unfolding(crate::specs::Texts::plan_fault_word))]
+fn plan_fault_reply(alloc: Global, class: u32) -> Result<Reply, Shortage>
+    ensures { Tells result (plan_fault_text class) }
 {
-    out.extend_from_slice(b"[]")
+    count_reply(alloc, b"plan fault class ", u64::from(class))
+}
+
+#[tactic(auto, unfolding(crate::specs::Texts::plan_idle))]
+fn plan_idle_reply(alloc: Global) -> Result<Reply, Shortage>
+    ensures { Tells result plan_idle }
+{
+    reply_of(alloc, b"plan idle\n")
+}
+
+/// The reply to a round of writes.
+pub fn run_reply(alloc: Global, run: NextRun) -> Result<Reply, Shortage>
+    ensures { SaysRun run result }
+{
+    match run {
+        NextRun::Written => write_run_reply(alloc),
+        NextRun::Finished => write_finished_reply(alloc),
+        NextRun::DiskFault(class) => write_fault_reply(alloc, class),
+        NextRun::Nothing => write_nothing_reply(alloc),
+    }
+}
+
+#[tactic(auto, unfolding(crate::specs::Texts::write_run))]
+fn write_run_reply(alloc: Global) -> Result<Reply, Shortage>
+    ensures { Tells result write_run }
+{
+    reply_of(alloc, b"write run\n")
+}
+
+#[tactic(auto, unfolding(crate::specs::Texts::write_finished))]
+fn write_finished_reply(alloc: Global) -> Result<Reply, Shortage>
+    ensures { Tells result write_finished }
+{
+    reply_of(alloc, b"write finished\n")
+}
+
+#[tactic(auto, unfolding(crate::specs::Texts::write_fault_word))]
+fn write_fault_reply(alloc: Global, class: u32) -> Result<Reply, Shortage>
+    ensures { Tells result (write_fault_text class) }
+{
+    count_reply(alloc, b"write fault class ", u64::from(class))
+}
+
+#[tactic(auto, unfolding(crate::specs::Texts::write_nothing))]
+fn write_nothing_reply(alloc: Global) -> Result<Reply, Shortage>
+    ensures { Tells result write_nothing }
+{
+    reply_of(alloc, b"write nothing\n")
+}
+
+/// The reply to the drain of all that is pending.
+pub fn drained_reply(alloc: Global, end: DrainEnd) -> Result<Reply, Shortage>
+    ensures { SaysDrained end result }
+{
+    match end {
+        DrainEnd::Done(count) => drained_count_reply(alloc, count),
+        DrainEnd::DiskFault(class) => drain_fault_reply(alloc, class),
+        DrainEnd::Spent => Err(Shortage::Room),
+        DrainEnd::NoMemory => Err(Shortage::Memory),
+    }
+}
+
+#[tactic(auto, unfolding(crate::specs::Texts::drained_word))]
+fn drained_count_reply(alloc: Global, count: u64) -> Result<Reply, Shortage>
+    ensures { Tells result (drained_text count) }
+{
+    count_reply(alloc, b"drained ", count)
+}
+
+#[tactic(auto, unfolding(crate::specs::Texts::drain_fault_word))]
+fn drain_fault_reply(alloc: Global, class: u32) -> Result<Reply, Shortage>
+    ensures { Tells result (drain_fault_text class) }
+{
+    count_reply(alloc, b"drain fault class ", u64::from(class))
+}
+
+/// The reply to a query that was asked.
+pub fn found_reply(
+    alloc: Global,
+    plan: &RenderPlan,
+    found: &Result<SeriesRows, AskFault>,
+) -> Result<Reply, Shortage>
+    requires { IfOk found.now AreRows }
+    ensures { SaysFound (plan_seen plan.now) found.now result }
+{
+    match found {
+        Ok(rows) => rows_reply(alloc, plan, rows),
+        Err(AskFault::DiskFault(class)) => fault_reply(alloc, *class),
+        Err(AskFault::TooManySeries(count)) => {
+            refused_reply(alloc, &Refusal::TooManySeries(*count))
+        }
+        Err(AskFault::TooManyPoints(count)) => {
+            refused_reply(alloc, &Refusal::TooManyPoints(*count))
+        }
+        Err(AskFault::NoMemory) => Err(Shortage::Memory),
+    }
+}
+
+fn rows_reply(alloc: Global, plan: &RenderPlan, rows: &SeriesRows) -> Result<Reply, Shortage>
+    requires { AreRows rows.now }
+    ensures { SaysRows (plan_seen plan.now) rows.now result }
+{
+    let answer = answer_rows(alloc, plan, rows)?;
+    answer_reply(alloc, answer)
+}
+
+fn answer_reply(alloc: Global, answer: Answer) -> Result<Reply, Shortage>
+    ensures { Tells result (answer_reply answer) }
+{
+    match answer {
+        Answer::Body(_, text) => body_reply(text.into_vec()),
+        Answer::Refused(why) => refused_reply(alloc, &why),
+    }
+}
+
+// The series of a query, which end a line.
+fn body_reply(body: Vec<u8>) -> Result<Reply, Shortage>
+    ensures { Tells result
+        (if ends_line body.items then body.items else body.items ++ codes "\n") }
+{
+    let mut text = body;
+    if !text.ends_with(b"\n") {
+        text.extend_from_slice(b"\n")?;
+    }
+    Ok(Reply::new(text))
+}
+
+/// The reply to a query that cannot be read.
+pub fn unread_reply(alloc: Global, fault: QueryFault) -> Result<Reply, Shortage>
+    ensures { SaysUnread fault result }
+{
+    if is_want(fault) {
+        return Err(Shortage::Memory);
+    }
+    refused_reply(alloc, &Refusal::Query(fault))
+}
+
+// Whether there was no memory to read a query.
+fn is_want(fault: QueryFault) -> bool
+    ensures { (result ≡ true) ↔ (fault ≡ QueryFault.NoMemory) }
+{
+    matches!(fault, QueryFault::NoMemory)
+}
+
+// The reply to a query that has no series.
+#[tactic(auto, unfolding(crate::specs::Texts::refused_word))]
+fn refused_reply(alloc: Global, why: &Refusal) -> Result<Reply, Shortage>
+    ensures { Tells result (refused_reply why.now) }
+{
+    let mut text = Vec::new(alloc);
+    text.extend_from_slice(b"refused ")?;
+    text.extend_from_slice(&why.text(alloc)?)?;
+    text.extend_from_slice(b"\n")?;
+    Ok(Reply::new(text))
+}
+
+#[tactic(auto, unfolding(crate::specs::Texts::fault_word))]
+fn fault_reply(alloc: Global, class: u32) -> Result<Reply, Shortage>
+    ensures { Tells result (fault_reply class) }
+{
+    count_reply(alloc, b"fault class ", u64::from(class))
+}
+
+// A word, a number and a line end.
+fn count_reply(alloc: Global, word: &[u8], count: u64) -> Result<Reply, Shortage>
+    ensures { Tells result (count_line word.now count) }
+{
+    let mut text = Vec::new(alloc);
+    push_count(&mut text, word, count)?;
+    text.extend_from_slice(b"\n")?;
+    Ok(Reply::new(text))
+}
+
+fn reply_of(alloc: Global, line: &[u8]) -> Result<Reply, Shortage>
+    ensures { Tells result line.now }
+{
+    let mut text = Vec::new(alloc);
+    text.extend_from_slice(line)?;
+    Ok(Reply::new(text))
 }

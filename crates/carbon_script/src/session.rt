@@ -1,59 +1,84 @@
-//! A script's session with a store: its clock, its counts, and what it says.
-ghost use Rattle.std.specs.Prelude.{◌≡◌, ◌≤◌, true, IfOk};
-ghost use Rattle.fixed_num.specs.Moment.{is_moment};
-ghost use Rattle.carbon_script.specs.Ends.{stop_of};
-ghost use Rattle.carbon_script.specs.Script.{drained_text};
+//! A script's session with a store: its pass, its clock, its counts, and what it says.
+ghost use Rattle.std.specs.Prelude.{◌≡◌};
 
 use crate::command::Command;
 use crate::counts::Counts;
-use crate::fault::Fault;
 use crate::parse::read_command;
-use crate::question::Question;
-use crate::store::Store;
-use crate::summary::{push_drained, push_drains, push_puts, push_refusals};
-use carbon_history::History;
+use crate::reply::{
+    Reply, Shortage, begun_reply, drained_reply, found_reply, run_reply, unread_reply,
+};
+use crate::round::{begin_drain, write_run};
+use crate::say::{refuse, say};
+use crate::summary::summary;
+use carbon_history::PutEnd;
 use line_service::{LineServer, Stop};
 use metric_line::Datum;
-use outside_io::{Disk, Sink, write_all};
-use std::alloc::{AllocError, Global};
-use whole_shard::Shards;
+use outside_io::{Disk, Sink};
+use point_cache::Put;
+use render_plan::RenderPlan;
+use shared_history::Pass;
+use shared_store::{DrainEnd, Named, Store};
+use std::alloc::Global;
+use std::marker::Model;
+use std::sync::Wait;
 
 /// The clock of a script before it is set: 2023-11-14 22:13:20 UTC.
 const FIRST_CLOCK: u32 = 1_700_000_000;
 
-/// A carbon on one thread that serves a script: what it keeps, its clock in seconds since the Unix epoch, and what it counted.
+/// The most entries that a call of a store makes.
+const MOST_CALL_ENTRIES: u64 = 4;
+
+/// A script over a store that has one pass: the pass, the clock in seconds since the Unix epoch, and what was counted.
 #[derive(Drop)]
-pub struct Session<D: Disk> {
-    store: Store<D>,
+pub struct Session<'a, R: Wait, D: Disk, N: Named> {
+    rt: &'a R,
+    store: &'a Store<D, N>,
+    pass: Pass,
     clock: u32,
     counts: Counts,
     alloc: Global,
-    ghost told: { clock ≤ 4000000000 },
-    ghost legal: { is_moment clock ≡ true },
 }
 
-impl<D: Disk> Session<D> {
-    ghost use Rattle.std.specs.Prelude.{◌≡◌, ℕ, [], Err, IfOk, Option};
+impl<'a, R: Wait, D: Disk, N: Named> Model for Session<'a, R, D, N> {
+    ghost use Rattle.std.specs.Prelude.{◌≡◌, true};
+    ghost use Rattle.fixed_num.specs.Moment.{is_moment};
+    ghost use Rattle.carbon_script.specs.Alone.{IsOnly};
+    ghost use Rattle.carbon_script.specs.Sessions.{SessionValue};
+
+    ghost Value = { SessionValue };
+
+    ghost view = { λ s. record { pass = s.pass; clock = s.clock; counts = s.counts } };
+
+    ghost invariant = { λ s. (is_moment s.clock ≡ true)
+        × (IsOnly N.table N.start s.pass × (N.passes ≡ 1)) };
+}
+
+impl<'a, R: Wait, D: Disk, N: Named> Session<'a, R, D, N> {
+    ghost use Rattle.std.specs.Prelude.{◌≡◌, Err, []};
     ghost use Rattle.outside_io.specs.Frames.{CountsWrites};
-    ghost use Rattle.outside_io.specs.Image.{Image};
     ghost use Rattle.line_service.specs.declared.ends.Stop.TheVariants.{WriteFault};
     ghost use Rattle.metric_line.specs.Seen.{seen};
-    ghost use Rattle.carbon_model.specs.State.{State};
-    ghost use Rattle.whole_shard.specs.Shards.{HoldsAll};
-    ghost use Rattle.carbon_script.specs.Command.{Ask, Bad, DrainAll, Metric};
+    ghost use Rattle.shared_history.specs.Parts.{IsNewPass};
+    ghost use Rattle.shared_store.specs.Passes.{HasRoom};
+    ghost use Rattle.render_plan.specs.Asked.{plan_seen};
+    ghost use Rattle.carbon_script.specs.Alone.{IsOnly};
+    ghost use Rattle.carbon_script.specs.Command.{Ask, DrainAll, Metric, Plan, Write};
+    ghost use Rattle.carbon_script.specs.Counts.{no_counts};
+    ghost use Rattle.carbon_script.specs.Replies.{DrainsAlone, Replies, RepliesTo, Summarises, TellsRoom, counting};
     ghost use Rattle.carbon_script.specs.SeenCommand.{IsSound, seen_command};
-    ghost use Rattle.carbon_script.specs.Script.{opening};
-    ghost use Rattle.carbon_script.specs.Sessions.{Finishes, Frame, Means, Obeys, summary_of};
-    ghost use Rattle.carbon_script.specs.Windows.{IsQuestion};
+    ghost use Rattle.carbon_script.specs.Script.{first_clock, opening};
+    ghost use Rattle.carbon_script.specs.Sessions.{AppendsSome, Finishes, Means, Obeys};
 
-    /// Nothing counted and nothing entered, over these shards.
-    pub fn new(alloc: Global, shards: Shards<D>) -> Session<D>
-        ensures means { (told : ℕ → Option Image) (s : State) → HoldsAll told shards.items.items s
-            → Means told result (opening s) }
-        ensures shards { result.store.shards ≡ shards }
+    /// Nothing counted and nothing entered, by a new pass.
+    pub fn new(rt: &'a R, alloc: Global, store: &'a Store<D, N>, pass: Pass) -> Session<'a, R, D, N>
+        requires alone { N.passes ≡ 1 }
+        requires new { IsNewPass N.table 0 pass }
+        ensures { Means N.start result (opening N.start) }
     {
         Session {
-            store: Store::new(alloc, shards),
+            rt,
+            store,
+            pass,
             clock: FIRST_CLOCK,
             counts: Counts::none(),
             alloc,
@@ -61,145 +86,156 @@ impl<D: Disk> Session<D> {
     }
 
     // Does what a command says, and writes its reply.
-    #[tactic(auto, using(crate::proofs::SessionLemmas::appends_some_none, crate::proofs::SessionLemmas::later_none))]
-    fn obey<K: Sink>(&mut self, command: Command, out: &mut K) -> Result<(), Stop>
+    fn obey<K: Sink>(&mut self, command: Command<'_>, out: &mut K) -> Result<(), Stop>
         requires { IsSound command }
-        ensures obeys { Obeys result self.old (seen_command command) (K.written out.old) self.new
-            (K.written out.new) }
-        ensures frame { Frame result self.old (K.written out.old) self.new (K.written out.new) }
+        ensures obeys { Obeys N.told N.start result self.old (seen_command command.entry)
+            (K.written out.old) self.new (K.written out.new) }
+        ensures some { AppendsSome (K.written out.old) (K.written out.new) }
         ensures writes { CountsWrites K.Sink out.old out.new (result ≡ Err WriteFault) }
     {
         match command {
-            Command::Metric(datum) => return self.put(datum, out),
+            Command::Metric(datum) => return say(out, self.put(&datum)),
             Command::Refused(fault) => self.counts.count_refused(&fault),
             Command::Long => self.counts.count_long(),
             Command::Clock(moment) => self.clock = moment,
-            Command::Ask(question) => return self.answer(&question, out),
-            Command::DrainAll => return self.drain(out),
-            Command::Bad => return self.refuse(out),
+            Command::Ask(query) => return say(out, self.ask(query)),
+            Command::Plan => return say(out, self.plan()),
+            Command::Write => return say(out, self.write()),
+            Command::DrainAll => return say(out, self.drain()),
+            Command::Bad => return refuse(out),
         }
         Ok(())
     }
 
-    // Puts the point of a metric line.
-    #[tactic(auto, using(crate::proofs::SessionLemmas::appends_some_none, crate::proofs::SessionLemmas::later_none))]
-    fn put<K: Sink>(&mut self, datum: Datum, out: &mut K) -> Result<(), Stop>
-        ensures obeys { Obeys result self.old (Metric (seen datum)) (K.written out.old) self.new
-            (K.written out.new) }
-        ensures frame { Frame result self.old (K.written out.old) self.new (K.written out.new) }
-        ensures writes { CountsWrites K.Sink out.old out.new (result ≡ Err WriteFault) }
+    // Whether the pass has room for what a call of the store may enter.
+    fn room(&self) -> Result<(), Shortage>
+        ensures { TellsRoom result self.now.pass }
     {
-        let _ = out;
-        match self.store.put(datum) {
-            Ok(end) => {
-                self.counts.count_put(end);
-                Ok(())
-            }
-            Err(_) => Err(Stop::NoMemory),
+        if self.pass.left() < MOST_CALL_ENTRIES {
+            Err(Shortage::Room)
+        } else {
+            Ok(())
         }
     }
 
-    // Answers a question, and writes the answer in one piece.
-    #[tactic(auto, using(crate::proofs::SessionLemmas::appends_some_none, crate::proofs::SessionLemmas::later_none))]
-    fn answer<K: Sink>(&mut self, question: &Question, out: &mut K) -> Result<(), Stop>
-        requires { IsQuestion question.now }
-        ensures obeys { Obeys result self.old (Ask question.now) (K.written out.old) self.new
-            (K.written out.new) }
-        ensures frame { Frame result self.old (K.written out.old) self.new (K.written out.new) }
-        ensures writes { CountsWrites K.Sink out.old out.new (result ≡ Err WriteFault) }
+    // Puts the point of a metric line, which says nothing.
+    fn put(&mut self, datum: &Datum) -> Result<Reply, Shortage>
+        ensures { Replies N.told N.start (Metric (seen datum.now)) result self.old self.new }
     {
-        let text = match self.store.ask(question, self.clock) {
-            Ok(text) => text,
-            Err(fault) => return Err(stop_of(fault)),
-        };
-        match write_all(out, &text) {
-            Ok(()) => Ok(()),
-            Err(_) => Err(Stop::WriteFault),
+        self.room()?;
+        match self.store.put(self.rt, &mut self.pass, datum) {
+            Put::Stored => Ok(self.count(PutEnd::Stored)),
+            Put::Replaced => Ok(self.count(PutEnd::Replaced)),
+            Put::Full => Ok(self.count(PutEnd::Full)),
+            Put::NoMemory => Err(Shortage::Memory),
         }
     }
 
-    // Drains all that is pending, and writes how many metrics that were.
-    #[tactic(auto, using(crate::proofs::SessionLemmas::appends_some_none, crate::proofs::SessionLemmas::later_none))]
-    fn drain<K: Sink>(&mut self, out: &mut K) -> Result<(), Stop>
-        ensures obeys { Obeys result self.old DrainAll (K.written out.old) self.new
-            (K.written out.new) }
-        ensures frame { Frame result self.old (K.written out.old) self.new (K.written out.new) }
-        ensures writes { CountsWrites K.Sink out.old out.new (result ≡ Err WriteFault) }
+    // Counts a point that was put.
+    fn count(&mut self, end: PutEnd) -> Reply
+        ensures said { result ≡ [] }
+        ensures counts { self.new ≡ counting self.old end }
     {
-        let count = match self.store.drain_all(self.clock) {
-            Ok(count) => count,
-            Err(fault) => return Err(stop_of(fault)),
-        };
-        let Ok(text) = drained(self.alloc, count) else {
-            return Err(Stop::NoMemory);
-        };
-        match write_all(out, &text) {
-            Ok(()) => Ok(()),
-            Err(_) => Err(Stop::WriteFault),
+        self.counts.count_put(end);
+        Reply::silent(self.alloc)
+    }
+
+    // Asks a query, and answers it.
+    fn ask(&mut self, query: &[u8]) -> Result<Reply, Shortage>
+        ensures { Replies N.told N.start (Ask query.now) result self.old self.new }
+    {
+        match RenderPlan::read(self.alloc, query, &[], u64::from(self.clock)) {
+            Ok(plan) => self.ask_plan(&plan),
+            Err(fault) => unread_reply(self.alloc, fault),
         }
     }
 
-    // Writes the reply to a line that says nothing known.
-    #[tactic(auto, unfolding(crate::specs::Script::bad_command))]
-    fn refuse<K: Sink>(&mut self, out: &mut K) -> Result<(), Stop>
-        ensures obeys { Obeys result self.old Bad (K.written out.old) self.new (K.written out.new) }
-        ensures frame { Frame result self.old (K.written out.old) self.new (K.written out.new) }
-        ensures writes { CountsWrites K.Sink out.old out.new (result ≡ Err WriteFault) }
+    // Asks what a plan needs, and makes the reply of it.
+    fn ask_plan(&mut self, plan: &RenderPlan) -> Result<Reply, Shortage>
+        ensures { RepliesTo N.told N.start (plan_seen plan.now) result self.old self.new }
     {
-        match write_all(out, b"bad command\n") {
-            Ok(()) => Ok(()),
-            Err(_) => Err(Stop::WriteFault),
+        self.room()?;
+        let needs = plan.needs();
+        let found = self
+            .store
+            .ask(self.rt, self.alloc, &mut self.pass, needs, self.clock);
+        found_reply(self.alloc, plan, &found)
+    }
+
+    // Begins the drain of the metric that goes next.
+    fn plan(&mut self) -> Result<Reply, Shortage>
+        ensures { Replies N.told N.start Plan result self.old self.new }
+    {
+        self.room()?;
+        let begun = begin_drain(self.rt, self.store, &mut self.pass, self.clock);
+        begun_reply(self.alloc, &begun)
+    }
+
+    // Writes the next run of a drain.
+    fn write(&mut self) -> Result<Reply, Shortage>
+        ensures { Replies N.told N.start Write result self.old self.new }
+    {
+        self.room()?;
+        let run = write_run(self.rt, self.store, &mut self.pass);
+        run_reply(self.alloc, run)
+    }
+
+    // Drains all that is pending.
+    fn drain(&mut self) -> Result<Reply, Shortage>
+        ensures { Replies N.told N.start DrainAll result self.old self.new }
+    {
+        let end = self.drain_pending();
+        drained_reply(self.alloc, end)
+    }
+
+    fn drain_pending(&mut self) -> DrainEnd
+        ensures { DrainsAlone N.start result self.old self.new }
+    {
+        match self.room() {
+            Ok(()) => self.store.drain_all(self.rt, &mut self.pass, self.clock),
+            Err(_) => DrainEnd::Spent,
         }
     }
 
     /// Drains all that is still pending, and writes the summary.
-    #[tactic(auto, using(crate::proofs::SessionLemmas::appends_some_none, crate::proofs::SessionLemmas::later_none))]
     pub(crate) fn finish<K: Sink>(&mut self, out: &mut K) -> Result<(), Stop>
-        ensures finishes { Finishes result self.old (K.written out.old) self.new
+        ensures finishes { Finishes N.start result self.old (K.written out.old) self.new
             (K.written out.new) }
-        ensures frame { Frame result self.old (K.written out.old) self.new (K.written out.new) }
+        ensures some { AppendsSome (K.written out.old) (K.written out.new) }
         ensures writes { CountsWrites K.Sink out.old out.new (result ≡ Err WriteFault) }
     {
-        match self.store.drain_all(self.clock) {
-            Ok(_) => {}
-            Err(fault) => return Err(stop_of(fault)),
-        }
-        let Ok(text) = self.summary() else {
-            return Err(Stop::NoMemory);
-        };
-        match write_all(out, &text) {
-            Ok(()) => Ok(()),
-            Err(_) => Err(Stop::WriteFault),
+        match self.drain_pending() {
+            DrainEnd::Done(_) => say(out, self.summary()),
+            DrainEnd::DiskFault(class) => Err(Stop::DiskFault(class)),
+            DrainEnd::Spent => Err(Stop::Spent),
+            DrainEnd::NoMemory => Err(Stop::NoMemory),
         }
     }
 
-    // The summary.
-    fn summary(&self) -> Result<Vec<u8>, AllocError>
-        ensures { IfOk result (λ text. text.items ≡ summary_of self.now) }
+    // The summary, of which the store counts the drains.
+    fn summary(&mut self) -> Result<Reply, Shortage>
+        requires { HasRoom self.old.pass }
+        ensures { Summarises N.start result self.old self.new }
     {
-        let mut text = Vec::new(self.alloc);
-        push_puts(&mut text, &self.counts)?;
-        push_refusals(&mut text, &self.counts)?;
-        push_drains(&mut text, self.store.drains())?;
-        text.extend_from_slice(b"\n")?;
-        Ok(text)
+        let tally = self.store.tally(self.rt, &mut self.pass);
+        summary(self.alloc, &self.counts, tally.drains)
     }
 
-    /// The shards, and the history so far.
-    pub fn into_parts(self) -> (Shards<D>, History)
-        ensures shards { result.0 ≡ self.store.shards }
-        ensures history { result.1 ≡ self.store.history }
+    /// The pass.
+    pub fn into_pass(self) -> Pass
+        ensures value { result ≡ self.entry.pass }
+        ensures only { IsOnly N.table N.start result }
     {
-        self.store.into_parts()
+        self.pass
     }
 }
 
-impl<D: Disk> LineServer for Session<D> {
+impl<'a, R: Wait, D: Disk, N: Named> LineServer for Session<'a, R, D, N> {
     ghost use Rattle.carbon_script.specs.Sessions.{Serves, Stops};
 
-    ghost serves = { Serves };
+    ghost serves = { Serves N.told N.start };
 
-    ghost stops = { Stops };
+    ghost stops = { Stops N.told N.start };
 
     fn serve_line<K: Sink>(&mut self, line: &[u8], out: &mut K) -> Result<(), Stop> {
         match read_command(self.alloc, line, self.clock) {
@@ -210,24 +246,5 @@ impl<D: Disk> LineServer for Session<D> {
 
     fn serve_long<K: Sink>(&mut self, out: &mut K) -> Result<(), Stop> {
         self.obey(Command::Long, out)
-    }
-}
-
-/// How many metrics were drained.
-fn drained(alloc: Global, count: usize) -> Result<Vec<u8>, AllocError>
-    ensures { IfOk result (λ text. text.items ≡ drained_text count) }
-{
-    let mut text = Vec::new(alloc);
-    push_drained(&mut text, count)?;
-    Ok(text)
-}
-
-/// The stop that a fault is.
-fn stop_of(fault: Fault) -> Stop
-    ensures { result ≡ stop_of fault }
-{
-    match fault {
-        Fault::Disk(class) => Stop::DiskFault(class),
-        Fault::NoMemory => Stop::NoMemory,
     }
 }

@@ -1,13 +1,40 @@
-use Rattle.std.proofs.Common.{ℕ, [], ap, subst, sym}
-use Rattle.carbon_history.specs.Book.{Book}
-use Rattle.carbon_run.specs.Runs.{TellsEnd, answer_of, streams_of}
-use Rattle.carbon_run.proofs.RunLemmas.{shards_run}
+use Rattle.std.proofs.Common.{◌≡◌, ◌∙◌, inl, length, refl, ap, arith}
+use Rattle.shard_set.specs.Disks.{faults_at, told_at}
+use Rattle.shard_set.specs.OpeningState.{opening_of}
+use Rattle.carbon_run.proofs.RunLemmas.{fresh_from, length_back}
 use Rattle.carbon_run.proofs.scripts.run_shards.Goals as goal
 
-pub returns-clause-runs : goal.returns-clause-runs
-returns-clause-runs g c =
-    shards_run c.script-end.result c.args.shards.items.items c.new-session.result c.script-end.new.session (g.K.Sink.written c.script-end.new.out)
-    (streams_of g.S.Source g.K.Sink c.args.input.now c.script-end.new.input c.args.out.now c.tell_end-status.new.out) (answer_of c.report.result.status c.report.result.history c.report.result.disks.items)
-    (ap (λ shards. shards.items.items) c.new-session.ensures.shards) c.new-session.ensures.means c.script-end.ensures.ends
-    (subst (λ (status : ℕ). TellsEnd c.script-end.result [] status (g.K.Sink.written c.script-end.new.out) (g.K.Sink.written c.tell_end-status.new.out)) (sym c.report.ensures.status) c.tell_end-status.ensures.told)
-    (ap (λ (book : Book). book.entries) c.report.ensures.history) c.report.ensures.disks c.report.ensures.faults
+pub run_parts-requires : goal.run_parts-requires
+run_parts-requires g c =
+    let shards = c.args.started.shards.items in record {
+      fresh = record {
+        same = refl;
+        new = c.in-Ok.ensures.order;
+        sixteen_tails = omega (arith, c.in-Ok.ensures.tails.0, c.in-Ok.tails.ok.0);
+        new_tails = c.in-Ok.ensures.tails.1;
+        sixteen_shards = c.args.started.all;
+        fresh_shards = fresh_from (told_at shards) (opening_of shards) (faults_at shards) shards c.requires;
+      };
+      one = (refl, c.in-Ok.ensures.passes.0);
+      new = c.in-Ok.ensures.passes.1;
+      room = (c.args.started.empty, c.args.started.room_for_all);
+    }
+
+pub report_no_memory-requires : goal.report_no_memory-requires
+report_no_memory-requires g c = record {
+  empty = c.args.started.empty;
+  room = omega (arith, c.args.started.all, c.args.started.shards.ok.0, c.args.started.room_for_all);
+}
+
+pub returns-in-Err-clause-runs : goal.returns-in-Err-clause-runs
+returns-in-Err-clause-runs g c = inl (record {
+  tells = c.report_no_memory.ensures.told;
+  history = c.report_no_memory.ensures.history;
+  disks = c.report_no_memory.ensures.disks;
+  input = refl;
+})
+
+pub returns-in-Err-clause-all : goal.returns-in-Err-clause-all
+returns-in-Err-clause-all g c =
+    let count : length c.report_no_memory.result.disks.items ≡ 16 = ap (λ disks. length disks) c.report_no_memory.ensures.disks ∙ (length_back c.args.started.shards.items ∙ c.args.started.all) in
+    omega (arith, count, c.report_no_memory.result.disks.ok.0)

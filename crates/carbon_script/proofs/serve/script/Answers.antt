@@ -1,27 +1,5 @@
-use Rattle.carbon_script.proofs.ScriptLemmas.{ends_as, ends_cut, ends_done, ends_limit, ends_short, ends_stopped, ends_unread}
+use Rattle.std.proofs.Common.{sym}
 use Rattle.carbon_script.proofs.serve.script.Goals as goal
 
-pub returns-in-Ok-clause-ends : goal.returns-in-Ok-clause-ends
-returns-in-Ok-clause-ends g c =
-    ends_done (tt {0}) _ _ (record { server = c.args.session.now; written = g.K.Sink.written c.args.out.now }) (record { server = c.serve_lines.new.server; written = g.K.Sink.written c.serve_lines.new.out })
-    (record { server = c.finish.new.self; written = g.K.Sink.written c.finish.new.out })
-    c.in-Closed.ensures.service c.in-Ok.ensures.finishes c.in-Ok.ensures.frame.later c.in-Ok.ensures.frame.some
-
-pub returns-in-Err-clause-ends : goal.returns-in-Err-clause-ends
-returns-in-Err-clause-ends g c =
-    ends_as _ _ _ _ _ _ _ _ c.end_of.ensures
-    (ends_cut (Unit {0}) c.in-Err.stop _ _ (record { server = c.args.session.now; written = g.K.Sink.written c.args.out.now }) (record { server = c.serve_lines.new.server; written = g.K.Sink.written c.serve_lines.new.out })
-    (record { server = c.finish.new.self; written = g.K.Sink.written c.finish.new.out })
-    c.in-Closed.ensures.service c.in-Err.ensures.finishes c.in-Err.ensures.frame.later c.in-Err.ensures.frame.cause c.in-Err.ensures.frame.some)
-
-pub returns-in-ReadFault-clause-ends : goal.returns-in-ReadFault-clause-ends
-returns-in-ReadFault-clause-ends g c = ends_unread _ _ (record { server = c.args.session.now; written = g.K.Sink.written c.args.out.now }) (record { server = c.serve_lines.new.server; written = g.K.Sink.written c.serve_lines.new.out }) c.in-ReadFault.ensures.service
-
-pub returns-in-Limit-clause-ends : goal.returns-in-Limit-clause-ends
-returns-in-Limit-clause-ends g c = ends_limit _ _ (record { server = c.args.session.now; written = g.K.Sink.written c.args.out.now }) (record { server = c.serve_lines.new.server; written = g.K.Sink.written c.serve_lines.new.out }) c.in-Limit.ensures.service
-
-pub returns-in-NoMemory-clause-ends : goal.returns-in-NoMemory-clause-ends
-returns-in-NoMemory-clause-ends g c = ends_short _ _ (record { server = c.args.session.now; written = g.K.Sink.written c.args.out.now }) (record { server = c.serve_lines.new.server; written = g.K.Sink.written c.serve_lines.new.out }) c.in-NoMemory.ensures.service
-
-pub returns-in-Stopped-clause-ends : goal.returns-in-Stopped-clause-ends
-returns-in-Stopped-clause-ends g c = ends_as _ _ _ _ _ _ _ _ c.end_of-in-Stopped.ensures (ends_stopped c.in-Stopped.stop _ _ (record { server = c.args.session.now; written = g.K.Sink.written c.args.out.now }) (record { server = c.serve_lines.new.server; written = g.K.Sink.written c.serve_lines.new.out }) c.in-Stopped.ensures.service)
+pub returns-clause-ends : goal.returns-clause-ends
+returns-clause-ends g c = record { code = c.serve-end.new.session; pass = sym c.into_pass.ensures.value; ends = c.serve-end.ensures.ends }
