@@ -1,0 +1,27 @@
+#![tactic(auto)]
+//! The network and the clock of the system, for a daemon that serves two ports: metric lines on one, HTTP on the
+//! other.
+//!
+//! Nothing is told of what a socket gives or takes. What is proved is that each call keeps to its trait: a count of
+//! faults rises wherever a call answers a fault, and never falls.
+
+mod faults;
+mod hang_up;
+mod keep_alive;
+mod linger;
+mod net_closer;
+mod port;
+mod readiness;
+mod shared;
+mod system_clock;
+mod tcp_link;
+mod tcp_net;
+
+pub use net_closer::NetCloser;
+pub use port::BoundPorts;
+pub use system_clock::SystemClock;
+pub use tcp_link::TcpLink;
+pub use tcp_net::TcpNet;
+
+#[cfg(test)]
+mod tests;

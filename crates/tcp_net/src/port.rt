@@ -1,0 +1,114 @@
+// A port that gives links.
+use libc::net::{SHUT_RDWR, shutdown};
+use std::net::{IpAddr, Net, SocketAddr, TcpListener, TcpStream};
+use std::os::fd::AsRawFd;
+use std::sync::atomic::{AtomicBool, AtomicU64, Ordering};
+use std::time::{Clock, Duration};
+use std::{io, thread};
+
+// How long a thread waits after an accept that failed. Want of descriptors, say, is answered at once, and may pass only
+// as another link ends.
+const FAULT_PAUSE_MILLIS: u64 = 50;
+
+/// The ports that are open.
+#[derive(Clone, Copy, Debug, PartialEq, Eq)]
+pub struct BoundPorts {
+    /// The port for metric lines.
+    pub lines: u16,
+    /// The port for HTTP.
+    pub http: u16,
+}
+
+// A port, open or closed. Several threads may wait for its links at once.
+#[derive(Drop)]
+pub(crate) struct Port {
+    listener: TcpListener,
+    number: u16,
+    // how many links it gives before it closes; 0: it never does
+    links: u64,
+    // how many calls have set out to give a link, and how many links have come
+    begun: AtomicU64,
+    given: AtomicU64,
+    closed: AtomicBool,
+}
+
+impl Port {
+    // Opens a port of this address; number 0 is any free one.
+    pub(crate) fn open<R: Net<Listener = TcpListener, Stream = TcpStream>>(
+        rt: &R,
+        address: IpAddr,
+        number: u16,
+        links: u64,
+    ) -> io::Result<Self> {
+        let listener = TcpListener::bind(rt, SocketAddr::from((address, number)))?;
+        let number = listener.local_addr()?.port();
+        Ok(Port {
+            listener,
+            number,
+            links,
+            begun: AtomicU64::new(0),
+            given: AtomicU64::new(0),
+            closed: AtomicBool::new(false),
+        })
+    }
+
+    pub(crate) fn number(&self) -> u16 {
+        self.number
+    }
+
+    // The next link, or `None` where the port is closed or all its links are given or waited for. An accept that fails
+    // is tried again after a pause.
+    pub(crate) fn next_stream(&self, rt: &impl Clock) -> Option<TcpStream> {
+        if !self.begin_link() {
+            return None;
+        }
+        for _ in 0..u64::MAX {
+            if self.is_closed() {
+                break;
+            }
+            if let Ok(stream) = self.accept() {
+                self.count_given();
+                return Some(stream);
+            }
+            if !self.is_closed() {
+                thread::sleep(rt, Duration::from_millis(FAULT_PAUSE_MILLIS));
+            }
+        }
+        None
+    }
+
+    // A stream whose calls answer at once where they would have to wait, and whose small pieces are sent at once.
+    fn accept(&self) -> io::Result<TcpStream> {
+        let (stream, _) = self.listener.accept()?;
+        stream.set_nonblocking(true)?;
+        let _ = stream.set_nodelay(true);
+        Ok(stream)
+    }
+
+    // Whether one more link may be waited for.
+    fn begin_link(&self) -> bool {
+        if self.links == 0 {
+            return true;
+        }
+        self.begun.load(Ordering::SeqCst) < self.links
+            && self.begun.fetch_add(1, Ordering::SeqCst) < self.links
+    }
+
+    fn count_given(&self) {
+        let before = self.given.fetch_add(1, Ordering::SeqCst);
+        if 0 < self.links && self.links <= before.saturating_add(1) {
+            self.close();
+        }
+    }
+
+    // From now on the port refuses, and each thread that waits for a link of it is woken and goes away without one.
+    // Links that nobody has taken yet are lost.
+    pub(crate) fn close(&self) {
+        self.closed.store(true, Ordering::SeqCst);
+        shutdown(self.listener.as_raw_fd(), SHUT_RDWR);
+    }
+
+    fn is_closed(&self) -> bool {
+        self.closed.load(Ordering::SeqCst)
+    }
+}

@@ -1,0 +1,63 @@
+// What a net, its links and its closers share.
+use crate::hang_up::HangUp;
+use crate::port::{BoundPorts, Port};
+use std::io;
+use std::net::Net;
+use std::sync::OnceLock;
+use std::sync::atomic::{AtomicBool, Ordering};
+
+#[derive(Drop)]
+pub(crate) struct Shared {
+    // none before `bind`
+    ports: OnceLock<Ports>,
+    closing: AtomicBool,
+    pub(crate) hang_up: HangUp,
+}
+
+#[derive(Drop)]
+pub(crate) struct Ports {
+    pub(crate) lines: Port,
+    pub(crate) http: Port,
+}
+
+impl Shared {
+    pub(crate) fn new(rt: &impl Net) -> io::Result<Self> {
+        Ok(Shared {
+            ports: OnceLock::new(),
+            closing: AtomicBool::new(false),
+            hang_up: HangUp::new(rt)?,
+        })
+    }
+
+    pub(crate) fn ports(&self) -> Option<&Ports> {
+        self.ports.get()
+    }
+
+    pub(crate) fn bound(&self) -> Option<BoundPorts> {
+        let ports = self.ports.get()?;
+        Some(BoundPorts {
+            lines: ports.lines.number(),
+            http: ports.http.number(),
+        })
+    }
+
+    // Keeps the ports, and says whether there were none before. Where the net was closed earlier, or is closed by
+    // another thread just now, one of the two threads finds both the ports and the wish to close, so they close.
+    pub(crate) fn keep(&self, ports: Ports) -> bool {
+        if self.ports.try_set(ports).is_err() {
+            return false;
+        }
+        if self.closing.load(Ordering::SeqCst) {
+            self.close_ports();
+        }
+        true
+    }
+
+    pub(crate) fn close_ports(&self) {
+        self.closing.store(true, Ordering::SeqCst);
+        if let Some(ports) = self.ports.get() {
+            ports.lines.close();
+            ports.http.close();
+        }
+    }
+}

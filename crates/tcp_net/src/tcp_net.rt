@@ -1,0 +1,101 @@
+// The network of the system.
+ghost use Rattle.std.specs.Prelude.{◌≡◌, IfOk};
+
+use crate::faults::raised;
+use crate::net_closer::NetCloser;
+use crate::port::{BoundPorts, Port};
+use crate::shared::{Ports, Shared};
+use crate::tcp_link::TcpLink;
+use outside_io::{Net, NetFailed};
+use std::alloc::{AllocError, Global};
+use std::io;
+use std::io::ErrorKind;
+use std::net::{IpAddr, TcpListener, TcpStream};
+use std::sync::Arc;
+use std::time::Clock;
+
+/// Two TCP ports of one address, one for metric lines and one for HTTP.
+///
+/// Any number of threads may wait for the next link of a port at once, each in a call of its own. Each link then has
+/// its thread to itself: while as many links are open as there are threads, further connections wait, at most 128 on
+/// each port, and a connection past these is made to wait by the system of its sender. An accept that fails, as for
+/// want of descriptors, is tried again every 50 milliseconds, and is no fault of the net: only a `bind` that fails is.
+#[derive(Drop)]
+pub struct TcpNet<R> {
+    rt: R,
+    address: IpAddr,
+    shared: Arc<Shared>,
+    faults: u64,
+}
+
+impl<R: std::net::Net<Listener = TcpListener, Stream = TcpStream> + Clock + Copy> TcpNet<R> {
+    /// A net on this address, with no port bound yet. It takes two descriptors, and each port and each link one more.
+    pub fn new(alloc: Global, rt: R, address: IpAddr) -> io::Result<Self>
+        ensures { IfOk result (λ net. ⟦<TcpNet<R> as Net>⟧.faults net ≡ 0) }
+    {
+        let shared = Shared::new(&rt)?;
+        Ok(TcpNet {
+            shared: Arc::new(alloc, shared)?,
+            rt,
+            address,
+            faults: 0,
+        })
+    }
+
+    /// What closes this net from another thread.
+    pub fn closer(&self) -> Result<NetCloser, AllocError> {
+        Ok(NetCloser::new(Arc::try_clone(&self.shared)?))
+    }
+
+    /// The ports, once they are bound: those that `bind` was told, and for 0 the one that the system chose.
+    pub fn ports(&self) -> Option<BoundPorts> {
+        self.shared.bound()
+    }
+
+    fn open(&self, number: u16, links: u64) -> io::Result<Port> {
+        Port::open(&self.rt, self.address, number, links)
+    }
+
+    fn open_both(&self, line_port: u16, http_port: u16, links: u64) -> io::Result<()> {
+        let lines = self.open(line_port, links)?;
+        let http = self.open(http_port, links)?;
+        if self.shared.keep(Ports { lines, http }) {
+            Ok(())
+        } else {
+            Err(io::Error::from(ErrorKind::AlreadyExists))
+        }
+    }
+}
+
+impl<R: std::net::Net<Listener = TcpListener, Stream = TcpStream> + Clock + Copy> Net
+    for TcpNet<R> {
+    type L = TcpLink<R>;
+
+    ghost faults = { λ net. net.faults };
+
+    fn faults(&self) -> u64 {
+        self.faults
+    }
+
+    /// Opens the two ports; 0 is any free one, which `ports` tells. Where one of them cannot be had, neither stays
+    /// open, and the call may be made again. Once both are open, a further call fails and changes nothing else.
+    fn bind(&mut self, line_port: u16, http_port: u16, links: u64) -> Result<(), NetFailed> {
+        if self.open_both(line_port, http_port, links).is_ok() {
+            return Ok(());
+        }
+        self.faults = raised(self.faults);
+        Err(NetFailed)
+    }
+
+    fn next_lines(&self) -> Option<TcpLink<R>> {
+        let shared = Arc::try_clone(&self.shared).ok()?;
+        let stream = self.shared.ports()?.lines.next_stream(&self.rt)?;
+        Some(TcpLink::for_lines(self.rt, stream, shared))
+    }
+
+    fn next_http(&self) -> Option<TcpLink<R>> {
+        let shared = Arc::try_clone(&self.shared).ok()?;
+        let stream = self.shared.ports()?.http.next_stream(&self.rt)?;
+        Some(TcpLink::for_http(self.rt, stream, shared))
+    }
+}
