@@ -1,97 +1,122 @@
 #!/usr/bin/env python3
-"""Instructions that the built program takes, by kind of work: a line, a metric, a point.
+"""Instructions that the built program takes, by kind of work: a line, a metric, a drain, a point.
 
 Usage: bench/instructions.py
 
-Each row runs two scripts under `valgrind --tool=callgrind`, of which the second has more of one thing and is else the same, and
-prints the difference for one of it. Such counts are steady on a busy machine, where seconds are not: what the kernel does is not
-counted, and of a fill of bytes each counts as one. Nothing is checked beyond the exit status, and nothing counted here is a test. Run
-./carbon once to build the program.
+Each row counts what `valgrind --tool=callgrind` sees of some lines of a script that runs already, and prints it for one line, metric or
+point. Such counts are steady on a busy machine, where seconds are not: what the kernel does is not counted, and of a fill of bytes each
+counts as one. Nothing is checked beyond the answers' first words, and nothing counted here is a test. Run ./carbon once to build the program.
 """
 import os
-import re
-import subprocess
 import sys
-import tempfile
 
-HERE = os.path.dirname(os.path.abspath(__file__))
-PROGRAM = os.path.abspath(os.path.join(HERE, "..", "crates", "carbon", "out", "carbon"))
+from live import Counted, Script, class_of, folder, need_program, write_rules
+
 NOW = 1_700_000_030
 CLOCK = b"!clock %d\n" % NOW
-RULES = {
-    "storage-schemas.conf": b"[carbon]\npattern = ^carbon\\.\nretentions = 60:90d\n\n"
-    b"[default]\npattern = .*\nretentions = 60s:1d,5m:30d,1h:5y\n",
-    "storage-aggregation.conf": b"[min]\npattern = \\.min$\nxFilesFactor = 0.1\naggregationMethod = min\n\n"
-    b"[all]\npattern = .*\nxFilesFactor = 0.5\naggregationMethod = average\n",
-}
+OLD = NOW - 30 - 60 * 200
+SCHEMAS = (
+    b"[carbon]\npattern = ^carbon\\.\nretentions = 60:90d\n\n"
+    b"[default]\npattern = .*\nretentions = 60s:1d,5m:30d,1h:5y\n"
+)
+AGGREGATIONS = (
+    b"[min]\npattern = \\.min$\nxFilesFactor = 0.1\naggregationMethod = min\n\n"
+    b"[all]\npattern = .*\nxFilesFactor = 0.5\naggregationMethod = average\n"
+)
 
 
 def points(metrics, first, count):
     """So many points a minute apart for each metric, the metrics in turn."""
-    return b"".join(
-        b"servers.web%04d.load %d.25 %d\n" % (m, k % 1000, first + 60 * k) for k in range(count) for m in metrics
-    )
+    return b"".join(b"%s %d.25 %d\n" % (m, k % 1000, first + 60 * k) for k in range(count) for m in metrics)
 
 
-def count(rules, scripts):
-    """The instructions of the last of these scripts, which run one after the other in one folder."""
-    with tempfile.TemporaryDirectory() as folder:
-        os.mkdir(os.path.join(folder, "conf"))
-        for name, text in rules.items():
-            with open(os.path.join(folder, "conf", name), "wb") as file:
-                file.write(text)
-        for text in scripts[:-1]:
-            run([PROGRAM, "script"], text, folder)
-        told = run(
-            ["valgrind", "--tool=callgrind", "--callgrind-out-file=/dev/null", PROGRAM, "script"], scripts[-1], folder
-        )
-    return int(re.search(r"Collected : (\d+)", told).group(1))
+def names(word, count):
+    return [b"servers.%s%04d.load" % (word, k) for k in range(count)]
 
 
-def run(command, text, folder):
-    done = subprocess.run(command, input=text, cwd=folder, stdout=subprocess.DEVNULL, stderr=subprocess.PIPE)
-    if done.returncode != 0:
-        sys.exit(f"bench/instructions.py: status {done.returncode}")
-    return done.stderr.decode()
+def one_a_class(word):
+    """Sixteen names, one of each class."""
+    by_class = {class_of(name): name for name in names(word, 200)}
+    return [by_class[number] for number in range(16)]
 
 
-def row(what, less, more, times, rules={}):
-    difference = count(rules, more) - count(rules, less)
-    print(f"{what:72} {difference / times:>12,.0f}", flush=True)
+def row(what, each):
+    print(f"{what:72} {each:>12,.0f}", flush=True)
+
+
+def count_lines(script, what, text):
+    counted, _ = script.count([text + b"!\n"])
+    row(what, counted / text.count(b"\n"))
+
+
+def count_drains(script, what, metrics):
+    """What the drains of these metrics take, which are of one class each: the plan, and then the writing of its runs."""
+    planned, answers = script.count([b"!plan\n"] * len(metrics))
+    if any(not answer.startswith(b"plan servers") for answer in answers):
+        sys.exit("unexpected answers: %r" % answers)
+    row("the plan of %s" % what, planned / len(metrics))
+    written, answers = script.count([b"!write\n"] * (8 * len(metrics)))
+    if answers[-1] != b"write nothing\n":
+        sys.exit("unexpected answers: %r" % answers)
+    nothing, _ = script.count([b"!write\n"] * 16)
+    written -= nothing / 16 * answers.count(b"write nothing\n")
+    row("  the writing of its runs", written / len(metrics))
+
+
+def over_rules(place, counts, what):
+    script = Counted(place, os.path.join(counts, "rules"))
+    script.tell(CLOCK + points(names(b"web", 100), OLD, 1))
+    script.settle()
+    count_lines(script, "a line of a new metric, with %s" % what, points(names(b"new", 200), OLD, 1))
+    script.ask(b"!drain\n")
+    for many, times in (("one point", 1), ("100 points", 100)):
+        metrics = one_a_class(b"n%d" % times)
+        for files, first in (("new", OLD), ("that is there", OLD + 6_000)):
+            script.tell(points(metrics, first, times))
+            script.settle()
+            count_drains(script, "a drain of %s, %s, file %s" % (many, what, files), metrics)
+    script.leave()
+
+
+def over_lines(place, counts):
+    script = Counted(place, os.path.join(counts, "lines"), ["--limit", "10000000"])
+    some = names(b"web", 2_000)
+    script.tell(CLOCK + points(some, OLD, 10))
+    script.settle()
+    count_lines(script, "a line that is refused at its time", b"servers.web0001.load 12.25 x\n" * 2_000)
+    count_lines(script, "a line whose point replaces another", points(some, OLD + 300, 1))
+    count_lines(script, "a line whose point is stored behind those of its metric", points(some, OLD + 600, 1))
+    script.leave()
+
+
+def over_questions(place, counts):
+    day = CLOCK + points(names(b"web", 1), NOW - 30 - 60 * 1_440, 1_440)
+    ask = b"!ask target=servers.web0000.load&from=%d&until=%d\n" % (NOW - 86_400, NOW)
+    for where in ("memory", "a file"):
+        script = Counted(place, os.path.join(counts, "questions"))
+        script.tell(day if where == "memory" else CLOCK)
+        script.settle()
+        counted, _ = script.count([ask] * 10)
+        row("a point of a question, from %s" % where, counted / 14_400)
+        script.leave()
+        script = Script(place)
+        script.tell(day)
+        script.ask(b"!drain\n")
+        script.leave()
 
 
 def main():
-    if not os.path.exists(PROGRAM):
-        sys.exit("bench/instructions.py: no program yet; run ./carbon once to build it")
-    some, many = range(200), range(1_000)
-    old = NOW - 30 - 60 * 200
-    base = CLOCK + points(some, old, 10)
-    refused = b"servers.web0001.load 12.25 x\n" * 2_000
-    row("a line that is refused at its time", [base], [base + refused], 2_000)
-    row("a line whose point replaces another", [base], [base + points(some, old, 10)], 2_000)
-    row("a line whose point is stored, with its part of a drain", [base], [CLOCK + points(some, old, 20)], 2_000)
-    for name, rules in [("one archive", {}), ("three archives by rule files", RULES)]:
-        few = CLOCK + points(some, old, 1)
-        row(f"a metric with one point, and its new file of {name}", [few], [CLOCK + points(many, old, 1)], 800, rules)
-        row(
-            f"a metric with 100 points, and its new file of {name}",
-            [CLOCK + points(range(20), old, 100)],
-            [CLOCK + points(range(40), old, 100)],
-            20,
-            rules,
-        )
-        made = CLOCK + points(range(40), old, 100)
-        row(
-            f"100 points of a metric into its file of {name}",
-            [made, CLOCK + points(range(20), old + 6_000, 100)],
-            [made, CLOCK + points(range(40), old + 6_000, 100)],
-            20,
-            rules,
-        )
-    day = CLOCK + points(range(1), NOW - 30 - 60 * 1_440, 1_440)
-    ask = b"!ask target=servers.web0000.load&from=%d&until=%d\n" % (NOW - 86_400, NOW)
-    row("a point of a question, from memory", [day], [day + 10 * ask], 14_400)
-    row("a point of a question, from a file", [day, CLOCK], [day, CLOCK + 10 * ask], 14_400)
+    need_program()
+    with folder() as place, folder() as counts:
+        over_lines(place, counts)
+    with folder() as place, folder() as counts:
+        over_rules(place, counts, "one archive")
+    with folder() as place, folder() as counts:
+        write_rules(place, SCHEMAS, AGGREGATIONS)
+        over_rules(place, counts, "three archives by rule files")
+    with folder() as place, folder() as counts:
+        over_questions(place, counts)
 
 
-main()
+if __name__ == "__main__":
+    main()

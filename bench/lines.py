@@ -9,18 +9,14 @@ The kinds of lines:
   refused        short lines that are read to their third field and refused there: framing, reading and counting alone
   long           lines of 16,384 bytes, of which only the blanks between the fields are many (a hundredth of the lines)
 
-The points are drained into a folder of its own at the end of each. Nothing is checked beyond the exit status, and nothing timed here is a test: the numbers are for reading. Run ./carbon once
-to build the program.
+Processor time of the program and of the kernel for it, and the most memory that was held, both until the last line is obeyed: nothing is drained.
+Nothing is checked, and nothing timed here is a test: the numbers are for reading. Run ./carbon once to build the program.
 """
-import os
 import random
-import subprocess
 import sys
-import tempfile
-import time
 
-HERE = os.path.dirname(os.path.abspath(__file__))
-PROGRAM = os.path.abspath(os.path.join(HERE, "..", "crates", "carbon", "out", "carbon"))
+from live import Script, folder, need_program
+
 FIRST = 1_700_000_000
 
 
@@ -48,29 +44,25 @@ KINDS = {"one path": one_path, "many paths": many_paths, "refused": refused, "lo
 
 
 def run(kind, lines):
-    with tempfile.NamedTemporaryFile() as given, tempfile.TemporaryDirectory() as folder, open(os.devnull, "wb") as nowhere:
-        # another process makes the lines, so that the peak of this one's children is theirs
-        subprocess.run([sys.executable, __file__, "--make", kind, str(lines), given.name], check=True)
-        size = os.path.getsize(given.name)
-        began = time.monotonic()
-        child = subprocess.Popen([PROGRAM, "script", "--limit", "10000000"], stdin=given, stdout=nowhere, cwd=folder)
-        _, status, used = os.wait4(child.pid, 0)
-        took = time.monotonic() - began
-    if status != 0:
-        sys.exit(f"bench/lines.py: status {status} for {kind}")
+    text = KINDS[kind](lines)
+    with folder() as place:
+        script = Script(place, ["--limit", "10000000"])
+        script.settle()
+        begun, _ = script.seconds()
+        script.tell(text)
+        script.settle()
+        took = script.seconds()[0] - begun
+        _, peak = script.memory()
+        script.leave()
     print(
-        f"{kind:12} {lines:>9,} lines {size / 1e6:8.1f} MB {took:7.3f} s"
-        f" {lines / took:>11,.0f} lines/s {size / 1e6 / took:7.0f} MB/s  peak {used.ru_maxrss / 1024:7.1f} MiB"
+        f"{kind:12} {lines:>9,} lines {len(text) / 1e6:8.1f} MB {took:7.3f} s"
+        f" {lines / took:>11,.0f} lines/s {len(text) / 1e6 / took:7.0f} MB/s  peak {peak / 2**20:7.1f} MiB",
+        flush=True,
     )
 
 
 def main():
-    if sys.argv[1:2] == ["--make"]:
-        with open(sys.argv[4], "wb") as out:
-            out.write(KINDS[sys.argv[2]](int(sys.argv[3])))
-        return
-    if not os.path.exists(PROGRAM):
-        sys.exit("bench/lines.py: no program yet; run ./carbon once to build it")
+    need_program()
     lines = int(sys.argv[1]) if len(sys.argv) > 1 else 1_000_000
     for kind, count in [
         ("one path", lines // 10),
@@ -82,4 +74,5 @@ def main():
         run(kind, count)
 
 
-main()
+if __name__ == "__main__":
+    main()

@@ -1,85 +1,62 @@
 #!/usr/bin/env python3
 """What a drain costs a metric when few or many metrics of one class wait.
 
-Usage: bench/waiting.py [FOLDER]
+Usage: bench/waiting.py [FOLDER [ORDER..]]
 
-Puts one point for each of 3,000 and of 300,000 metrics of one class and drains them all, under `--order sorted` and `--order naive`, into a new folder
-in FOLDER, /dev/shm unless another is named: a folder in memory, so that the file system's own work stays small. Prints the processor time of the
-program and of the kernel for it in microseconds a metric. The reading of the lines is taken off: it is that of a run under `--limit 1`, which reads
-them all, refuses all but one as full and drains one metric. Nothing timed here is a test. Run ./carbon once to build the program.
+Puts one point for each of 3,000 and of 300,000 metrics of one class and drains them all, under each drain order that is named, `sorted` and
+`naive` where none is, into a new folder in FOLDER, /dev/shm unless another is named: a folder in memory, so that the file system's own work stays
+small. Prints the processor time of the puts and of the drain in microseconds a metric, and the kernel's part of the latter; of the few metrics
+the mean of twenty runs. Nothing timed here is a test. Run ./carbon once to build the program.
 """
-import os
-import shutil
-import subprocess
 import sys
 import tempfile
 
-HERE = os.path.dirname(os.path.abspath(__file__))
-PROGRAM = os.path.abspath(os.path.join(HERE, "..", "crates", "carbon", "out", "carbon"))
+from live import MEMORY, Script, class_of, need_program
+
 NOW = 1_700_000_030
 CLASS = 12
 
 
-def class_of(path):
-    hashed = 2166136261
-    for byte in path.encode():
-        hashed = (hashed ^ byte) * 16777619 & 0xFFFFFFFF
-    return hashed % 16
-
-
 def names(count):
-    """So many names of one class."""
+    """So many names of one class, which the hash of four digits and then of three more tells."""
+    ends = [[b"%03d" % k for k in range(1_000) if class_of(b"%03d" % k, hashed) == CLASS] for hashed in range(16)]
     found = []
-    k = 0
+    front = 0
     while len(found) < count:
-        name = "servers.web%07d" % k
-        if class_of(name) == CLASS:
-            found.append(name)
-        k += 1
-    return found
-
-
-def cpu_seconds(text, folder, words):
-    """Processor time of a script, of the program and the kernel for it."""
-    with tempfile.TemporaryFile() as input, tempfile.TemporaryFile() as output:
-        input.write(text)
-        input.seek(0)
-        process = subprocess.Popen([PROGRAM, "script"] + words, stdin=input, stdout=output, cwd=folder)
-        _, status, usage = os.wait4(process.pid, 0)
-        process.returncode = os.waitstatus_to_exitcode(status)
-        output.seek(0)
-        said = output.read()
-        if process.returncode != 0:
-            sys.exit("status %d: %r" % (process.returncode, said[:200]))
-    return usage.ru_utime, usage.ru_stime
+        name = b"servers.web%04d" % front
+        found += [name + end for end in ends[class_of(name)]]
+        front += 1
+    return found[:count]
 
 
 def measure(found, order, root):
-    lines = "".join("%s 1 %d\n" % (name, NOW) for name in found)
-    text = ("!clock %d\n%s" % (NOW, lines)).encode()
-    folder = tempfile.mkdtemp(dir=root)
-    try:
-        limit = ["--limit", "10000000"]
-        user, system = cpu_seconds(text, folder, limit + ["--order", order])
-    finally:
-        shutil.rmtree(folder)
-    folder = tempfile.mkdtemp(dir=root)
-    try:
-        read, kernel = cpu_seconds(text, folder, ["--limit", "1", "--order", order])
-    finally:
-        shutil.rmtree(folder)
-    each = 1e6 / len(found)
-    return (user - read) * each, (system - kernel) * each
+    """Microseconds a metric of the puts, of the drain, and the kernel's part of the latter."""
+    lines = b"".join(b"%s 1 %d\n" % (name, NOW) for name in found)
+    with tempfile.TemporaryDirectory(dir=root) as folder:
+        script = Script(folder, ["--limit", "10000000", "--order", order])
+        script.settle()
+        begun, _ = script.seconds()
+        script.tell(b"!clock %d\n" % NOW + lines)
+        script.settle()
+        put, kernel = script.seconds()
+        if script.ask(b"!drain\n") != b"drained %d\n" % len(found):
+            sys.exit("unexpected answer")
+        drained, kernel_too = script.seconds()
+        script.leave()
+    return tuple(1e6 * part / len(found) for part in (put - begun, drained - put, kernel_too - kernel))
 
 
 def main():
-    root = sys.argv[1] if len(sys.argv) > 1 else "/dev/shm"
+    need_program()
+    root = sys.argv[1] if len(sys.argv) > 1 else MEMORY
     many = names(300_000)
-    print("order      metrics    us a metric: program    kernel")
-    for order in ("sorted", "naive"):
-        for found in (many[:3_000], many):
-            user, system = measure(found, order, root)
-            print("%-10s %7d %24.1f %9.1f" % (order, len(found), user, system))
+    print("us a metric")
+    print("%-10s %8s %8s %8s %8s" % ("order", "metrics", "puts", "drain", "kernel"))
+    for order in sys.argv[2:] or ("sorted", "naive"):
+        for found, times in ((many[:3_000], 20), (many, 1)):
+            runs = [measure(found, order, root) for _ in range(times)]
+            means = tuple(sum(column) / times for column in zip(*runs))
+            print("%-10s %8d %8.1f %8.1f %8.1f" % (order, len(found), *means), flush=True)
 
 
 main()
