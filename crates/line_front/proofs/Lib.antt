@@ -1,0 +1,4 @@
+pub mod LinkLemmas
+mod ServiceLemmas
+mod SessionLemmas
+mod StoreLemmas

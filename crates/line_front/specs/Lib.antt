@@ -1,0 +1,4 @@
+pub mod Counts
+pub mod Links
+pub mod Sessions
+pub mod Ends

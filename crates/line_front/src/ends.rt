@@ -1,0 +1,16 @@
+//! How the service of a link ends.
+
+/// Why the service of a link that brings metric lines ended.
+#[derive(Clone, Copy, Debug, PartialEq, Eq)]
+pub enum LineCause {
+    /// The link was read to its end, and all its lines were handled.
+    Closed,
+    /// A read failed. All lines of what was taken were handled.
+    ReadFault,
+    /// As many bytes as a link may bring were taken, and all their lines were handled.
+    LinkLimit,
+    /// The pass has no room for the entries of another line.
+    Spent,
+    /// Memory ran out.
+    NoMemory,
+}

@@ -1,0 +1,16 @@
+//! Links that bring metric lines: each line that is read as a point is put into the store, and each
+//! other one is counted by the reason.
+#![tactic(auto)]
+
+mod counts;
+mod ends;
+mod serve;
+mod session;
+mod sink;
+
+pub use counts::Counts;
+pub use ends::LineCause;
+pub use serve::{Served, serve_lines};
+
+#[cfg(test)]
+mod tests;

@@ -1,0 +1,100 @@
+//! The service of one link.
+ghost use Rattle.std.specs.Prelude.{◌≡◌};
+ghost use Rattle.outside_io.specs.Frames.{CountsReads};
+ghost use Rattle.line_front.specs.Ends.{IsLinkEnd, cause_of};
+ghost use Rattle.line_front.specs.Links.{Ends, WritesNone, new_session};
+
+use crate::counts::Counts;
+use crate::ends::LineCause;
+use crate::session::LineSession;
+use crate::sink::NoSink;
+use line_service::{ServiceEnd, Stop};
+use outside_io::{Clock, Disk, Link};
+use shared_history::Pass;
+use shared_store::{Named, Store};
+use std::alloc::Global;
+use std::sync::Wait;
+
+/// What the service of a link came to.
+#[derive(Drop)]
+pub struct Served {
+    /// Why it ended.
+    pub cause: LineCause,
+    /// Its lines, by what became of each.
+    pub counts: Counts,
+    /// The pass that put them.
+    pub pass: Pass,
+}
+
+/// Serves a link that brings metric lines, until it ends: each line that is read as a point, at the
+/// moment that the clock tells then, makes one put, in order; each other line is counted by the
+/// reason, and the link goes on. What follows the last line feed is no line. Whether the pass has
+/// room for a call is looked at once at the start, and before each line. Nothing is written to the
+/// link.
+pub fn serve_lines<R: Wait, D: Disk, N: Named, L: Link, C: Clock>(
+    rt: &R,
+    alloc: Global,
+    store: &Store<D, N>,
+    pass: Pass,
+    link: &mut L,
+    clock: &C,
+) -> Served
+    requires one { pass.table ≡ N.table }
+    ensures ends { Ends (C.moments clock.now) N.start N.passes result.cause
+        (L.left link.old) (L.left link.new) (new_session pass)
+        (record { pass = result.pass; counts = result.counts }) }
+    ensures one { result.pass.table ≡ N.table }
+    ensures reads { CountsReads L.Source link.old link.new (result.cause ≡ LineCause.ReadFault) }
+    ensures written { WritesNone L.Sink link.old link.new }
+{
+    let mut session = LineSession {
+        rt,
+        store,
+        clock,
+        pass,
+        counts: Counts::none(),
+        alloc,
+    };
+    let cause = serve_link(&mut session, alloc, link);
+    let LineSession { pass, counts, .. } = session;
+    Served {
+        cause,
+        counts,
+        pass,
+    }
+}
+
+// Serves the lines of a link, unless the pass is spent from the start.
+#[tactic(auto, using(crate::proofs::ServiceLemmas::is_link_end, crate::proofs::ServiceLemmas::ends_spent, crate::proofs::ServiceLemmas::reads_as))]
+fn serve_link<R: Wait, D: Disk, N: Named, L: Link, C: Clock>(
+    session: &mut LineSession<'_, R, D, N, C>,
+    alloc: Global,
+    link: &mut L,
+) -> LineCause
+    ensures ends { Ends (C.moments session.old.clock) N.start N.passes result
+        (L.left link.old) (L.left link.new) session.old.session session.new.session }
+    ensures reads { CountsReads L.Source link.old link.new (result ≡ LineCause.ReadFault) }
+    ensures written { WritesNone L.Sink link.old link.new }
+{
+    match session.room() {
+        Ok(()) => cause_of(line_service::serve_lines(session, alloc, link, &mut NoSink)),
+        Err(_) => LineCause::Spent,
+    }
+}
+
+// The cause that the end of a service is. Nothing is written and no disk is called, so neither
+// fails.
+pub(crate) fn cause_of(end: ServiceEnd) -> LineCause
+    requires { IsLinkEnd end }
+    ensures { result ≡ cause_of end }
+{
+    match end {
+        ServiceEnd::Closed => LineCause::Closed,
+        ServiceEnd::ReadFault => LineCause::ReadFault,
+        ServiceEnd::Limit => LineCause::LinkLimit,
+        ServiceEnd::NoMemory => LineCause::NoMemory,
+        ServiceEnd::Stopped(Stop::Spent) => LineCause::Spent,
+        ServiceEnd::Stopped(Stop::NoMemory) => LineCause::NoMemory,
+        ServiceEnd::Stopped(Stop::WriteFault | Stop::DiskFault(_)) => unreachable!(),
+    }
+}

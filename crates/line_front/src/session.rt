@@ -1,0 +1,143 @@
+//! What serves the lines of one link.
+ghost use Rattle.std.specs.Prelude.{◌≡◌, true};
+ghost use Rattle.fixed_num.specs.Moment.{is_moment};
+ghost use Rattle.line_front.specs.Ends.{end_of};
+
+use crate::counts::Counts;
+use carbon_history::PutEnd;
+use line_service::{LineServer, Stop};
+use metric_line::{Datum, LineFault, read_line};
+use outside_io::{Clock, Disk, Sink};
+use point_cache::Put;
+use shared_history::Pass;
+use shared_store::{Named, Store};
+use std::alloc::Global;
+use std::marker::Model;
+use std::sync::Wait;
+
+/// The most entries that a call of a store makes.
+const MOST_CALL_ENTRIES: u64 = 4;
+
+/// Puts the lines of a link into a store by a pass, at the moments of a clock, and counts them.
+#[derive(Drop)]
+pub(crate) struct LineSession<'a, R: Wait, D: Disk, N: Named, C: Clock> {
+    pub(crate) rt: &'a R,
+    pub(crate) store: &'a Store<D, N>,
+    pub(crate) clock: &'a C,
+    pub(crate) pass: Pass,
+    pub(crate) counts: Counts,
+    pub(crate) alloc: Global,
+}
+
+impl<'a, R: Wait, D: Disk, N: Named, C: Clock> Model for LineSession<'a, R, D, N, C> {
+    ghost use Rattle.std.specs.Prelude.{◌≡◌};
+    ghost use Rattle.line_front.specs.Sessions.{LinkValue};
+
+    ghost Value = { LinkValue C };
+
+    ghost view = { λ s. record {
+      clock = s.clock.now;
+      session = record { pass = s.pass; counts = s.counts };
+    } };
+
+    ghost invariant = { λ s. s.pass.table ≡ N.table };
+}
+
+impl<'a, R: Wait, D: Disk, N: Named, C: Clock> LineSession<'a, R, D, N, C> {
+    ghost use Rattle.std.specs.Prelude.{◌≡◌, OnOk, IfErr};
+    ghost use Rattle.metric_line.specs.Seen.{seen};
+    ghost use Rattle.shared_store.specs.Passes.{HasRoom};
+    ghost use Rattle.line_front.specs.Links.{Puts};
+    ghost use Rattle.line_front.specs.Sessions.{PutsNone, Refuses, TellsRoom};
+
+    // Whether the pass has room for what a call of the store may enter.
+    #[tactic(auto, using(crate::proofs::SessionLemmas::has_room, crate::proofs::SessionLemmas::has_none))]
+    pub(crate) fn room(&self) -> Result<(), Stop>
+        ensures { TellsRoom result self.now.session.pass }
+    {
+        if self.pass.left() < MOST_CALL_ENTRIES {
+            Err(Stop::Spent)
+        } else {
+            Ok(())
+        }
+    }
+
+    // Puts the point of a line, and counts how that ended.
+    #[tactic(auto, using(crate::proofs::SessionLemmas::puts_point, crate::proofs::SessionLemmas::puts_none))]
+    fn put(&mut self, datum: &Datum) -> Result<(), Stop>
+        requires { HasRoom self.old.session.pass }
+        ensures puts { OnOk result
+            (Puts N.start N.passes (seen datum.now) self.old.session self.new.session) }
+        ensures stops { IfErr result
+            (λ reason. PutsNone N.start N.passes reason self.old.session self.new.session) }
+        ensures clock { self.new.clock ≡ self.old.clock }
+    {
+        let put = self.store.put(self.rt, &mut self.pass, datum);
+        let Some(end) = end_of(put) else {
+            return Err(Stop::NoMemory);
+        };
+        self.counts.count_put(end);
+        Ok(())
+    }
+
+    // Counts a line that was refused. Want of memory is no refusal.
+    fn refuse(&mut self, fault: LineFault) -> Result<(), Stop>
+        ensures { Refuses fault result self.old self.new }
+    {
+        if fault == LineFault::NoMemory {
+            return Err(Stop::NoMemory);
+        }
+        self.counts.count_refused(&fault);
+        Ok(())
+    }
+}
+
+impl<'a, R: Wait, D: Disk, N: Named, C: Clock> LineServer for LineSession<'a, R, D, N, C> {
+    ghost use Rattle.line_front.specs.Sessions.{ServesLink, StopsLink};
+
+    ghost serves = { λ old line before new after.
+        ServesLink C.moments N.start N.passes old line before new after };
+
+    ghost stops = { λ old line before reason new after.
+        StopsLink C.moments N.start N.passes old line before reason new after };
+
+    #[tactic(auto, using(crate::proofs::SessionLemmas::serves_put, crate::proofs::SessionLemmas::stops_put, crate::proofs::SessionLemmas::serves_refused, crate::proofs::SessionLemmas::stops_refused, crate::proofs::SessionLemmas::stops_spent))]
+    fn serve_line<K: Sink>(&mut self, line: &[u8], out: &mut K) -> Result<(), Stop> {
+        // A link that brings lines is never written to.
+        let _ = out;
+        self.room()?;
+        match read_line(self.alloc, line, moment(self.clock)) {
+            Ok(datum) => self.put(&datum),
+            Err(fault) => self.refuse(fault),
+        }
+    }
+
+    #[tactic(auto, using(crate::proofs::SessionLemmas::stops_spent))]
+    fn serve_long<K: Sink>(&mut self, out: &mut K) -> Result<(), Stop> {
+        let _ = out;
+        self.room()?;
+        self.counts.count_long();
+        Ok(())
+    }
+}
+
+// The moment that a clock tells.
+#[tactic(auto, using(crate::proofs::SessionLemmas::moment_fits))]
+fn moment<C: Clock>(clock: &C) -> u32
+    ensures told { C.moments clock.now result }
+    ensures legal { is_moment result ≡ true }
+{
+    clock.now() as u32
+}
+
+// How a put ended, unless there was no memory for it.
+fn end_of(put: Put) -> Option<PutEnd>
+    ensures { result ≡ end_of put }
+{
+    match put {
+        Put::Stored => Some(PutEnd::Stored),
+        Put::Replaced => Some(PutEnd::Replaced),
+        Put::Full => Some(PutEnd::Full),
+        Put::NoMemory => None,
+    }
+}
