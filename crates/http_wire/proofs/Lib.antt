@@ -1,4 +1,4 @@
 mod CutLemmas
-mod RequestLemmas
-mod AnswerLemmas
+pub mod RequestLemmas
+pub mod AnswerLemmas
 mod LengthLemmas

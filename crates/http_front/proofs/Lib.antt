@@ -1,0 +1,6 @@
+mod AskLemmas
+mod LinkLemmas
+mod StandingLemmas
+mod EndLemmas
+mod EntryLemmas
+mod ReplyLemmas

@@ -1,0 +1,7 @@
+pub mod Origin
+pub mod Outcomes
+pub mod Found
+pub mod Requests
+pub mod Links
+pub mod Entries
+pub mod Standing
