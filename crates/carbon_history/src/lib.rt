@@ -1,8 +1,6 @@
-//! The history: what was put, drained and asked, in order.
+//! The entries of the history: what was put, drained and asked, and which disks failed.
 #![tactic(auto)]
 
 mod entry;
-mod history;
 
 pub use entry::{Entry, PutEnd};
-pub use history::History;

@@ -105,6 +105,93 @@ fn the_inner_opened_one_is_told(rt: HostRuntime) -> Result<(), Fail> {
     Ok(())
 }
 
+// What comes of the fronts of a glob that have at least so many bytes.
+type Step = (usize, Option<GlobFault>);
+
+// What comes of the front of a length: the last step up to it.
+fn outcome_at(steps: &[Step], len: usize) -> Option<GlobFault> {
+    let mut told = None;
+    for (from, outcome) in steps {
+        if *from <= len {
+            told = *outcome;
+        }
+    }
+    told
+}
+
+fn assert_fronts(rt: &impl Abort, alloc: Global, glob: &[u8], steps: &[Step]) -> Result<(), Fail> {
+    for len in 0..=glob.len() {
+        assert_fault(rt, alloc, &glob[..len], outcome_at(steps, len))?;
+    }
+    Ok(())
+}
+
+const NO_BYTES: Step = (0, Some(GlobFault::EmptyNode(0)));
+
+// The step from a length on at which a bracket or brace waits.
+const fn waits(len: usize, at: usize) -> Step {
+    (len, Some(GlobFault::Unclosed(at)))
+}
+
+// The step from a length on behind a byte that cannot stand there.
+const fn bad(len: usize, at: usize) -> Step {
+    (len, Some(GlobFault::BadByte(at)))
+}
+
+// The step from a length on at which a node has no piece.
+const fn empty(len: usize) -> Step {
+    (len, Some(GlobFault::EmptyNode(len)))
+}
+
+#[test]
+fn each_front_of_a_glob_is_told(rt: HostRuntime) -> Result<(), Fail> {
+    let rows: [(&[u8], &[Step]); 14] = [
+        (
+            b"a.{b,c*}x",
+            &[NO_BYTES, (1, None), empty(2), waits(3, 2), (8, None)],
+        ),
+        (b"[d-f]", &[NO_BYTES, waits(1, 0), (5, None)]),
+        (
+            b"{a,[b-c]}",
+            &[NO_BYTES, waits(1, 0), waits(4, 3), waits(8, 0), (9, None)],
+        ),
+        (
+            b"[a--c]x{}",
+            &[NO_BYTES, waits(1, 0), (6, None), waits(8, 7), (9, None)],
+        ),
+        (
+            b"*.?{,b}.[-]",
+            &[
+                NO_BYTES,
+                (1, None),
+                empty(2),
+                (3, None),
+                waits(4, 3),
+                (7, None),
+                empty(8),
+                waits(9, 8),
+                (11, None),
+            ],
+        ),
+        (b"a..{b", &[NO_BYTES, (1, None), empty(2)]),
+        (
+            b"a.b,c",
+            &[NO_BYTES, (1, None), empty(2), (3, None), bad(4, 3)],
+        ),
+        (b"x[a.b]", &[NO_BYTES, (1, None), waits(2, 1), bad(4, 3)]),
+        (b"[]a]", &[NO_BYTES, waits(1, 0), bad(2, 1)]),
+        (b"[!a]", &[NO_BYTES, waits(1, 0), bad(2, 1)]),
+        (b"{a{b}}", &[NO_BYTES, waits(1, 0), bad(3, 2)]),
+        (b"{a,b]c}", &[NO_BYTES, waits(1, 0), bad(5, 4)]),
+        (b"a{b.c}", &[NO_BYTES, (1, None), waits(2, 1), bad(4, 3)]),
+        (b"{[a-}]}", &[NO_BYTES, waits(1, 0), waits(2, 1), bad(5, 4)]),
+    ];
+    for (glob, steps) in rows {
+        assert_fronts(&rt, rt.alloc(), glob, steps)?;
+    }
+    Ok(())
+}
+
 #[test]
 fn globs_are_accepted(rt: HostRuntime) -> Result<(), Fail> {
     let cases: [&[u8]; 16] = [

@@ -1,1 +1,2 @@
+mod BackwardLemmas
 mod DateLemmas

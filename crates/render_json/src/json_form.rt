@@ -1,14 +1,18 @@
 //! The JSON of series.
-ghost use Rattle.std.specs.Prelude.{◌≡◌, ◌++◌, IfOk, OnOk, codes, map};
+ghost use Rattle.std.specs.Prelude.{◌≡◌, ◌+◌, ◌/◌, ◌%◌, ◌<◌, ◌≤◌, ◌∷◌, ◌++◌, IfOk, OnOk, codes, decimal, drop, length, map, take};
 ghost use Rattle.json.specs.Print.{quoted};
 ghost use Rattle.render_json.specs.Json.{datapoints_text, json_of, null_text, point_text, points_text, series_json, target_text};
-ghost use Rattle.render_json.specs.Values.{joined, value_or};
+ghost use Rattle.render_json.specs.Values.{joined, separator, value_or};
 
-use crate::parts::{NUMBER_ROOM, VALUE_ROOM, push_number, push_separator, push_value};
+use crate::backward::{put, put_number, put_value, set_pair};
+use crate::parts::{NUMBER_ROOM, VALUE_ROOM, push_separator};
 use fixed_num::Milli;
 use serde_json::Value;
 use series_set::{Series, SeriesSet};
 use std::alloc::{AllocError, Global};
+
+// The most bytes of a point with the separator before it.
+const POINT_ROOM: usize = 48;
 
 /// Series as JSON: a list of objects with the `target`, which is the series' name, and the `datapoints`,
 /// each `[value, time]` with `null` for a missing value and the time in seconds since the Unix epoch.
@@ -89,31 +93,109 @@ fn push_datapoints(out: &mut Vec<u8>) -> Result<(), AllocError>
 fn push_points(out: &mut Vec<u8>, series: &Series) -> Result<(), AllocError>
     ensures { OnOk result (out.new.items ≡ out.old.items ++ points_text series.now) }
 {
+    let mut text = [0; POINT_ROOM];
     let mut is_first = true;
     let mut time = series.start();
+    let mut end = put_time(&mut text, time);
     for value in series.values() {
-        push_separator(out, b", ", is_first)?;
+        push_point(out, &mut text, end, time, *value, is_first)?;
         is_first = false;
-        push_point(out, time, *value)?;
-        time += series.step();
+        let next = time + series.step();
+        end = put_next_time(&mut text, end, time, next);
+        time = next;
     }
     Ok(())
 }
 
-fn push_point(out: &mut Vec<u8>, time: u64, value: Option<Milli>) -> Result<(), AllocError>
-    ensures { OnOk result (out.new.items ≡ out.old.items ++ point_text (time, value)) }
+// Appends a point whose time, and what stands round it, the text holds from `end` on.
+#[inline(always)]
+fn push_point(
+    out: &mut Vec<u8>,
+    text: &mut [u8; POINT_ROOM],
+    end: usize,
+    time: u64,
+    value: Option<Milli>,
+    is_first: bool,
+) -> Result<(), AllocError>
+    requires room { (25 ≤ end) × (end ≤ POINT_ROOM) }
+    requires is { drop end text.old ≡ codes ", " ++ (decimal time ++ codes "]") }
+    ensures pushed { OnOk result
+        (out.new.items ≡ out.old.items ++ (separator (codes ", ") is_first ++ point_text (time, value))) }
+    ensures kept { drop end text.new ≡ codes ", " ++ (decimal time ++ codes "]") }
 {
-    out.push(b'[')?;
-    push_known(out, value)?;
-    out.extend_from_slice(b", ")?;
-    push_number(out, time)?;
-    out.push(b']')?;
-    Ok(())
+    // The time is an argument for the contract alone.
+    let _ = time;
+    let at = put_known(text, end, value);
+    let at = put(text, at, b"[");
+    let from = put_separator(text, at, is_first);
+    out.extend_from_slice(&text[from..])
 }
 
+#[inline(always)]
 #[tactic(auto, unfolding(crate::specs::Json::null_text))]
-fn push_known(out: &mut Vec<u8>, value: Option<Milli>) -> Result<(), AllocError>
-    ensures { OnOk result (out.new.items ≡ out.old.items ++ value_or null_text value) }
+fn put_known(text: &mut [u8; POINT_ROOM], end: usize, value: Option<Milli>) -> usize
+    requires room { (25 ≤ end) × (end ≤ POINT_ROOM) }
+    ensures start { result + length (value_or null_text value) ≡ end }
+    ensures short { length (value_or null_text value) ≤ 21 }
+    ensures written { drop result text.new ≡ value_or null_text value ++ drop end text.old }
 {
-    push_value(out, b"null", value)
+    let Some(value) = value else {
+        return put(text, end, b"null");
+    };
+    put_value(text, end, value)
+}
+
+// Writes the separator, but not before the first point.
+#[inline(always)]
+fn put_separator(text: &mut [u8; POINT_ROOM], end: usize, is_first: bool) -> usize
+    requires room { (2 ≤ end) × (end ≤ POINT_ROOM) }
+    ensures start { result + length (separator (codes ", ") is_first) ≡ end }
+    ensures written { drop result text.new ≡ separator (codes ", ") is_first ++ drop end text.old }
+{
+    if is_first {
+        return end;
+    }
+    put(text, end, b", ")
+}
+
+// Writes what a point has behind its value, and answers where it starts.
+#[tactic(auto, using(crate::proofs::BackwardLemmas::number_short))]
+fn put_time(text: &mut [u8; POINT_ROOM], time: u64) -> usize
+    ensures room { (25 ≤ result) × (result ≤ POINT_ROOM) }
+    ensures written { drop result text.new ≡ codes ", " ++ (decimal time ++ codes "]") }
+{
+    let at = put(text, POINT_ROOM, b"]");
+    let at = put_number(text, at, time);
+    put(text, at, b", ")
+}
+
+// The same where the text has it for another time, of which mostly the last four digits alone are other.
+#[inline(always)]
+fn put_next_time(text: &mut [u8; POINT_ROOM], end: usize, time: u64, next: u64) -> usize
+    requires room { (25 ≤ end) × (end ≤ POINT_ROOM) }
+    requires is { drop end text.old ≡ codes ", " ++ (decimal time ++ codes "]") }
+    ensures room { (25 ≤ result) × (result ≤ POINT_ROOM) }
+    ensures written { drop result text.new ≡ codes ", " ++ (decimal next ++ codes "]") }
+{
+    if next < 10_000 {
+        return put_time(text, next);
+    }
+    if next / 10_000 != time / 10_000 {
+        return put_time(text, next);
+    }
+    put_last_digits(text, next % 10_000);
+    end
+}
+
+// Writes the last four digits of a time and what stands behind them.
+#[inline(always)]
+fn put_last_digits(text: &mut [u8; POINT_ROOM], digits: u64)
+    requires { digits < 10000 }
+    ensures before { take 43 text.new ≡ take 43 text.old }
+    ensures written { drop 43 text.new ≡ (48 + digits / 100 / 10) ∷ (48 + digits / 100 % 10)
+        ∷ (48 + digits % 100 / 10) ∷ (48 + digits % 100 % 10) ∷ codes "]" }
+{
+    text[47] = b']';
+    set_pair(text, 45, digits % 100);
+    set_pair(text, 43, digits / 100);
 }

@@ -1,6 +1,7 @@
 //! Series as the texts of Graphite's render API. The path of a series is in none of them.
 #![tactic(auto)]
 
+mod backward;
 mod csv_form;
 mod json_form;
 mod parts;

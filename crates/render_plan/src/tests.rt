@@ -381,6 +381,41 @@ fn the_last_text_of_a_query_and_its_body_holds(rt: HostRuntime) -> Result<(), Fa
     Ok(())
 }
 
+// A `%` that no two hexadecimal digits follow stands for itself, and a glob may hold it.
+#[test]
+fn a_broken_escape_stands_for_itself(rt: HostRuntime) -> Result<(), Fail> {
+    let cases = [
+        ("target=%", "% 1699913630 1700000030;"),
+        ("target=a%", "a% 1699913630 1700000030;"),
+        ("target=a%2", "a%2 1699913630 1700000030;"),
+        ("target=a%zz", "a%zz 1699913630 1700000030;"),
+        ("target=a%2g", "a%2g 1699913630 1700000030;"),
+        (
+            "target=a%&target=b",
+            "a% 1699913630 1700000030;b 1699913630 1700000030;",
+        ),
+        ("target=a%%2eb", "a%.b 1699913630 1700000030;"),
+        ("target=a%2%2Eb", "a%2.b 1699913630 1700000030;"),
+        ("target=a%25", "a% 1699913630 1700000030;"),
+        ("target=a%2e", "target 1: unreadable at 2"),
+        ("target=a%00", "target 1: unreadable at 1"),
+        ("target=a%e9", "target 1: unreadable at 1"),
+        ("target=sum(a%29%", "target 1: unreadable at 6"),
+        ("tar%6get=a", "no target"),
+        ("target%=a", "no target"),
+        ("%74arget=a&from=%31%30&until=20", "a 10 20;"),
+        ("target=a&from=10%", "bad time"),
+        ("target=a&until=%2", "bad time"),
+        ("target=a&format=json%", "bad format"),
+        ("target=a&maxDataPoints=5%zz", "bad maxDataPoints"),
+    ];
+    for (query, want) in cases {
+        assert_told(&rt, rt.alloc(), query, "", want)?;
+        assert_told(&rt, rt.alloc(), "", query, want)?;
+    }
+    Ok(())
+}
+
 #[test]
 fn each_path_is_a_need_with_shifted_ends(rt: HostRuntime) -> Result<(), Fail> {
     let cases = [

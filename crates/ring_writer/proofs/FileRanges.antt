@@ -1,27 +1,8 @@
 -- What 12 bytes of a file are after a piece was put over it.
-use Rattle.std.proofs.Common.{◌≡◌, ◌∙◌, ℕ, ◌+◌, ◌-◌, ◌≤◌, ◌⊎◌, List, ◌++◌, length, take, drop, inl, inr, ap, arith, length-take, length-drop, length-append, append_assoc}
-use Rattle.std.proofs.lemmas.List.{take-append-le, drop-append-le, take-take, drop-drop}
+use Rattle.std.proofs.Common.{◌≡◌, ◌∙◌, ℕ, ◌+◌, ◌≤◌, List, ◌++◌, length, take, drop, ap, arith, length-take, length-drop, append_assoc}
+use Rattle.std.proofs.lemmas.List.{take-append-le, drop-append-le, take-take}
 use Rattle.std.proofs.Math.Seq.{drop-append-add, take-append_seam}
 use Rattle.outside_io.specs.Image.{put_over}
-use Rattle.ring_archive.proofs.HeldLemmas.{piece_within}
-
--- bytes before the piece or behind it
-pub bytes_aside : (file piece : List ℕ) (at off : ℕ) → at + length piece ≤ length file → (off + 12 ≤ at) ⊎ (at + length piece ≤ off) → take 12 (drop off (put_over file at piece)) ≡ take 12 (drop off file)
-bytes_aside file piece at off fits (inl before) =
-    let front : length (take at file) ≡ at = omega (arith, length-take at file) in
-    let room : 12 ≤ length (drop off (take at file)) = omega (arith, length-drop off (take at file)) in
-    ap (λ (xs : List ℕ). take 12 (drop off xs)) (append_assoc (take at file) piece (drop (at + length piece) file))
-    ∙ ap (take 12) (drop-append-le off (take at file) (piece ++ drop (at + length piece) file) (omega arith))
-    ∙ take-append-le 12 (drop off (take at file)) (piece ++ drop (at + length piece) file) room
-    ∙ piece_within file off 12 at before
-bytes_aside file piece at off fits (inr behind) =
-    let front : length (take at file ++ piece) ≡ at + length piece = omega (arith, length-append (take at file) piece, length-take at file) in
-    let far : off ≡ length (take at file ++ piece) + (off - (at + length piece)) = omega arith in
-    let there : at + length piece + (off - (at + length piece)) ≡ off = omega arith in
-    ap (λ (n : ℕ). take 12 (drop n (put_over file at piece))) far
-    ∙ ap (take 12) (drop-append-add (take at file ++ piece) (drop (at + length piece) file) (off - (at + length piece)))
-    ∙ ap (take 12) (drop-drop (off - (at + length piece)) (at + length piece) file)
-    ∙ ap (λ (n : ℕ). take 12 (drop n file)) there
 
 -- bytes of the piece
 pub bytes_inside : (file piece : List ℕ) (at j : ℕ) → at ≤ length file → j + 12 ≤ length piece → take 12 (drop (at + j) (put_over file at piece)) ≡ take 12 (drop j piece)

@@ -1,12 +1,9 @@
 pub mod FileRanges
 pub mod PlaceLemmas
-pub mod WrittenLemmas
 pub mod KnownLemmas
-pub mod LaidLemmas
 pub mod CreatedLemmas
 pub mod FrameLemmas
 pub mod ReadLemmas
-pub mod LaysLemmas
 pub mod RunLemmas
 pub mod TornLemmas
 pub mod PartLemmas

@@ -1,14 +1,13 @@
 -- The next run of a shelf over the file of a name.
-use Rattle.std.proofs.Common.{◌≡◌, ◌≢◌, ◌∙◌, ◌⊎◌, ℕ, ◌+◌, ◌*◌, ◌<◌, ◌≤◌, Bool, true, false, List, [], ◌∷◌, ◌++◌, length, take, drop, Option, None, Some, IfSome, IsSomeAnd, slice_get, inl, inr, refl, sym, ap, subst, arith}
+use Rattle.std.proofs.Common.{◌≡◌, ◌≢◌, ◌∙◌, ℕ, ◌*◌, Bool, true, false, List, [], ◌∷◌, ◌++◌, length, take, drop, Option, None, Some, IfSome, IsSomeAnd, slice_get, refl, sym, ap, subst, arith}
 use Rattle.std.specs.Prelude.{⊤, option_map, replicate, Result, Ok, Err, OnErr, IsErr}
-use Rattle.outside_io.specs.Image.{Image, ChangesOnly, Creates, IsTorn, IsWithinFile, Tears, WhereKnown, Writes, put_over}
+use Rattle.outside_io.specs.Image.{Image, ChangesOnly, Creates, IsTorn, Tears, WhereKnown, Writes, put_over}
 use Rattle.ring_format.specs.Layout.{layout_fault}
-use Rattle.ring_format.specs.LayoutFile.{file_size_of}
 use Rattle.ring_format.specs.Patch.{PatchValue}
-use Rattle.ring_archive.specs.Ring.{AgreeAside, IsRingFile, OnFile, ReadsAs, Rings, UnderPatch}
+use Rattle.ring_archive.specs.Ring.{IsRingFile, OnFile, ReadsAs, UnderPatch}
 use Rattle.ring_archive.proofs.AlikeLemmas.{aside_alike}
 use Rattle.write_shelf.specs.Runs.{runs_of}
-use Rattle.write_shelf.specs.Shelf.{ComesInTurn, DrainValue, IsBegun, IsFilled, IsRunOf, OfNext, StandsAt, drain_with, marked, next_run, run_at, run_bytes}
+use Rattle.write_shelf.specs.Shelf.{ComesInTurn, DrainValue, IsBegun, IsFilled, IsRunOf, OfNext, StandsAt, drain_with, marked, next_run, run_bytes}
 use Rattle.write_shelf.specs.declared.run.Run.{Run}
 use Rattle.write_shelf.specs.declared.run.Run.TheVariants.{Create, Cells, Head}
 use Rattle.write_shelf.proofs.BytesLemmas.{length-cells_bytes}

@@ -1,19 +1,13 @@
 -- The cells of different places lie apart in a file.
-use Rattle.std.proofs.Common.{◌≡◌, ◌≢◌, ◌∙◌, ℕ, zero, suc, ◌+◌, ◌-◌, ◌*◌, ◌<◌, ◌≤◌, ◌⊎◌, List, [], ◌∷◌, length, get_or, take, Some, inl, inr, refl, sym, ap, ap₂, subst, arith, length-take}
+use Rattle.std.proofs.Common.{◌≡◌, ◌≢◌, ◌∙◌, ℕ, ◌+◌, ◌-◌, ◌*◌, ◌<◌, ◌≤◌, ◌⊎◌, List, length, get_or, take, Some, inl, inr, sym, ap, arith, length-take}
 use Rattle.std.specs.Prelude.{slice_get}
-use Rattle.std.specs.List.Sorted.{IsStrictlySortedBy}
-use Rattle.std.specs.Ordering.{nat_cmp, ordering_then}
-use Rattle.std.specs.declared.cmp.Ordering.TheVariants.{Less, Equal}
 use Rattle.std.proofs.lemmas.Bool.{cases_lt}
 use Rattle.std.proofs.lemmas.List.{take-take, get_or-take}
-use Rattle.std.proofs.lemmas.Map.Views.{All-after_first}
-use Rattle.std.proofs.lemmas.Map.Keys.{sorted_tail}
-use Rattle.std.specs.Cmp.{nat_cmp_is}
 use Rattle.std.proofs.lemmas.Option.{slice_get-get_or}
 use Rattle.ring_format.specs.declared.archive.Archive.{Archive}
 use Rattle.ring_format.specs.Layout.{LayoutValue, point_count}
 use Rattle.ring_format.specs.LayoutFile.{file_size_of, head_size, offset_of}
-use Rattle.ring_format.specs.Patch.{IsPlace, place_cmp}
+use Rattle.ring_format.specs.Patch.{IsPlace}
 use Rattle.ring_format.proofs.LawfulLayouts.{points_within}
 use Rattle.ring_archive.specs.Ring.{cell_offset}
 
@@ -81,25 +75,3 @@ pub cells_within : (layout : LayoutValue) (first : ℕ × ℕ) (count : ℕ) →
     → (head_size (length layout.archives) ≤ cell_offset layout.archives first) × (cell_offset layout.archives first + 12 * count ≤ file_size_of layout.archives)
 cells_within layout first count within room =
     (omega arith, omega (arith, points_within layout.archives first.0 blank within))
-
--- ---- the places of a list that rises
-
-same_then : (n : ℕ) → nat_cmp n n ≡ Equal
-same_then n = sym (nat_cmp_is n n Equal refl)
-
--- a place ties with itself
-pub tied : (place : ℕ × ℕ) → place_cmp place place ≡ Equal
-tied place = ap₂ ordering_then (same_then place.0) (same_then place.1)
-
-not_below : (place : ℕ × ℕ) → place_cmp place place ≡ Less → ⊥
-not_below place less =
-    let both : Equal ≡ Less = sym (tied place) ∙ less in
-    absurd cc
-
-pub places_differ : (places : List (ℕ × ℕ)) (j k : ℕ) → IsStrictlySortedBy place_cmp places → j < k → k < length places → get_or places j (0, 0) ≢ get_or places k (0, 0)
-places_differ [] j k rise less within = absurd (omega arith)
-places_differ (place ∷ places) zero zero rise less within = absurd (omega arith)
-places_differ (place ∷ places) zero (suc k) rise less within =
-    λ same. not_below place (subst (λ (other : ℕ × ℕ). place_cmp place other ≡ Less) (sym same) (All-after_first place_cmp place places rise k (0, 0) (omega arith)))
-places_differ (place ∷ places) (suc j) zero rise less within = absurd (omega arith)
-places_differ (place ∷ places) (suc j) (suc k) rise less within = places_differ places j k (sorted_tail place_cmp place places rise) (omega arith) (omega arith)

@@ -1,5 +1,5 @@
 -- A file that changed in the range of one run.
-use Rattle.std.proofs.Common.{◌≡◌, ◌≢◌, ◌∙◌, ◌⊎◌, ℕ, ℤ, ◌+◌, ◌-◌, ◌*◌, ◌<◌, ◌≤◌, List, [], ◌++◌, length, take, drop, get_or, slice_get, Option, None, Some, IsSome, IsSomeAnd, inl, inr, refl, sym, ap, subst, arith, length-append, length-take}
+use Rattle.std.proofs.Common.{◌≡◌, ◌≢◌, ◌∙◌, ◌⊎◌, ℕ, ℤ, ◌+◌, ◌-◌, ◌*◌, ◌<◌, ◌≤◌, List, [], ◌++◌, length, take, drop, get_or, slice_get, Option, None, Some, IsSome, IsSomeAnd, inl, inr, sym, ap, subst, arith, length-append, length-take}
 use Rattle.std.specs.Prelude.{unwrap_or}
 use Rattle.std.specs.Option.{option_map_or}
 use Rattle.std.proofs.lemmas.List.{drop-drop}
@@ -10,17 +10,15 @@ use Rattle.outside_io.proofs.Ranges.{length-put_over}
 use Rattle.ring_format.specs.Cell.{cell_bytes, cell_of}
 use Rattle.ring_format.specs.Head.{head_bytes}
 use Rattle.ring_format.specs.Layout.{LayoutValue}
-use Rattle.ring_format.specs.LayoutFile.{file_size_of, head_size, offset_of}
-use Rattle.ring_format.specs.Patch.{Cells as Laid, IsPlace, PatchValue, cell_at}
-use Rattle.ring_archive.specs.Ring.{AgreeAside, cell_offset, ring_cell, stored_cell}
+use Rattle.ring_format.specs.LayoutFile.{file_size_of, head_size}
+use Rattle.ring_format.specs.Patch.{IsPlace, PatchValue, cell_at}
+use Rattle.ring_archive.specs.Ring.{cell_offset, ring_cell, stored_cell}
 use Rattle.ring_archive.proofs.HeldLemmas.{piece_within}
-use Rattle.write_shelf.specs.Shelf.{AreLaid, ReadsBack, bytes_at, cells_bytes}
+use Rattle.write_shelf.specs.Shelf.{AreLaid, ReadsBack, cells_bytes}
 use Rattle.write_shelf.specs.declared.run.Run.TheVariants.{Cells}
 use Rattle.write_shelf.proofs.BytesLemmas.{cell_stands, length-cells_bytes}
-use Rattle.ring_writer.specs.Written.{IsFramed}
 use Rattle.ring_writer.proofs.CreatedLemmas.{length-head, place_within}
 use Rattle.ring_writer.proofs.FileRanges.{bytes_inside, front_before}
-use Rattle.ring_writer.proofs.FrameLemmas.{torn_framed}
 use Rattle.ring_writer.proofs.PlaceLemmas.{blank, cells_apart, cells_within, slot_aside}
 
 -- ---- bytes

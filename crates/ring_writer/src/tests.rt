@@ -1,5 +1,5 @@
 // Patches written to a disk in memory.
-ghost use Rattle.std.specs.Prelude.{◌≡◌, ◌≢◌, false, IfOk, IfSome, None, OnOk};
+ghost use Rattle.std.specs.Prelude.{◌≡◌, ◌≢◌, true, false, IfOk, IfSome, None, OnOk};
 ghost use Rattle.outside_io.specs.MemDisk.{disk_image};
 ghost use Rattle.ring_archive.specs.Ring.{IsRingFile, OnFile};
 ghost use Rattle.ring_writer.specs.PartWritten.{AwaitsNext};
@@ -8,9 +8,8 @@ use super::*;
 use fixed_num::Milli;
 use metric_path::MetricPath;
 use outside_io::{Disk, DiskFailed, MemDisk};
-use ring_archive::{RingFault, RingView};
 use ring_format::{Archive, CellWrite, Layout, Method, Patch};
-use std::alloc::Global;
+use std::alloc::{AllocError, Global};
 use std::process::Abort;
 use std::test::Fail;
 use write_shelf::Shelf;
@@ -38,7 +37,7 @@ fn patch_with(alloc: Global, layout: Layout, fresh: bool, cells: &[Laid]) -> Res
     Ok(patch)
 }
 
-// Writes a patch of these cells to the file of a name.
+// Writes a patch of these cells run by run to the file of a name.
 fn write(
     alloc: Global,
     disk: &mut MemDisk,
@@ -46,19 +45,16 @@ fn write(
     layout: Layout,
     fresh: bool,
     cells: &[Laid],
-) -> Result<Result<(), RingFault>, Fail>
+) -> Result<(), Fail>
     requires { fresh ≡ false
         → OnFile (⟦<MemDisk as Disk>⟧.image disk.old) name.now (IsRingFile layout) }
-    ensures { IfOk result
-        (λ written. OnOk written
-        (OnFile (⟦<MemDisk as Disk>⟧.image disk.new) name.now (IsRingFile layout))) }
+    ensures { OnOk result
+        (fresh ≡ true
+        → OnFile (⟦<MemDisk as Disk>⟧.image disk.new) name.now (IsRingFile layout)) }
 {
     let patch = patch_with(alloc, layout, fresh, cells)?;
-    let view = RingView::new(name, layout);
-    match write_patch(alloc, &view, disk, &patch) {
-        Ok(()) => Ok(Ok(())),
-        Err(fault) => Ok(Err(fault)),
-    }
+    drain_patch(disk, name, patch)?;
+    Ok(())
 }
 
 // The bytes of a file, or none where it is not there.
@@ -84,7 +80,7 @@ fn a_week_of_minutes_is_created(rt: HostRuntime) -> Result<(), Fail> {
         panic!(rt; "the layout is lawful")
     };
     let mut disk = MemDisk::new(rt.alloc(), 120_988);
-    let written = write(
+    write(
         rt.alloc(),
         &mut disk,
         "a",
@@ -92,7 +88,6 @@ fn a_week_of_minutes_is_created(rt: HostRuntime) -> Result<(), Fail> {
         true,
         &[(0, 0, 1_699_999_980, 1500)],
     )?;
-    assert_eq!(rt; written, Ok(()));
     let Some(file) = bytes_of(rt.alloc(), &mut disk, "a")? else {
         panic!(rt; "the file is there")
     };
@@ -125,15 +120,9 @@ fn a_patch_is_laid_over_a_file(rt: HostRuntime) -> Result<(), Fail> {
     };
     let mut disk = MemDisk::new(rt.alloc(), 304);
     let first = [(0, 0, 600, 1), (0, 3, 780, 2), (1, 11, 3300, 3)];
-    assert_eq!(rt;
-        write(rt.alloc(), &mut disk, "a", layout, true, &first)?,
-        Ok(())
-    );
+    write(rt.alloc(), &mut disk, "a", layout, true, &first)?;
     let second = [(0, 3, 1380, -1), (0, 4, 840, 256), (1, 0, 900, 5)];
-    assert_eq!(rt;
-        write(rt.alloc(), &mut disk, "a", layout, false, &second)?,
-        Ok(())
-    );
+    write(rt.alloc(), &mut disk, "a", layout, false, &second)?;
     let Some(file) = bytes_of(rt.alloc(), &mut disk, "a")? else {
         panic!(rt; "the file is there")
     };
@@ -191,7 +180,7 @@ fn a_patch_is_laid_over_a_file(rt: HostRuntime) -> Result<(), Fail> {
     Ok(())
 }
 
-// Each call of the disk fails in turn, and the next patch is written where no other call is done.
+// Each call of the disk fails in turn, and is made again; another file stays as it was.
 #[test]
 fn neighbours_are_written_in_one_piece(rt: HostRuntime) -> Result<(), Fail> {
     let Ok(layout) = Layout::new(&TWO, Method::Last, 0) else {
@@ -228,13 +217,13 @@ fn neighbours_are_written_in_one_piece(rt: HostRuntime) -> Result<(), Fail> {
             let listed = Vec::from_slice(rt.alloc(), &[failing])?;
             let mut disk = MemDisk::new(rt.alloc(), 304).failing(listed);
             disk.put_file("b", Vec::from_slice(rt.alloc(), b"other")?)?;
-            let written = write(rt.alloc(), &mut disk, "a", layout, true, cells)?;
-            let wanted = if failing <= calls {
-                Err(RingFault::DiskFault)
-            } else {
-                Ok(())
-            };
-            assert_eq!(rt; written, wanted, "call {failing} of {calls}");
+            write(rt.alloc(), &mut disk, "a", layout, true, cells)?;
+            let again = u64::from(failing <= calls);
+            assert_eq!(rt;
+                disk.calls().writing().saturating_sub(again),
+                calls,
+                "call {failing} of {calls}"
+            );
             let Some(other) = bytes_of(rt.alloc(), &mut disk, "b")? else {
                 panic!(rt; "the file is there")
             };
@@ -244,23 +233,32 @@ fn neighbours_are_written_in_one_piece(rt: HostRuntime) -> Result<(), Fail> {
     Ok(())
 }
 
-// Writes the runs of a shelf in at most 100 calls, and a run again where it failed.
-fn drain<D: Disk>(disk: &mut D, name: &str, shelf: &mut Shelf)
+// Writes the runs of a shelf, and a run again where it failed. It fails where some are left after 100 calls.
+fn drain<D: Disk>(disk: &mut D, name: &str, shelf: &mut Shelf) -> Result<(), DiskFailed>
     requires { IfSome (D.image disk.old) (λ image. AwaitsNext shelf.old (image name.now)) }
+    ensures { OnOk result
+        (IfSome shelf.old
+        (λ drain. OnFile (D.image disk.new) name.now (IsRingFile drain.patch.layout))) }
 {
     for _ in 0..100 {
         let Some(_run) = shelf.next_run() else {
-            return;
+            return Ok(());
         };
         try_next(disk, name, shelf);
     }
+    Err(DiskFailed)
 }
 
 // Writes the next run, and marks it where it is written.
 fn try_next<D: Disk>(disk: &mut D, name: &str, shelf: &mut Shelf)
     requires some { shelf.old ≢ None }
     requires file { IfSome (D.image disk.old) (λ image. AwaitsNext shelf.old (image name.now)) }
-    ensures { IfSome (D.image disk.new) (λ image. AwaitsNext shelf.new (image name.now)) }
+    ensures next { IfSome (D.image disk.new) (λ image. AwaitsNext shelf.new (image name.now)) }
+    ensures same { IfSome shelf.old
+        (λ drain. IfSome shelf.new (λ later. later.patch ≡ drain.patch)) }
+    ensures last { IfSome shelf.old
+        (λ drain. shelf.new ≡ None
+        → OnFile (D.image disk.new) name.now (IsRingFile drain.patch.layout)) }
 {
     match write_run(disk, name, shelf) {
         Ok(()) => shelf.mark_written(),
@@ -269,12 +267,14 @@ fn try_next<D: Disk>(disk: &mut D, name: &str, shelf: &mut Shelf)
 }
 
 // Writes a patch run by run.
-fn drain_patch<D: Disk>(disk: &mut D, name: &str, patch: Patch)
+fn drain_patch<D: Disk>(disk: &mut D, name: &str, patch: Patch) -> Result<(), DiskFailed>
     requires { patch.fresh ≡ false → OnFile (D.image disk.old) name.now (IsRingFile patch.layout) }
+    ensures { OnOk result
+        (patch.fresh ≡ true → OnFile (D.image disk.new) name.now (IsRingFile patch.layout)) }
 {
     let mut shelf = Shelf::empty();
     shelf.put(patch);
-    drain(disk, name, &mut shelf);
+    drain(disk, name, &mut shelf)
 }
 
 // A disk with the file of these cells, or, where it is to be created, without it.
@@ -291,7 +291,7 @@ fn disk_with(
 {
     let mut disk = MemDisk::new(alloc, 1_000);
     if !fresh {
-        write(alloc, &mut disk, name, layout, true, before)??;
+        write(alloc, &mut disk, name, layout, true, before)?;
     }
     Ok(disk)
 }
@@ -307,11 +307,15 @@ fn failing_once(alloc: Global, disk: MemDisk, call: u64, tears: bool) -> Result<
     Ok(disk)
 }
 
-// Two layouts, whose files are of 148 and of 604 bytes.
+// Two layouts, whose files are of 148 and of 604 bytes, and the heads of their files.
 const ONE: [Archive; 1] = [Archive {
     step: 60,
     points: 10,
 }];
+
+const ONE_HEAD: [u8; 28] = [
+    0, 0, 0, 3, 0, 0, 2, 0x58, 0, 0, 0, 0, 0, 0, 0, 1, 0, 0, 0, 28, 0, 0, 0, 60, 0, 0, 0, 10,
+];
 
 const THREE: [Archive; 3] = [
     Archive {
@@ -328,27 +332,45 @@ const THREE: [Archive; 3] = [
     },
 ];
 
-// A drain: the cells that the file has before, unless it is created, and those that are drained.
+const THREE_HEAD: [u8; 52] = [
+    0, 0, 0, 3, 0, 1, 0x51, 0x80, 0, 0, 0, 0, 0, 0, 0, 3, 0, 0, 0, 52, 0, 0, 0, 60, 0, 0, 0, 10, 0,
+    0, 0, 172, 0, 0, 1, 44, 0, 0, 0, 12, 0, 0, 1, 60, 0, 0, 0x0e, 0x10, 0, 0, 0, 24,
+];
+
+// The bytes of a cell, and where in the file they stand.
+type Placed = (usize, [u8; 12]);
+
+// A drain: the cells that the file has before, unless it is created, those that are drained, and what the file
+// holds in the end, zero but for its head and some cells.
 #[derive(Drop)]
 struct Drained<'a> {
     layout: Layout,
     fresh: bool,
     before: &'a [Laid],
     cells: &'a [Laid],
+    head: &'a [u8],
+    wanted: &'a [Placed],
 }
 
-// The file when the patch is written at once.
-fn at_once(alloc: Global, drained: &Drained<'_>) -> Result<Option<Vec<u8>>, Fail> {
-    let mut disk = disk_with(alloc, "a", drained.layout, drained.fresh, drained.before)?;
-    write(
-        alloc,
-        &mut disk,
-        "a",
-        drained.layout,
-        drained.fresh,
-        drained.cells,
-    )??;
-    bytes_of(alloc, &mut disk, "a")
+// Puts a piece over the bytes of a file from a place on.
+fn put_piece(rt: &impl Abort, file: &mut [u8], at: usize, piece: &[u8]) {
+    assert!(rt; at <= file.len() && piece.len() <= file.len() - at);
+    file[at..at + piece.len()].copy_from_slice(piece);
+}
+
+// The bytes of the file in the end.
+fn bytes_wanted(
+    rt: &impl Abort,
+    alloc: Global,
+    drained: &Drained<'_>,
+) -> Result<Vec<u8>, AllocError> {
+    let length = drained.layout.file_size() as usize;
+    let mut file = vec![in alloc; 0; length]?;
+    put_piece(rt, &mut file, 0, drained.head);
+    for (at, cell) in drained.wanted {
+        put_piece(rt, &mut file, *at, cell);
+    }
+    Ok(file)
 }
 
 // The file when the patch is written run by run, where one call fails, and the calls that wrote.
@@ -362,7 +384,7 @@ fn by_runs(
     let disk = disk_with(alloc, "a", drained.layout, drained.fresh, drained.before)?;
     let mut disk = failing_once(alloc, disk, call, tears)?;
     let others = disk.calls().writing();
-    drain_patch(&mut disk, "a", patch);
+    drain_patch(&mut disk, "a", patch)?;
     let calls = disk.calls().writing().saturating_sub(others);
     Ok((bytes_of(alloc, &mut disk, "a")?, calls))
 }
@@ -373,7 +395,7 @@ fn assert_drained(
     drained: &Drained<'_>,
     runs: u64,
 ) -> Result<(), Fail> {
-    let wanted = at_once(alloc, drained)?;
+    let wanted = Some(bytes_wanted(rt, alloc, drained)?);
     for call in 1..=runs.saturating_add(1) {
         for tears in [false, true] {
             let (held, calls) = by_runs(alloc, drained, call, tears)?;
@@ -382,38 +404,85 @@ fn assert_drained(
                 calls.saturating_sub(again) == runs,
                 "call {call} of {runs}"
             );
-            assert!(rt; held.is_some() && held == wanted, "call {call} of {runs}");
+            assert!(rt; held == wanted, "call {call} of {runs}");
         }
     }
     Ok(())
 }
 
+// The cells of a file that is there before it is drained to.
+const BEFORE: [Laid; 2] = [(0, 0, 600, 1), (0, 3, 780, 2)];
+
+// Two neighbouring slots of the only archive.
+const PAIR: [Laid; 2] = [(0, 4, 840, 1), (0, 5, 900, 2)];
+
+// Its first and its last slot.
+const ENDS: [Laid; 2] = [(0, 0, 600, 1), (0, 9, 1140, 2)];
+
+// Slots 3 and 4 of the first archive, the last slot of the second and the first of the third.
+const FOUR: [Laid; 4] = [
+    (0, 3, 1380, -1),
+    (0, 4, 840, 256),
+    (1, 11, 3600, 5),
+    (2, 0, 3600, 6),
+];
+
+// What files hold in the end: a new one with each of these, or one that was there, which has its own cells too.
+const NEW_PAIR: [Placed; 2] = [
+    (76, [0, 0, 3, 0x48, 0, 0, 0, 0, 0, 0, 0, 1]),
+    (88, [0, 0, 3, 0x84, 0, 0, 0, 0, 0, 0, 0, 2]),
+];
+
+const OVER_PAIR: [Placed; 4] = [
+    (28, [0, 0, 2, 0x58, 0, 0, 0, 0, 0, 0, 0, 1]),
+    (64, [0, 0, 3, 0x0c, 0, 0, 0, 0, 0, 0, 0, 2]),
+    (76, [0, 0, 3, 0x48, 0, 0, 0, 0, 0, 0, 0, 1]),
+    (88, [0, 0, 3, 0x84, 0, 0, 0, 0, 0, 0, 0, 2]),
+];
+
+const OVER_ENDS: [Placed; 3] = [
+    (28, [0, 0, 2, 0x58, 0, 0, 0, 0, 0, 0, 0, 1]),
+    (64, [0, 0, 3, 0x0c, 0, 0, 0, 0, 0, 0, 0, 2]),
+    (136, [0, 0, 4, 0x74, 0, 0, 0, 0, 0, 0, 0, 2]),
+];
+
+const NEW_FOUR: [Placed; 4] = [
+    (88, [0, 0, 5, 0x64, 255, 255, 255, 255, 255, 255, 255, 255]),
+    (100, [0, 0, 3, 0x48, 0, 0, 0, 0, 0, 0, 1, 0]),
+    (304, [0, 0, 0x0e, 0x10, 0, 0, 0, 0, 0, 0, 0, 5]),
+    (316, [0, 0, 0x0e, 0x10, 0, 0, 0, 0, 0, 0, 0, 6]),
+];
+
+const OVER_FOUR: [Placed; 5] = [
+    (52, [0, 0, 2, 0x58, 0, 0, 0, 0, 0, 0, 0, 1]),
+    (88, [0, 0, 5, 0x64, 255, 255, 255, 255, 255, 255, 255, 255]),
+    (100, [0, 0, 3, 0x48, 0, 0, 0, 0, 0, 0, 1, 0]),
+    (304, [0, 0, 0x0e, 0x10, 0, 0, 0, 0, 0, 0, 0, 5]),
+    (316, [0, 0, 0x0e, 0x10, 0, 0, 0, 0, 0, 0, 0, 6]),
+];
+
 // Each run fails once, whole or torn, and is written again.
 #[test]
 fn a_patch_is_written_run_by_run(rt: HostRuntime) -> Result<(), Fail> {
-    let three = [
-        (0, 3, 1380, -1),
-        (0, 4, 840, 256),
-        (1, 11, 3600, 5),
-        (2, 0, 3600, 6),
+    let table: [(&[Archive], &[u8], bool, &[Laid], &[Placed], u64); 6] = [
+        (&ONE, &ONE_HEAD, true, &[], &[], 2),
+        (&ONE, &ONE_HEAD, true, &PAIR, &NEW_PAIR, 3),
+        (&ONE, &ONE_HEAD, false, &PAIR, &OVER_PAIR, 1),
+        (&ONE, &ONE_HEAD, false, &ENDS, &OVER_ENDS, 2),
+        (&THREE, &THREE_HEAD, true, &FOUR, &NEW_FOUR, 5),
+        (&THREE, &THREE_HEAD, false, &FOUR, &OVER_FOUR, 3),
     ];
-    let table: [(&[Archive], bool, &[Laid], u64); 6] = [
-        (&ONE, true, &[], 2),
-        (&ONE, true, &[(0, 4, 840, 1), (0, 5, 900, 2)], 3),
-        (&ONE, false, &[(0, 4, 840, 1), (0, 5, 900, 2)], 1),
-        (&ONE, false, &[(0, 0, 600, 1), (0, 9, 1140, 2)], 2),
-        (&THREE, true, &three, 5),
-        (&THREE, false, &three, 3),
-    ];
-    for (archives, fresh, cells, runs) in table {
+    for (archives, head, fresh, cells, wanted, runs) in table {
         let Ok(layout) = Layout::new(archives, Method::Last, 0) else {
             panic!(rt; "the layout is lawful")
         };
         let drained = Drained {
             layout,
             fresh,
-            before: &[(0, 0, 600, 1), (0, 3, 780, 2)],
+            before: &BEFORE,
             cells,
+            head,
+            wanted,
         };
         assert_drained(&rt, rt.alloc(), &drained, runs)?;
     }

@@ -10,6 +10,7 @@ pub mod TableLemmas
 pub mod BeginLemmas
 pub mod PutLemmas
 pub mod LookLemmas
+pub mod CountLemmas
 pub mod ReadLemmas
 pub mod PickLemmas
 pub mod KeptLemmas

@@ -1,18 +1,23 @@
 -- What a look tells of the metrics of a class, and what is read of one of them.
-use Rattle.std.specs.Prelude.{◌≡◌, ◌≢◌, ℕ, true, All, List, [], ◌∷◌, map, Option}
+use Rattle.std.specs.Prelude.{◌≡◌, ◌≢◌, ℕ, ◌-◌, ◌/◌, true, All, List, [], ◌∷◌, length, map, slice_get, Option}
+use Rattle.std.specs.List.{sum_by}
+use Rattle.std.specs.Option.{option_map_or}
 use Rattle.outside_io.specs.Image.{Image}
 use Rattle.metric_path.specs.Class.{class_of}
 use Rattle.fixed_num.specs.Moment.{is_moment}
+use Rattle.ring_format.specs.Layout.{LayoutValue}
 use Rattle.point_cache.specs.Points.{IsRising}
 use Rattle.series_fetch.specs.Window.{IsWindow, window}
 use Rattle.series_fetch.specs.declared.range.Window.TheVariants.{Empty, Range}
 use Rattle.series_fetch.specs.declared.range.Window.{Window}
+use Rattle.metric_table.specs.declared.found_metric.FoundMetric.{FoundMetric}
 use Rattle.metric_table.specs.declared.known.Known.{Known}
 use Rattle.point_cache.specs.Pending.{Metrics, points_of}
 use Rattle.carbon_model.specs.State.{State, layout_of, points_in}
 use Rattle.carbon_model.specs.Found.{Finds}
 use Rattle.carbon_model.specs.RingFiles.{IsOfClass}
 use Rattle.shard_core.specs.Shard.{Holds, Inside, KnowsAs}
+use Rattle.shard_core.specs.declared.looked.LookCount.{LookCount}
 use Rattle.shard_core.specs.declared.looked.Looked.{Looked}
 
 -- the paths, in order
@@ -77,3 +82,41 @@ pub record MayRead (shard : Inside) (looked : Looked) : Type 0 where
 -- the paths of the metrics of a class that are pending or kept, in byte order
 abbrev pub NamesOf : Inside → List (List ℕ) → Type 0
 NamesOf shard names = (told : Option Image) (s : State) → Holds told shard s → Finds s (IsOfClass shard.class) names
+
+-- ---- how much a look finds
+
+-- how many buckets a window has
+abbrev pub bucket_count : LayoutValue → Window → ℕ
+bucket_count layout Empty = 0
+bucket_count layout (Range i first end) =
+    option_map_or (λ archive. (end - first) / archive.step) (slice_get layout.archives i) 0
+
+-- the same of the window of a look
+abbrev pub buckets_of : Looked → ℕ
+buckets_of looked = bucket_count looked.layout looked.window
+
+-- so many metrics are looked at, and their windows have so many buckets in all
+pub record CountsLooks (shard : Inside) (fits : List ℕ → Type 0) (now from until : ℕ)
+    (count : LookCount) : Type 0 where
+  pub looked : List Looked
+  pub looks : LooksAt shard fits now from until looked
+  pub series : count.series ≡ length looked
+  pub values : count.values ≡ sum_by buckets_of looked
+
+-- one metric where the question has buckets of it, and none where it has not
+abbrev pub series_of : Window → ℕ
+series_of Empty = 0
+series_of (Range i first end) = 1
+
+-- the same of a metric that was found, and its buckets
+abbrev pub series_at : ℕ → ℕ → ℕ → FoundMetric → ℕ
+series_at now from until metric = series_of (window metric.layout.now now from until)
+
+abbrev pub buckets_at : ℕ → ℕ → ℕ → FoundMetric → ℕ
+buckets_at now from until metric =
+    bucket_count metric.layout.now (window metric.layout.now now from until)
+
+-- the count of these metrics
+pub record CountsFound (now from until : ℕ) (found : List FoundMetric) (count : LookCount) : Type 0 where
+  pub series : count.series ≡ sum_by (series_at now from until) found
+  pub values : count.values ≡ sum_by (buckets_at now from until) found

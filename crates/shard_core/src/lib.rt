@@ -4,6 +4,7 @@
 
 mod fault;
 mod laws;
+mod look_count;
 mod looked;
 mod looking;
 mod planned;
@@ -19,7 +20,7 @@ pub use laws::{
     a_shard_replays_its_answers, a_started_shard_stands_for_an_opening,
     what_was_looked_at_may_be_read_later,
 };
-pub use looked::{LookFault, Looked};
+pub use looked::{LookCount, LookFault, Looked};
 pub use planned::{Planned, Wrote};
 pub use shard::Shard;
 

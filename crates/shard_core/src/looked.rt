@@ -20,6 +20,15 @@ pub struct Looked {
     pub drains: u64,
 }
 
+/// How much a look finds.
+#[derive(Clone, Copy, Debug, PartialEq, Eq)]
+pub struct LookCount {
+    /// How many metrics.
+    pub series: u64,
+    /// How many values their windows have in all.
+    pub values: u64,
+}
+
 /// Why a metric could not be read.
 #[derive(Clone, Copy, Debug, PartialEq, Eq, Error)]
 pub enum LookFault {

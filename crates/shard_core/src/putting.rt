@@ -14,7 +14,7 @@ use schema_rules::Rules;
 use std::alloc::{AllocError, Global};
 
 impl<D: Disk> Shard<D> {
-    ghost use Rattle.std.specs.Prelude.{◌≡◌, None, IsSome};
+    ghost use Rattle.std.specs.Prelude.{◌≡◌, None, IsSome, is_some};
     ghost use Rattle.metric_path.specs.Class.{class_of};
     ghost use Rattle.metric_index.specs.Index.{entry_of};
     ghost use Rattle.point_cache.specs.Pending.{HasRoom};
@@ -34,13 +34,20 @@ impl<D: Disk> Shard<D> {
     {
         // No more points are pending than may be.
         let _ = self.cache.count();
-        if self.cache.is_full() {
+        if self.cache.is_full() || self.is_known(&datum.path) {
             return self.put_listed(datum);
         }
-        match self.table.get(&datum.path) {
-            Some(_) => self.put_listed(datum),
-            None => self.put_first(datum),
+        self.put_first(datum)
+    }
+
+    // Whether a metric is known. One with pending points is, and is found sooner among them.
+    fn is_known(&self, path: &MetricPath) -> bool
+        ensures { result ≡ is_some (entry_of self.now.table path.now) }
+    {
+        if !self.cache.points_of(path).is_empty() {
+            return true;
         }
+        self.table.get(path).is_some()
     }
 
     // Puts a point of a metric that is known, or that finds no room.

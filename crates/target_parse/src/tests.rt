@@ -253,6 +253,79 @@ fn long_texts_are_read_or_told(rt: HostRuntime) -> Result<(), Fail> {
     Ok(())
 }
 
+// A text, some of another as often as it is said, and a last one.
+fn repeated(
+    alloc: Global,
+    first: &str,
+    piece: &str,
+    count: usize,
+    last: &str,
+) -> Result<String, AllocError> {
+    let mut text = String::from_str(alloc, first)?;
+    for _ in 0..count {
+        text.push_str(piece)?;
+    }
+    text.push_str(last)?;
+    Ok(text)
+}
+
+#[test]
+fn a_long_row_of_openings_is_told_at_once(rt: HostRuntime) -> Result<(), Fail> {
+    let cases = [
+        ("{", 16_384, TargetFault::At(0)),
+        ("(", 16_384, TargetFault::At(0)),
+        ("[", 16_384, TargetFault::At(0)),
+        ("{a,", 5_461, TargetFault::At(0)),
+        ("{", 4_096, TargetFault::At(1)),
+        ("[a-", 1_365, TargetFault::At(3)),
+        ("a,", 8_192, TargetFault::At(1)),
+        ("f('", 5_461, TargetFault::At(6)),
+        ("f(", 8_192, TargetFault::TooDeep),
+        ("f(a,", 4_096, TargetFault::TooDeep),
+    ];
+    for (piece, count, want) in cases {
+        let text = repeated(rt.alloc(), "", piece, count, "")?;
+        let told = sketch_of(rt.alloc(), text.as_bytes()).err();
+        assert!(rt; told == Some(want), "{piece} {count}: {told:?}");
+    }
+    Ok(())
+}
+
+// Calls nested 32 deep: 31 have one text as their first argument and the next call as their second, and the last
+// call has another text.
+fn nested(alloc: Global, first: &str, last: &str) -> Result<String, AllocError> {
+    let mut text = String::new(alloc);
+    for _ in 0..31 {
+        text.push_str("f(")?;
+        text.push_str(first)?;
+        text.push_str(",")?;
+    }
+    text.push_str("f(")?;
+    text.push_str(last)?;
+    text.push_str("))))))))))))))))))))))))))))))))")?;
+    Ok(text)
+}
+
+// A long target of 32 calls is read, and has the same text, since it has no blanks.
+fn assert_nested(rt: &impl Abort, alloc: Global, first: &str, last: &str) -> Result<(), Fail> {
+    let text = nested(alloc, first, last)?;
+    assert!(rt; text.len() > 16_000 && text.len() <= 16_384, "{first}");
+    assert_text(rt, alloc, text.as_str(), text.as_str())
+}
+
+#[test]
+fn a_wide_and_deep_target_is_read_at_once(rt: HostRuntime) -> Result<(), Fail> {
+    let alloc = rt.alloc();
+    let values = repeated(alloc, "{", "a,", 249, "a}")?;
+    assert_nested(&rt, alloc, values.as_str(), values.as_str())?;
+    let braces = repeated(alloc, "", "{a,b}", 100, "c")?;
+    assert_nested(&rt, alloc, braces.as_str(), braces.as_str())?;
+    let nodes = repeated(alloc, "", "[a-b].", 83, "?*a")?;
+    assert_nested(&rt, alloc, nodes.as_str(), nodes.as_str())?;
+    let row = repeated(alloc, "", "a,", 7_950, "a")?;
+    assert_nested(&rt, alloc, "a", row.as_str())
+}
+
 #[test]
 fn texts_have_no_blanks_outside_quotes(rt: HostRuntime) -> Result<(), Fail> {
     let cases = [

@@ -1,6 +1,6 @@
 use Rattle.std.proofs.Common.{inl, inr, subst}
 use Rattle.std.proofs.lemmas.Result.{on_err_weaker, on_ok_weaker}
-use Rattle.write_shelf.specs.declared.run.Run.TheVariants.{Create, Cells, Head}
+use Rattle.write_shelf.specs.declared.run.Run.TheVariants.{Create}
 use Rattle.ring_writer.proofs.NextLemmas.{IsNoCreation, TellsNext, next_created, next_failed, next_written, on_err_then}
 use Rattle.ring_writer.proofs.run_writing.write_run.Goals as goal
 

@@ -1,0 +1,51 @@
+-- What is counted is what a look finds.
+use Rattle.std.proofs.Common.{◌≡◌, ◌∙◌, arith, ℕ, ◌+◌, All, List, [], ◌∷◌, length, map, None, refl, sym, ap}
+use Rattle.std.specs.List.{sum_by}
+use Rattle.std.proofs.lemmas.List.Sums.{sum_by-cons}
+use Rattle.metric_path.specs.Path.{path_fault}
+use Rattle.metric_index.specs.Found.{Finds as FindsEntries}
+use Rattle.metric_index.specs.Index.{paths_of}
+use Rattle.metric_table.specs.Table.{seen}
+use Rattle.metric_table.specs.declared.found_metric.FoundMetric.{FoundMetric}
+use Rattle.metric_table.specs.declared.known.Known.{Known}
+use Rattle.point_cache.specs.Pending.{Metrics}
+use Rattle.series_fetch.specs.Window.{window}
+use Rattle.series_fetch.specs.declared.range.Window.{Window}
+use Rattle.series_fetch.specs.declared.range.Window.TheVariants.{Empty, Range}
+use Rattle.shard_core.specs.Looks.{CountsFound, CountsLooks, bucket_count, buckets_at, buckets_of, looked_as, looked_if, looked_in, series_at, series_of}
+use Rattle.shard_core.specs.Shard.{Inside}
+use Rattle.shard_core.specs.Table.{Lists}
+use Rattle.shard_core.specs.declared.looked.LookCount.{LookCount}
+use Rattle.shard_core.specs.declared.looked.Looked.{Looked}
+use Rattle.shard_core.proofs.LookLemmas.{looks}
+
+length_by : (w : Window) (metrics : Metrics) (m : List ℕ × Known) (looked : List Looked) → length (looked_if metrics w m looked) ≡ series_of w + length looked
+length_by Empty metrics m looked = omega arith
+length_by (Range i first end) metrics m looked = omega arith
+
+length_looked : (metrics : Metrics) (now from until : ℕ) (found : List FoundMetric) → length (looked_in metrics now from until (map seen found)) ≡ sum_by (series_at now from until) found
+length_looked metrics now from until [] = refl
+length_looked metrics now from until (m ∷ found) =
+    length_by (window m.layout.now now from until) metrics (seen m) (looked_in metrics now from until (map seen found))
+    ∙ ap (λ (n : ℕ). series_at now from until m + n) (length_looked metrics now from until found)
+    ∙ sym (sum_by-cons (series_at now from until) m found)
+
+buckets_by : (w : Window) (metrics : Metrics) (m : List ℕ × Known) (looked : List Looked) → sum_by buckets_of (looked_if metrics w m looked) ≡ bucket_count m.1.layout w + sum_by buckets_of looked
+buckets_by Empty metrics m looked = omega arith
+buckets_by (Range i first end) metrics m looked = sum_by-cons buckets_of (looked_as metrics (Range i first end) m) looked
+
+buckets_looked : (metrics : Metrics) (now from until : ℕ) (found : List FoundMetric) → sum_by buckets_of (looked_in metrics now from until (map seen found)) ≡ sum_by (buckets_at now from until) found
+buckets_looked metrics now from until [] = refl
+buckets_looked metrics now from until (m ∷ found) =
+    buckets_by (window m.layout.now now from until) metrics (seen m) (looked_in metrics now from until (map seen found))
+    ∙ ap (λ (n : ℕ). buckets_at now from until m + n) (buckets_looked metrics now from until found)
+    ∙ sym (sum_by-cons (buckets_at now from until) m found)
+
+pub counts_looks : (shard : Inside) (fits : List ℕ → Type 0) (now from until : ℕ) (found : List FoundMetric) (count : LookCount) → All (λ p. path_fault p ≡ None) (paths_of shard.table)
+    → Lists shard.class shard.rules shard.cache.metrics shard.table → FindsEntries shard.table fits (map seen found) → CountsFound now from until found count → CountsLooks shard fits now from until count
+counts_looks shard fits now from until found count legal lists finds counts = record {
+  looked = looked_in shard.cache.metrics now from until (map seen found);
+  looks = looks shard fits now from until (map seen found) (looked_in shard.cache.metrics now from until (map seen found)) legal lists finds refl;
+  series = counts.series ∙ sym (length_looked shard.cache.metrics now from until found);
+  values = counts.values ∙ sym (buckets_looked shard.cache.metrics now from until found);
+}

@@ -1,0 +1,79 @@
+//! How much a look finds.
+ghost use Rattle.std.specs.Prelude.{◌≡◌, ◌+◌, ◌≤◌, IfSome};
+ghost use Rattle.series_fetch.specs.Window.{IsWindow};
+ghost use Rattle.shard_core.specs.Looks.{CountsFound, bucket_count, series_of};
+
+use crate::looked::LookCount;
+use crate::shard::Shard;
+use metric_table::FoundMetric;
+use outside_io::Disk;
+use path_glob::Glob;
+use ring_format::Layout;
+use series_fetch::{Window, window_of};
+use std::alloc::AllocError;
+
+impl<D: Disk> Shard<D> {
+    ghost use Rattle.std.specs.Prelude.{◌≤◌, IfOk};
+    ghost use Rattle.metric_index.specs.Found.{IsFitted};
+    ghost use Rattle.shard_core.specs.Looks.{CountsLooks};
+    ghost use Rattle.shard_core.specs.View.{inside_of};
+
+    /// How many metrics, and how many values of them, [`Shard::look`] would find of the same
+    /// question. No path and no point is copied. A count above 2^64 - 1 is answered as want of
+    /// memory.
+    pub fn count_looks(
+        &self,
+        glob: &Glob,
+        from: u64,
+        until: u64,
+        now: u64,
+    ) -> Result<LookCount, AllocError>
+        requires order { from ≤ until }
+        requires now { now ≤ 4_000_000_000 }
+        ensures { IfOk result
+            (CountsLooks (inside_of self.now) (IsFitted glob.now) now from until) }
+    {
+        // Each path is legal, and they rise.
+        let _ = self.table.len();
+        let found = self.table.find(self.alloc, glob)?;
+        match count_found(&found, from, until, now) {
+            Some(count) => Ok(count),
+            None => Err(AllocError),
+        }
+    }
+}
+
+// The count of metrics that were found: none where it is above 2^64 - 1.
+fn count_found(found: &[FoundMetric<'_>], from: u64, until: u64, now: u64) -> Option<LookCount>
+    requires order { from ≤ until }
+    requires now { now ≤ 4_000_000_000 }
+    ensures { IfSome result (CountsFound now from until found.now) }
+{
+    let mut count = LookCount {
+        series: 0,
+        values: 0,
+    };
+    for metric in found {
+        let window = window_of(metric.layout, now, from, until);
+        count = with_window(count, metric.layout, window)?;
+    }
+    Some(count)
+}
+
+// The count with a metric of this window besides.
+fn with_window(count: LookCount, layout: &Layout, window: Window) -> Option<LookCount>
+    requires { IsWindow layout.now window }
+    ensures { IfSome result (λ more. (more.series ≡ count.series + series_of window)
+        × (more.values ≡ count.values + bucket_count layout.now window)) }
+{
+    match window {
+        Window::Empty => Some(count),
+        Window::Range(i, first, end) => {
+            let buckets = (end - first) / u64::from(layout.archive(i).step);
+            Some(LookCount {
+                series: count.series.checked_add(1)?,
+                values: count.values.checked_add(buckets)?,
+            })
+        }
+    }
+}
