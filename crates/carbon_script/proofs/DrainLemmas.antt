@@ -9,8 +9,8 @@ use Rattle.carbon_model.specs.State.{State}
 use Rattle.carbon_model.specs.Replay.{DrainsAll, DrainsClasses, DrainsSome, DrainsUpTo, IsDrainOf, after, replay}
 use Rattle.carbon_model.proofs.HistoryLemmas.{replay-append}
 use Rattle.shared_history.specs.Parts.{PassValue, own_entries}
-use Rattle.shared_store.specs.Drains.{DrainsPartly, DrainsTo, DrainsToFault, DrainsWhole, HasPlanned}
-use Rattle.shared_store.specs.Passes.{IsUnderWay, LooksOn, planned_in, settled_in}
+use Rattle.shared_store.specs.Drains.{DrainsPartly, DrainsTo, DrainsToFault, DrainsWhole, EndsUnwritten, FailedRun, HasPlanned, IsOwed}
+use Rattle.shared_store.specs.Passes.{LooksOn, planned_in, settled_in}
 use Rattle.shared_store.specs.Steps.{FailedPlan}
 use Rattle.shared_store.specs.declared.drain_end.DrainEnd.{DrainEnd}
 use Rattle.shared_store.specs.declared.drain_end.DrainEnd.TheVariants as drain
@@ -58,6 +58,9 @@ none_up_to s class now k made drains late =
 more_than : (planned all settled : ℕ) → planned ≡ all → planned ≡ settled + 1 → settled < all
 more_than planned all settled are under = omega (arith, are, under)
 
+no_more : (settled all seen : ℕ) → all ≤ settled → settled < seen → seen ≡ all → ⊥
+no_more settled all seen few more are = omega (arith, few, more, are)
+
 -- ---- what the machine does
 
 module _ (start : State) (passes : ℕ) (alone : passes ≡ 1) (old new : SessionValue) (m : Machine) (means : Means start old m) (on : LooksOn old.pass new.pass) where
@@ -88,7 +91,7 @@ module _ (start : State) (passes : ℕ) (alone : passes ≡ 1) (old new : Sessio
 
   -- in a plan or in a run
   fails_in : (class : ℕ) (made : List Entry) → Adds start (made ++ fault_entry class ∷ []) old.pass new.pass → HasPlanned class new.pass
-      → FailedPlan start class new.pass ⊎ IsUnderWay class new.pass → FailsIn m class made (debts new.pass class)
+      → FailedPlan start class new.pass ⊎ FailedRun start class made old.pass new.pass → FailsIn m class made (debts new.pass class)
   fails_in class made adds planned (inl failed) =
       let front : failed.before ≡ old.pass.seen ++ made =
       front_is failed.before (old.pass.seen ++ made) (entry.Fault new.pass.number class) (fault_entry class)
@@ -99,25 +102,19 @@ module _ (start : State) (passes : ℕ) (alone : passes ≡ 1) (old new : Sessio
       subst (FailsIn m class made)
       (sym (no_debt new.pass class (at_most (planned_in class new.pass) (drains (about_class class new.pass.seen)) (settled_in class new.pass) planned failed.settled)))
       (λ none. failed.some (sym (ap (λ (s : State). s.pending class) there) ∙ none))
-  fails_in class made adds planned (inr under) =
+  fails_in class made adds planned (inr run) =
       subst (FailsIn m class made)
-      (sym (is_debt new.pass class (more_than (planned_in class new.pass) (drains (about_class class new.pass.seen)) (settled_in class new.pass) planned under)))
-      (by (m.owes class) refl)
+      (sym (is_debt new.pass class (more_than (planned_in class new.pass) (drains (about_class class new.pass.seen)) (settled_in class new.pass) planned run.under)))
+      (elim (run.whose (adds.seen ∙ (λ i. old.pass.seen ++ (made ++ entry.Fault (sym means.number i) class ∷ [])))) [
+        | inl owed ↦ inl (by (m.owes class) refl owed.0, owed.1)
+        | inr ends ↦ inr (subst (λ (s : State). EndsUnwritten s class made) (ap (replay start) means.seen ∙ sym means.state) ends)
+      ])
     where
-      by : (b : Bool) → m.owes class ≡ b → (m.owes class ≡ true) ⊎ (0 < drains (about_class class made))
-      by true is = inl is
-      by false is = inr (omega (
-        arith,
-        planned,
-        under,
-        means.settled class is,
-        adds.settled class,
-        ap (λ (es : List Entry). drains (about_class class es)) means.seen,
-        ap (λ (es : List Entry). drains (about_class class es)) adds.seen,
-        drains_both class old.pass.seen (made ++ fault_entry class ∷ []),
-        drains_both class made (fault_entry class ∷ []),
-        none_fault class class,
-      ))
+      by : (b : Bool) → m.owes class ≡ b → IsOwed class old.pass → m.owes class ≡ true
+      by true is owed = is
+      by false is owed =
+          absurd (no_more (settled_in class old.pass) (drains (about_class class m.entries)) (drains (about_class class old.pass.seen)) (means.settled class is) owed
+          (ap (λ (es : List Entry). drains (about_class class es)) means.seen))
 
   drains_fault : (class : ℕ) → DrainsToFault start passes old.clock class old.pass new.pass
       → (made : List Entry) × (Adds start made old.pass new.pass × DrainsFault m class (known_with m made new.pass))

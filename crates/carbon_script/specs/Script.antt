@@ -20,6 +20,7 @@ use Rattle.render_answer.specs.declared.answer.Answer.{Answer}
 use Rattle.render_answer.specs.declared.refusal.Refusal.TheVariants as refusal
 use Rattle.shared_history.specs.Parts.{greatest_ask}
 use Rattle.shared_store.specs.Asks.{tries_of}
+use Rattle.shared_store.specs.Drains.{EndsUnwritten}
 use Rattle.shared_store.specs.Steps.{NeedsNoWrite}
 use Rattle.carbon_script.specs.Command.{Command, Metric, Refused, Long, Clock, Ask, Plan, Write, DrainAll, Bad, command_of}
 use Rattle.carbon_script.specs.Counts.{no_counts, counted, refused, overlong}
@@ -165,10 +166,10 @@ pub record DrainsOut (m : Machine) (count : ℕ) (next : Machine) : Type 0 where
   pub becomes : next ≡ record (with_entries m made) { owes = next.owes }
 
 -- The disk of a class failed after these drains: in a plan, and then something of the class was pending and it owes nothing; or in a run, and then it
--- owes, from before or by one of them.
+-- owes: from before, where none of them is of the class, or by the last of them, which is of the class and had something to write.
 abbrev pub FailsIn : Machine → ℕ → List Entry → Bool → Type 0
 FailsIn m class made false = (replay m.state made).pending class ≢ []
-FailsIn m class made true = (m.owes class ≡ true) ⊎ (0 < drains (about_class class made))
+FailsIn m class made true = ((m.owes class ≡ true) × (about_class class made ≡ [])) ⊎ EndsUnwritten m.state class made
 
 -- It stops at a class whose disk fails; those before it owe nothing.
 pub record DrainsFault (m : Machine) (class : ℕ) (next : Machine) : Type 0 where

@@ -1,47 +1,30 @@
 -- What comes of one request.
-use Rattle.std.proofs.Common.{◌≡◌, ◌≤◌, ◌<◌, ◌+◌, ◌^◌, inl, inr, ℕ, true, List, [], length, Option, Result, Ok, Err, IfOk, OnErr, refl, sym, subst, append-nil, arith}
+use Rattle.std.proofs.Common.{◌≡◌, ◌≤◌, inl, inr, ℕ, true, List, [], Option, Result, Ok, Err, IfOk, OnErr, append-nil, arith}
 use Rattle.std.proofs.lemmas.Bool.Decides.{nat_tests}
 use Rattle.fixed_num.specs.Moment.{is_moment}
 use Rattle.outside_io.specs.Image.{Image}
-use Rattle.carbon_history.specs.declared.entry.Entry.{Entry}
 use Rattle.carbon_model.specs.State.{State}
-use Rattle.shared_history.specs.Parts.{PassValue, own_entries}
+use Rattle.shared_history.specs.Parts.{PassValue}
 use Rattle.shared_store.specs.Asks.{Asks, AsksPart, AsksPartly, AsksTo}
-use Rattle.shared_store.specs.Passes.{Enters, HasRoom}
 use Rattle.shared_store.specs.declared.ask_fault.AskFault.{AskFault}
 use Rattle.shared_store.specs.declared.ask_fault.AskFault.TheVariants as ask
 use Rattle.render_plan.specs.Needed.{needs_of}
-use Rattle.render_plan.specs.Planned.{Plan, read_plan}
+use Rattle.render_plan.specs.Planned.{Plan}
 use Rattle.render_plan.specs.Values.{Rows}
-use Rattle.render_plan.specs.declared.fault.QueryFault.{QueryFault}
 use Rattle.render_plan.specs.declared.need.Need.{Need}
 use Rattle.render_answer.specs.Answer.{AnswersPlan, AnswersRows}
 use Rattle.render_answer.specs.Rows.{HasRows}
 use Rattle.render_answer.specs.declared.answer.Answer.{Answer as QueryAnswer}
 use Rattle.render_answer.specs.declared.answer.Answer.TheVariants.{Body, Refused}
 use Rattle.render_answer.specs.declared.refusal.Refusal.TheVariants.{Query, TooManySeries, TooManyPoints, StepTooWide, GridTooLong}
-use Rattle.http_wire.specs.Requests.{Asked}
-use Rattle.http_wire.specs.Routes.{route}
-use Rattle.http_wire.specs.declared.refusal.Refusal.{Refusal}
-use Rattle.http_wire.specs.declared.routing.Endpoint.{Endpoint}
-use Rattle.http_wire.specs.declared.routing.Endpoint.TheVariants.{Render, Find, Expand, Index}
 use Rattle.http_front.specs.Found.{IsFound, IsNoFault}
-use Rattle.http_front.specs.Origin.{IsSpent, Origin, SamePass}
-use Rattle.http_front.specs.Outcomes.{outcome_of}
-use Rattle.http_front.specs.Requests.{ComesOf, ComesOfPlan, ComesOfQuery, ComesOfRead, ComesOfRoute, ShortOf, ShortOfPlan, ShortOfQuery, ShortOfRoute}
+use Rattle.http_front.specs.Origin.{Origin, SamePass}
+use Rattle.http_front.specs.Requests.{ComesOfPlan, ShortOfPlan}
 use Rattle.http_front.specs.declared.outcome.Outcome.{Outcome}
 
 -- a moment is less than 2^32
 pub moment_fits : (now : ℕ) → is_moment now ≡ true → now ≤ 4000000000
 moment_fits now moment = grind (arith, nat_tests)
-
--- the pass has room for the entries of a request
-pub has_room : (left : ℕ) (pass : PassValue) → left + length (own_entries pass) ≡ 2 ^ 48 → 4 ≤ left → HasRoom pass
-has_room left pass all enough = omega (arith, all, enough)
-
--- or has not
-pub has_none : (left : ℕ) (pass : PassValue) → left + length (own_entries pass) ≡ 2 ^ 48 → left < 4 → IsSpent pass
-has_none left pass all few = omega (arith, all, few)
 
 -- what follows from a result that is passed on
 pub ok_so : {T E : Type 0} (r : Result T E) (first second : T → Type 0) → ((x : T) → first x → second x) → IfOk r first → IfOk r second
@@ -118,37 +101,3 @@ same_pass start told passes now needs (Err (ask.TooManySeries count)) old new as
 same_pass start told passes now needs (Err (ask.TooManyPoints count)) old new asks = record { table = asks.enters.table; number = asks.enters.number }
 same_pass start told passes now needs (Err (ask.DiskFault class)) old new asks = record { table = asks.enters.table; number = asks.enters.number }
 same_pass start told passes now needs (Err ask.NoMemory) old new asks = part_same start passes now needs old new asks
-
--- ---- a query
-
--- a query was read and asked
-pub comes_of_query : (w : Origin) (query form : List ℕ) (now : ℕ) (plan : Plan) (outcome : Outcome) (old new : PassValue) → w.moments now → read_plan query form now ≡ Ok plan → ComesOfPlan w now plan outcome old new
-    → ComesOfQuery w query form outcome old new
-comes_of_query w query form now plan outcome old new told read comes = record {
-  now = now;
-  told = told;
-  comes = subst (λ (r : Result Plan QueryFault). ComesOfRead w now r outcome old new) (sym read) comes;
-}
-
--- it was refused
-pub comes_refused : (w : Origin) (query form : List ℕ) (now : ℕ) (fault : QueryFault) (outcome : Outcome) (pass : PassValue) → w.moments now → read_plan query form now ≡ Err fault
-    → outcome ≡ outcome_of (Refused (Query fault)) → ComesOfQuery w query form outcome pass pass
-comes_refused w query form now fault outcome pass told read is = record {
-  now = now;
-  told = told;
-  comes = subst (λ (r : Result Plan QueryFault). ComesOfRead w now r outcome pass pass) (sym read) (is, refl);
-}
-
--- it was read, and given up
-pub gives_up : (w : Origin) (query form : List ℕ) (now : ℕ) (plan : Plan) (old new : PassValue) → w.moments now → read_plan query form now ≡ Ok plan → ShortOfPlan w now plan old new
-    → ShortOfQuery w query form old new
-gives_up w query form now plan old new told read asks = inr (record { now = now; told = told; plan = plan; read = read; asks = asks })
-
--- ---- a request
-
-pub comes_of : (w : Origin) (asked : Asked) (goes : Result Endpoint Refusal) (outcome : Outcome) (old new : PassValue) → goes ≡ route asked.method asked.target → ComesOfRoute w asked goes outcome old new
-    → ComesOf w asked outcome old new
-comes_of w asked goes outcome old new is comes = subst (λ (r : Result Endpoint Refusal). ComesOfRoute w asked r outcome old new) is comes
-
-pub short_of : (w : Origin) (asked : Asked) (goes : Result Endpoint Refusal) (old new : PassValue) → goes ≡ route asked.method asked.target → ShortOfRoute w asked goes old new → ShortOf w asked old new
-short_of w asked goes old new is short = subst (λ (r : Result Endpoint Refusal). ShortOfRoute w asked r old new) is short

@@ -1,23 +1,21 @@
 -- The ends of a link.
-use Rattle.std.proofs.Common.{◌≡◌, ◌⊎◌, inl, inr, ℕ, ◌<◌, ◌≤◌, ◌+◌, ◌^◌, Bool, true, List, [], ◌∷◌, ◌++◌, length, map, Option, Some, None, Result, Ok, Err, OnOk, OnErr, refl, sym, ap, ◌∙◌, subst, append_assoc, append-nil, arith, length-append}
+use Rattle.std.proofs.Common.{◌≡◌, inl, inr, ℕ, ◌<◌, ◌+◌, ◌^◌, List, [], ◌++◌, length, Option, Some, None, Result, Ok, Err, OnOk, OnErr, refl, sym, ap, ◌∙◌, subst, append-nil, arith, length-append}
 use Rattle.std.specs.Io.KnownBytes.{Appends, Consumes, IsAtEnd, Keeps}
 use Rattle.std.specs.Option.{ForSome}
 use Rattle.outside_io.proofs.Known.{Consumes-kept, Consumes-more, Consumes-none}
 use Rattle.outside_io.specs.Sink.{AppendsFront}
-use Rattle.http_wire.specs.Answers.{KeepLink}
 use Rattle.http_wire.specs.Cuts.{Awaits}
 use Rattle.http_wire.specs.Reading.{end_items, end_of}
-use Rattle.http_wire.specs.Requests.{HasItems, Item, Refused}
+use Rattle.http_wire.specs.Requests.{HasItems}
 use Rattle.http_wire.specs.declared.refusal.Refusal.{Refusal}
 use Rattle.http_wire.proofs.RequestLemmas.{hands_end}
 use Rattle.shared_history.specs.Parts.{PassValue}
-use Rattle.http_front.specs.Links.{AreAllOf, BeginWith, ComesOfAll, Ends, EndsAs, IsReadOut, RunsShort, Serves, TellsShort}
-use Rattle.http_front.specs.Origin.{At, IsSpent, Origin}
-use Rattle.http_front.specs.Outcomes.{answer_of, replies_to, unavailable_reply}
-use Rattle.http_front.specs.Standing.{BreaksOff, EndsThere, IsSilent, Reached, Served, StopsRefused, TakesPiece}
+use Rattle.http_front.specs.Links.{ComesOfAll, Ends, EndsAs, IsReadOut, RunsShort, Serves, TellsShort}
+use Rattle.http_front.specs.Origin.{At, Origin}
+use Rattle.http_front.specs.Outcomes.{replies_to, unavailable_reply}
+use Rattle.http_front.specs.Standing.{BreaksOff, EndsThere, IsSilent, Reached, Served, TakesPiece}
 use Rattle.http_front.specs.declared.ends.HttpEnd.{HttpEnd}
 use Rattle.http_front.specs.declared.ends.HttpEnd.TheVariants as end
-use Rattle.http_front.specs.declared.outcome.Outcome.{Outcome}
 use Rattle.http_front.proofs.StandingLemmas.{served_start, stops_refused}
 
 -- nothing was read yet

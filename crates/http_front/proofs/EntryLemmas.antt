@@ -1,12 +1,17 @@
 -- What a pass makes while it serves a link.
-use Rattle.std.proofs.Common.{◌≡◌, ◌⊎◌, inl, inr, ℕ, zero, suc, List, [], ◌∷◌, ◌++◌, All, Option, Some, None, Result, Ok, Err, refl, sym, ap, ◌∙◌, subst, append_assoc, append-nil}
+use Rattle.std.proofs.Common.{◌≡◌, inl, inr, ℕ, zero, suc, List, [], ◌∷◌, ◌++◌, All, Option, Result, Ok, Err, refl, sym, ap, ◌∙◌, subst, append_assoc, append-nil}
 use Rattle.std.proofs.lemmas.List.Elements.{All-append, All-cons, All-nil}
 use Rattle.carbon_history.specs.declared.entry.Entry.{Entry}
 use Rattle.carbon_history.specs.declared.entry.Entry.TheVariants as entry
 use Rattle.carbon_model.specs.State.{State}
 use Rattle.shared_history.specs.Parts.{PassValue, own_entries}
-use Rattle.shared_store.specs.Asks.{AsksPart, AsksPartly, AsksTo, AsksToFault, new_number, tries_of}
+use Rattle.shared_store.specs.Asks.{AsksPartly, new_number, tries_of}
+use Rattle.shared_store.specs.Naming.{AsksOnce, NamesPartly}
 use Rattle.shared_store.specs.Passes.{Enters}
+use Rattle.path_glob.specs.Faults.{Said}
+use Rattle.find_api.specs.Queries.{read_queries}
+use Rattle.find_api.specs.Texts.{IsExpandText, IsFindText}
+use Rattle.find_api.specs.declared.fault.FindFault.{FindFault}
 use Rattle.render_plan.specs.Needed.{needs_of}
 use Rattle.render_plan.specs.Planned.{Plan, read_plan}
 use Rattle.render_plan.specs.declared.fault.QueryFault.{QueryFault}
@@ -16,10 +21,11 @@ use Rattle.http_wire.specs.Routes.{query_of, route}
 use Rattle.http_wire.specs.declared.refusal.Refusal.{Refusal}
 use Rattle.http_wire.specs.declared.routing.Endpoint.{Endpoint}
 use Rattle.http_wire.specs.declared.routing.Endpoint.TheVariants.{Render, Find, Expand, Index}
+use Rattle.http_front.specs.Browses.{AsksNames, ComesOfGlobs, GivesUpNames, ShortOfQueries, Tells}
 use Rattle.http_front.specs.Entries.{IsEntryOf, MakesAsks}
-use Rattle.http_front.specs.Links.{ComesOfAll, ComesOfItem, Ends, EndsAs, RunsShort, RunsShortAt, Serves, ServesLink, TellsShort}
+use Rattle.http_front.specs.Links.{ComesOfAll, ComesOfItem, EndsAs, RunsShort, RunsShortAt, Serves, ServesLink, TellsShort}
 use Rattle.http_front.specs.Origin.{At, Origin}
-use Rattle.http_front.specs.Requests.{ComesOf, ComesOfPlan, ComesOfQuery, ComesOfRead, ComesOfRoute, GivesUp, ShortOfQuery, ShortOfRoute, form_of}
+use Rattle.http_front.specs.Requests.{ComesOfPlan, ComesOfRead, ComesOfRoute, ShortOfQuery, ShortOfRoute, form_of}
 use Rattle.http_front.specs.declared.ends.HttpEnd.{HttpEnd}
 use Rattle.http_front.specs.declared.ends.HttpEnd.TheVariants as end
 use Rattle.http_front.specs.declared.outcome.Outcome.{Outcome}
@@ -68,11 +74,36 @@ makes_read : (w : Origin) (now : ℕ) (read : Result Plan QueryFault) (outcome :
 makes_read w now (Ok plan) outcome old new told comes = makes_plan w now plan outcome old new told comes
 makes_read w now (Err fault) outcome old new told comes = makes_none w old new comes.1
 
+-- a question about names has one entry
+makes_once : (w : Origin) (now : ℕ) (old new : PassValue) → w.moments now → AsksOnce w.start w.passes now old new → MakesAsks w old new
+makes_once w now old new told asks =
+    makes_entered w w.start w.passes _ old new asks.enters
+    (All-cons (IsEntryOf w old.number) (entry.Ask old.number (new_number old) 1 now) [] (refl, told) (All-nil (IsEntryOf w old.number)))
+
+makes_names : (w : Origin) (names : List (List ℕ)) (old new : PassValue) → AsksNames w names old new → MakesAsks w old new
+makes_names w names old new asks = makes_once w asks.now old new asks.told asks.asks.asks
+
+-- or none, where it is given up
+makes_asked : (w : Origin) (now : ℕ) (old new : PassValue) → w.moments now → NamesPartly w.start w.passes now old new → MakesAsks w old new
+makes_asked w now old new told (inl enters) = makes_entered w w.start w.passes [] old new enters (All-nil (IsEntryOf w old.number))
+makes_asked w now old new told (inr asks) = makes_once w now old new told asks
+
+makes_partly : (w : Origin) (old new : PassValue) → GivesUpNames w old new → MakesAsks w old new
+makes_partly w old new gives = makes_asked w gives.now old new gives.told gives.asks
+
+makes_globs : (w : Origin) (tells : Tells) (read : Result (List Said) FindFault) (outcome : Outcome) (old new : PassValue) → ComesOfGlobs w tells read outcome old new → MakesAsks w old new
+makes_globs w tells (Ok globs) outcome old new comes = makes_names w comes.names old new comes.asks
+makes_globs w tells (Err why) outcome old new comes = makes_none w old new comes.1
+
+makes_short_queries : (w : Origin) (query form : List ℕ) (old new : PassValue) → ShortOfQueries w query form old new → MakesAsks w old new
+makes_short_queries w query form old new (inl same) = makes_none w old new same
+makes_short_queries w query form old new (inr gives) = makes_partly w old new gives.asks
+
 makes_route : (w : Origin) (asked : Asked) (goes : Result Endpoint Refusal) (outcome : Outcome) (old new : PassValue) → ComesOfRoute w asked goes outcome old new → MakesAsks w old new
 makes_route w asked (Ok Render) outcome old new comes = makes_read w comes.now (read_plan (query_of asked.target) (form_of asked) comes.now) outcome old new comes.told comes.comes
-makes_route w asked (Ok Find) outcome old new comes = makes_none w old new comes.1
-makes_route w asked (Ok Expand) outcome old new comes = makes_none w old new comes.1
-makes_route w asked (Ok Index) outcome old new comes = makes_none w old new comes.1
+makes_route w asked (Ok Find) outcome old new comes = makes_globs w IsFindText (read_queries (query_of asked.target) (form_of asked)) outcome old new comes
+makes_route w asked (Ok Expand) outcome old new comes = makes_globs w IsExpandText (read_queries (query_of asked.target) (form_of asked)) outcome old new comes
+makes_route w asked (Ok Index) outcome old new comes = makes_names w comes.names old new comes.asks
 makes_route w asked (Err why) outcome old new comes = makes_none w old new comes.1
 
 makes_short_query : (w : Origin) (query form : List ℕ) (old new : PassValue) → ShortOfQuery w query form old new → MakesAsks w old new
@@ -81,9 +112,9 @@ makes_short_query w query form old new (inr gives) = makes_part w gives.now (nee
 
 makes_short : (w : Origin) (asked : Asked) (goes : Result Endpoint Refusal) (old new : PassValue) → ShortOfRoute w asked goes old new → MakesAsks w old new
 makes_short w asked (Ok Render) old new short = makes_short_query w (query_of asked.target) (form_of asked) old new short
-makes_short w asked (Ok Find) old new short = makes_none w old new short
-makes_short w asked (Ok Expand) old new short = makes_none w old new short
-makes_short w asked (Ok Index) old new short = makes_none w old new short
+makes_short w asked (Ok Find) old new short = makes_short_queries w (query_of asked.target) (form_of asked) old new short
+makes_short w asked (Ok Expand) old new short = makes_short_queries w (query_of asked.target) (form_of asked) old new short
+makes_short w asked (Ok Index) old new short = makes_partly w old new short
 makes_short w asked (Err why) old new short = makes_none w old new short
 
 makes_item : (w : Origin) (item : Item) (outcome : Outcome) (old new : PassValue) → ComesOfItem w item outcome old new → MakesAsks w old new

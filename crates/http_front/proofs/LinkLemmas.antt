@@ -1,8 +1,8 @@
 -- Items that come one after the other.
-use Rattle.std.proofs.Common.{◌≡◌, ℕ, Bool, true, false, List, [], ◌∷◌, ◌++◌, map, Option, refl, sym, ap, ◌∙◌, subst}
+use Rattle.std.proofs.Common.{◌≡◌, ℕ, Bool, false, List, [], ◌∷◌, ◌++◌, map, Option, refl, sym, ap, ◌∙◌, subst}
 use Rattle.std.proofs.lemmas.List.{map-append}
 use Rattle.std.specs.Io.KnownBytes.{Appends}
-use Rattle.outside_io.proofs.Known.{Appends-more, Appends-none}
+use Rattle.outside_io.proofs.Known.{Appends-more}
 use Rattle.shared_history.specs.Parts.{PassValue}
 use Rattle.http_wire.specs.Answers.{KeepLink, ends_link_with, responses_of}
 use Rattle.http_wire.specs.Requests.{Asked, Item, Request, Refused}

@@ -1,5 +1,5 @@
 -- The bytes of a reply do not depend on where the bytes of its body lie.
-use Rattle.std.proofs.Common.{◌≡◌, ℕ, Bool, List, [], ◌∷◌, ◌++◌, length, Option, refl, sym, ap, ◌∙◌, subst}
+use Rattle.std.proofs.Common.{◌≡◌, ℕ, List, [], ◌∷◌, ◌++◌, length, Option, refl, ap, ◌∙◌, subst}
 use Rattle.std.specs.Io.KnownBytes.{Appends}
 use Rattle.outside_io.specs.Sink.{AppendsFront}
 use Rattle.http_wire.specs.Answers.{ends_link_with, response_of}

@@ -1,5 +1,5 @@
 -- How the service of a link gets on, request by request and piece by piece.
-use Rattle.std.proofs.Common.{◌≡◌, ◌≢◌, inl, inr, ℕ, ◌<◌, ◌≤◌, ◌+◌, Bool, true, false, List, [], ◌∷◌, ◌++◌, length, take, drop, map, Option, Some, None, cond, refl, sym, ap, ◌∙◌, subst, append_assoc, append-nil, take-append-drop, arith, length-append}
+use Rattle.std.proofs.Common.{◌≡◌, inl, inr, ℕ, ◌<◌, ◌+◌, Bool, true, false, List, [], ◌∷◌, ◌++◌, length, take, drop, map, Option, Some, None, cond, refl, sym, ap, ◌∙◌, subst, append_assoc, append-nil, take-append-drop, arith, length-append}
 use Rattle.std.proofs.Math.Bool.{or-false}
 use Rattle.std.specs.Io.KnownBytes.{Appends}
 use Rattle.std.proofs.Math.Seq.{take-add}
@@ -9,16 +9,16 @@ use Rattle.httparse.proofs.GrammarLemmas.{print_request-append}
 use Rattle.shared_store.specs.Passes.{HasRoom}
 use Rattle.http_wire.specs.Answers.{KeepLink, ends_link_with}
 use Rattle.http_wire.specs.Reading.{HandsNext, HandsOut, Reading, Takes, handed_items, left_behind}
-use Rattle.http_wire.specs.Requests.{Asked, Begins, HasItems, HeadAt, Item, Request, Refused}
+use Rattle.http_wire.specs.Requests.{Asked, Begins, HasItems, Item, Request, Refused}
 use Rattle.http_wire.specs.declared.reader.Handed.{Handed}
 use Rattle.http_wire.specs.declared.reader.Handed.TheVariants as out
 use Rattle.http_wire.specs.declared.refusal.Refusal.{Refusal}
 use Rattle.http_wire.proofs.RequestLemmas.{hands_feed, hands_next, hands_start}
-use Rattle.http_front.specs.Links.{AreAllOf, AreFirstOf, AreRequests, BeginWith, ComesOfAll, EndsAs, RunsShortAt, Serves}
-use Rattle.http_front.specs.Origin.{At, IsSpent, Origin}
+use Rattle.http_front.specs.Links.{AreAllOf, AreFirstOf, BeginWith, ComesOfAll, EndsAs, Serves}
+use Rattle.http_front.specs.Origin.{At, Origin}
 use Rattle.http_front.specs.Outcomes.{answer_of, replies_to, reply_to}
 use Rattle.http_front.specs.Requests.{ComesOf}
-use Rattle.http_front.specs.Standing.{BreaksHere, BreaksOff, FailsToReply, IsPieceEnd, IsSilent, Proceeds, Served, ServesHanded, ServesItem, FailsItem, refusal_reply, StopsHanded, StopsRefused, StopsRequest, TakesPiece, waiting_count}
+use Rattle.http_front.specs.Standing.{BreaksHere, BreaksOff, FailsToReply, IsPieceEnd, IsSilent, Proceeds, Served, ServesHanded, ServesItem, refusal_reply, StopsHanded, StopsRefused, StopsRequest, TakesPiece, waiting_count}
 use Rattle.http_front.specs.declared.ends.HttpEnd.{HttpEnd}
 use Rattle.http_front.specs.declared.ends.HttpEnd.TheVariants as end
 use Rattle.http_front.specs.declared.outcome.Outcome.{Outcome}

@@ -4,13 +4,13 @@ use Rattle.std.specs.Io.KnownBytes.{Appends, Consumes, IsAtEnd}
 use Rattle.std.specs.Option.{ForSome}
 use Rattle.outside_io.specs.Sink.{AppendsFront}
 use Rattle.shared_history.specs.Parts.{PassValue}
-use Rattle.shared_store.specs.Passes.{HasRoom}
+use Rattle.shared_store.specs.Passes.{HasRoom, IsSpent}
 use Rattle.http_wire.specs.Codes.{code_of}
 use Rattle.http_wire.specs.Cuts.{Awaits}
 use Rattle.http_wire.specs.Reading.{HandsOut}
 use Rattle.http_wire.specs.Requests.{Asked, HasItems, Item, Request, Refused}
 use Rattle.http_wire.specs.declared.refusal.Refusal.{Refusal}
-use Rattle.http_front.specs.Origin.{At, IsSpent, Origin}
+use Rattle.http_front.specs.Origin.{At, Origin}
 use Rattle.http_front.specs.Outcomes.{replies_to, reply_to, unavailable_reply}
 use Rattle.http_front.specs.Requests.{ComesOf, IsRefused, ShortOf}
 use Rattle.http_front.specs.declared.ends.HttpEnd.{HttpEnd}

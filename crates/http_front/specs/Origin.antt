@@ -1,11 +1,11 @@
 -- What a link is served from, and where its service stands.
-use Rattle.std.specs.Prelude.{◌≡◌, ◌<◌, ◌≤◌, ◌+◌, ◌^◌, ℕ, List, Option, length}
+use Rattle.std.specs.Prelude.{◌≡◌, ◌≤◌, ℕ, List, Option}
 use Rattle.outside_io.specs.Faults.{Rose}
 use Rattle.outside_io.specs.Image.{Image}
 use Rattle.outside_io.specs.declared.clock.Clock.{Ghosts as ClockGhosts}
 use Rattle.outside_io.specs.declared.sink.Sink.{Ghosts as SinkGhosts}
 use Rattle.carbon_model.specs.State.{State}
-use Rattle.shared_history.specs.Parts.{PassValue, own_entries}
+use Rattle.shared_history.specs.Parts.{PassValue}
 use Rattle.shared_store.specs.declared.named.Named.{Ghosts as StoreGhosts}
 
 -- What a link is served from: the moments that the clock may tell, and of the store what the disk of each class
@@ -32,10 +32,6 @@ pub record At : Type 0 where
 
 abbrev pub standing : {K : Type 0} → SinkGhosts K → PassValue → K → At
 standing sink pass out = record { pass = pass; written = sink.written out }
-
--- the pass has no room for what a request may enter
-abbrev pub IsSpent : PassValue → Type 0
-IsSpent pass = 2 ^ 48 < length (own_entries pass) + 4
 
 -- it is the same pass, of the same store
 pub record SamePass (old new : PassValue) : Type 0 where

@@ -1,5 +1,5 @@
 -- What comes of requests, and the bytes of the replies.
-use Rattle.std.specs.Prelude.{◌≡◌, ℕ, true, List, [], map}
+use Rattle.std.specs.Prelude.{◌≡◌, ℕ, true, List, map}
 use Rattle.http_wire.specs.Answers.{response_of, responses_of}
 use Rattle.http_wire.specs.Replies.{reply_bytes}
 use Rattle.http_wire.specs.Requests.{Item}

@@ -12,9 +12,10 @@ use Rattle.render_answer.specs.declared.refusal.Refusal.TheVariants.{Query}
 use Rattle.http_wire.specs.Requests.{Asked}
 use Rattle.http_wire.specs.Routes.{is_post, query_of, route}
 use Rattle.http_wire.specs.declared.refusal.Refusal.{Refusal}
-use Rattle.http_wire.specs.declared.refusal.Refusal.TheVariants.{NotFound}
 use Rattle.http_wire.specs.declared.routing.Endpoint.{Endpoint}
 use Rattle.http_wire.specs.declared.routing.Endpoint.TheVariants.{Render, Find, Expand, Index}
+use Rattle.find_api.specs.Texts.{IsExpandText, IsFindText}
+use Rattle.http_front.specs.Browses.{ComesOfQueries, GivesUpNames, HasNames, IsIndexText, ShortOfQueries}
 use Rattle.http_front.specs.Origin.{Origin}
 use Rattle.http_front.specs.Outcomes.{outcome_of}
 use Rattle.http_front.specs.declared.outcome.Outcome.{Outcome}
@@ -60,13 +61,15 @@ form_of asked = if is_post asked.method then asked.body else []
 abbrev pub IsRefused : Refusal → Outcome → PassValue → PassValue → Type 0
 IsRefused why outcome old new = (outcome ≡ Refused why) × (new ≡ old)
 
--- what comes of a request that goes there; for names nothing answers yet
+-- what comes of a request that goes there
 abbrev pub ComesOfRoute : Origin → Asked → Result Endpoint Refusal → Outcome → PassValue → PassValue → Type 0
 ComesOfRoute w asked (Ok Render) outcome old new =
     ComesOfQuery w (query_of asked.target) (form_of asked) outcome old new
-ComesOfRoute w asked (Ok Find) outcome old new = IsRefused NotFound outcome old new
-ComesOfRoute w asked (Ok Expand) outcome old new = IsRefused NotFound outcome old new
-ComesOfRoute w asked (Ok Index) outcome old new = IsRefused NotFound outcome old new
+ComesOfRoute w asked (Ok Find) outcome old new =
+    ComesOfQueries w IsFindText (query_of asked.target) (form_of asked) outcome old new
+ComesOfRoute w asked (Ok Expand) outcome old new =
+    ComesOfQueries w IsExpandText (query_of asked.target) (form_of asked) outcome old new
+ComesOfRoute w asked (Ok Index) outcome old new = HasNames w IsIndexText outcome old new
 ComesOfRoute w asked (Err why) outcome old new = IsRefused why outcome old new
 
 -- what comes of a request
@@ -93,7 +96,10 @@ ShortOfQuery w query form old new = (new ≡ old) ⊎ GivesUp w query form old n
 
 abbrev pub ShortOfRoute : Origin → Asked → Result Endpoint Refusal → PassValue → PassValue → Type 0
 ShortOfRoute w asked (Ok Render) old new = ShortOfQuery w (query_of asked.target) (form_of asked) old new
-ShortOfRoute w asked other old new = new ≡ old
+ShortOfRoute w asked (Ok Find) old new = ShortOfQueries w (query_of asked.target) (form_of asked) old new
+ShortOfRoute w asked (Ok Expand) old new = ShortOfQueries w (query_of asked.target) (form_of asked) old new
+ShortOfRoute w asked (Ok Index) old new = GivesUpNames w old new
+ShortOfRoute w asked (Err why) old new = new ≡ old
 
 -- Memory ran out at a request before anything came of it.
 abbrev pub ShortOf : Origin → Asked → PassValue → PassValue → Type 0

@@ -1,7 +1,8 @@
 -- Where the service of a link stands in the middle of it.
-use Rattle.std.specs.Prelude.{◌≡◌, ◌≢◌, ℕ, Bool, true, false, List, [], ◌∷◌, ◌++◌, Option, Some, None, length, ◌+◌, map, ⊤}
+use Rattle.std.specs.Prelude.{◌≡◌, ◌≢◌, ℕ, Bool, true, false, List, ◌++◌, Option, Some, None, length, ◌+◌, map, ⊤}
 use Rattle.std.specs.Io.KnownBytes.{Appends, Consumes}
 use Rattle.outside_io.specs.Sink.{AppendsFront}
+use Rattle.shared_store.specs.Passes.{IsSpent}
 use Rattle.http_wire.specs.Answers.{KeepLink, ends_link_with}
 use Rattle.http_wire.specs.Codes.{code_of}
 use Rattle.http_wire.specs.Reading.{HandsOut, Reading}
@@ -9,7 +10,7 @@ use Rattle.http_wire.specs.Requests.{Asked, Item, Request, Refused}
 use Rattle.http_wire.specs.declared.reader.Handed.{Handed}
 use Rattle.http_wire.specs.declared.reader.Handed.TheVariants as handed
 use Rattle.http_wire.specs.declared.refusal.Refusal.{Refusal}
-use Rattle.http_front.specs.Origin.{At, IsSpent, Origin}
+use Rattle.http_front.specs.Origin.{At, Origin}
 use Rattle.http_front.specs.Outcomes.{answer_of, replies_to, reply_to}
 use Rattle.http_front.specs.Links.{AreRequests, ComesOfAll, ComesOfItem, EndsAs, RunsShortAt}
 use Rattle.http_front.specs.declared.ends.HttpEnd.{HttpEnd}

@@ -5,8 +5,9 @@ ghost use Rattle.http_wire.specs.Reading.{seen};
 ghost use Rattle.http_wire.specs.Routes.{is_post};
 ghost use Rattle.http_front.specs.Requests.{form_of};
 
+use crate::listing::Listing;
 use crate::outcome::{Outcome, found, refused};
-use http_wire::{Endpoint, Refusal, Request, query_of, route};
+use http_wire::{Endpoint, Request, query_of, route};
 use outside_io::{Clock, Disk};
 use render_plan::{QueryFault, RenderPlan};
 use shared_history::Pass;
@@ -45,12 +46,13 @@ impl<'a, R: Wait, D: Disk, N: Named, C: Clock> Renderer<'a, R, D, N, C> {
             (seen request.now) pass.old pass.new) }
         ensures pass { SamePass pass.old pass.new }
     {
+        let query = query_of(request.target);
+        let form = form_of(request);
         match route(request.method, request.target) {
-            Ok(Endpoint::Render) => self.render(pass, query_of(request.target), form_of(request)),
-            // Nothing answers there yet.
-            Ok(Endpoint::Find | Endpoint::Expand | Endpoint::Index) => {
-                Ok(Outcome::Refused(Refusal::NotFound))
-            }
+            Ok(Endpoint::Render) => self.render(pass, query, form),
+            Ok(Endpoint::Find) => self.list(pass, Listing::Nodes, query, form),
+            Ok(Endpoint::Expand) => self.list(pass, Listing::Paths, query, form),
+            Ok(Endpoint::Index) => self.index(pass),
             Err(why) => Ok(Outcome::Refused(why)),
         }
     }
@@ -112,9 +114,9 @@ fn is_post(method: &[u8]) -> bool
     method == b"POST".as_slice()
 }
 
-// The moment that a clock tells.
+/// The moment that a clock tells.
 #[tactic(auto, using(crate::proofs::AskLemmas::moment_fits))]
-fn moment<C: Clock>(clock: &C) -> u32
+pub(crate) fn moment<C: Clock>(clock: &C) -> u32
     ensures told { C.moments clock.now result }
     ensures legal { is_moment result ≡ true }
 {

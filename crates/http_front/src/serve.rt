@@ -3,10 +3,9 @@ ghost use Rattle.std.specs.Prelude.{◌≡◌, ◌<◌, ◌≤◌, true, false, 
 ghost use Rattle.std.specs.Option.{ForSome};
 ghost use Rattle.outside_io.specs.Faults.{Rose};
 ghost use Rattle.outside_io.specs.Frames.{CountsReads, CountsWrites};
-ghost use Rattle.shared_store.specs.Passes.{HasRoom};
 ghost use Rattle.http_front.specs.Entries.{MakesAsks};
 ghost use Rattle.http_front.specs.Links.{ServesLink};
-ghost use Rattle.http_front.specs.Origin.{IsSpent, SamePass, WritesOnly, origin_of, standing};
+ghost use Rattle.http_front.specs.Origin.{SamePass, WritesOnly, origin_of, standing};
 
 use crate::buffers::Buffers;
 use crate::ends::HttpEnd;
@@ -16,15 +15,12 @@ use crate::replying::reply;
 use http_wire::{Handed, Item, Refusal, Request, RequestReader};
 use outside_io::{Clock, Disk, Link, ReadEnd, Sink, write_all};
 use shared_history::Pass;
-use shared_store::{Named, Store};
+use shared_store::{Named, Store, has_room};
 use std::alloc::Global;
 use std::sync::Wait;
 
 /// The most bytes that are taken of a link.
 pub const MOST_LINK_BYTES: u64 = 1 << 40;
-
-// The most entries that a request makes.
-const MOST_REQUEST_ENTRIES: u64 = 4;
 
 /// Serves a link that brings HTTP requests, until it ends: each request has its reply, in order, which is written whole before the next request is
 /// looked at. A query is asked of the store by the pass, at the moment that the clock tells once the request has come.
@@ -268,13 +264,4 @@ impl<'a, R: Wait, D: Disk, N: Named, C: Clock> Renderer<'a, R, D, N, C> {
             Err(end) => end,
         }
     }
-}
-
-// Whether the pass has room for what a request may enter.
-#[tactic(auto, using(crate::proofs::AskLemmas::has_room, crate::proofs::AskLemmas::has_none))]
-fn has_room(pass: &Pass) -> bool
-    ensures room { result ≡ true → HasRoom pass.now }
-    ensures spent { result ≡ false → IsSpent pass.now }
-{
-    pass.left() >= MOST_REQUEST_ENTRIES
 }

@@ -3,12 +3,12 @@ use Rattle.std.proofs.Common.{◌≡◌, ◌≢◌, ◌⊎◌, inl, inr, ◌∙�
 use Rattle.std.specs.Prelude.{filter, Result, Ok, Err}
 use Rattle.std.proofs.lemmas.List.{append-nil, append_cancel_left, append_cancel_right}
 use Rattle.std.proofs.lemmas.List.Elements.{filter-append}
-use Rattle.std.proofs.lemmas.Bool.Decides.{eqb_tells}
+use Rattle.std.proofs.lemmas.Bool.Decides.{eqb_tells, nat_tests}
 use mathlib.Core.List.{IsPrefix}
 use Rattle.metric_path.specs.Class.{class_of}
 use Rattle.carbon_history.specs.declared.entry.Entry.{Entry}
 use Rattle.carbon_history.specs.declared.entry.Entry.TheVariants as entry
-use Rattle.carbon_history.specs.Entries.{NamesPasses, about_class, drains, is_about, of_pass, pass_of}
+use Rattle.carbon_history.specs.Entries.{NamesPasses, about_class, drains, is_about, is_drain, of_pass, pass_of}
 use Rattle.carbon_model.specs.State.{State}
 use Rattle.carbon_model.specs.Replay.{DrainsAll, DrainsClasses, DrainsSome, DrainsUpTo, IsDrainOf, IsLegalHistory, after, replay}
 use Rattle.carbon_model.proofs.HistoryLemmas.{legal_parts, replay-append}
@@ -20,8 +20,8 @@ use Rattle.shared_store.specs.declared.drain_end.Stop.{Stop}
 use Rattle.shared_store.specs.declared.drain_end.Stop.TheVariants as stop
 use Rattle.shared_store.specs.declared.drain_end.DrainEnd.TheVariants as done
 use Rattle.shared_store.specs.Passes.{Enters, HasRoom, IsNoLess, IsSettled, IsUnderWay, LooksAgain, LooksOn, SameLooks, planned_in, settled_in}
-use Rattle.shared_store.specs.Steps.{FailedPlan, TookMetric, WasIdle}
-use Rattle.shared_store.specs.Drains.{AreDrainsOf, DrainsFailing, DrainsHere, DrainsNext, DrainsOne, DrainsPart, DrainsPartly, DrainsTo, DrainsToFault, HasPlanned, IsWhole, LooksIn, RiseWithin, StoodAlone, StopsIn, StopsWriting, WritesTo, WritesWhole, end_of}
+use Rattle.shared_store.specs.Steps.{FailedPlan, NeedsNoWrite, TookMetric, WasIdle}
+use Rattle.shared_store.specs.Drains.{AreDrainsOf, DrainsFailing, DrainsHere, DrainsNext, DrainsOne, DrainsPart, DrainsPartly, DrainsTo, DrainsToFault, EndsUnwritten, FailedRun, HasPlanned, IsOwed, IsWhole, LooksIn, RiseWithin, StoodAlone, StopsIn, StopsWriting, WritesTo, WritesWhole, end_of}
 use Rattle.shared_store.proofs.LookLemmas.{prefix_both}
 
 -- ---- looks
@@ -151,6 +151,18 @@ are_apart pass class now k (x ∷ xs) are apart =
 fault_apart : (pass class k : ℕ) → k ≢ class → about_class k (entry.Fault pass class ∷ []) ≡ []
 fault_apart pass class k apart = ap (λ (b : Bool). cond b (entry.Fault pass class ∷ []) []) (ne_eqb class k (λ same. apart (sym same)))
 
+fault_none : (pass class k : ℕ) → filter is_drain (about_class k (entry.Fault pass class ∷ [])) ≡ []
+fault_none pass class k = by (class == k)
+  where
+    by : (b : Bool) → filter is_drain (cond b (entry.Fault pass class ∷ []) []) ≡ []
+    by true = refl
+    by false = refl
+
+fault_drains : (pass class k : ℕ) (xs : List Entry) → drains (xs ++ about_class k (entry.Fault pass class ∷ [])) ≡ drains xs
+fault_drains pass class k xs =
+    ap length (filter-append is_drain xs (about_class k (entry.Fault pass class ∷ []))
+    ∙ (ap (λ (l : List Entry). filter is_drain xs ++ l) (fault_none pass class k) ∙ append-nil (filter is_drain xs)))
+
 -- what is whole in a class stays so where nothing of the class is entered, and no look at it is had
 still_whole : (k : ℕ) (more : List Entry) (old new : PassValue) → IsWhole k old → look_at k new.looks ≡ look_at k old.looks → new.seen ≡ old.seen ++ more
     → about_class k more ≡ [] → IsWhole k new
@@ -177,6 +189,21 @@ rise_wider : (pass now low class most : ℕ) (xs : List Entry) → class ≤ mos
 rise_wider pass now low class most [] le rise = omega (arith, le, rise)
 rise_wider pass now low class most (x ∷ xs) le rise =
     (rise.0, rise.1, (omega (arith, le, rise.2.0), (rise.2.1.0, rise_wider pass now rise.0 class most xs le rise.2.1.1)))
+
+rise_apart : (pass now low most k : ℕ) (xs : List Entry) → most ≤ k → RiseWithin pass now low most xs → about_class k xs ≡ []
+rise_apart pass now low most k [] le rise = refl
+rise_apart pass now low most k (x ∷ xs) le rise =
+    ap (λ (b : Bool). cond b (x ∷ about_class k xs) (about_class k xs)) (not_about pass rise.0 now k x rise.2.1.0 (λ same. omega (arith, le, rise.2.0, same)))
+    ∙ rise_apart pass now rise.0 most k xs le rise.2.1.1
+
+about_here : (class k : ℕ) → class ≡ k → (class == k) ≡ true
+about_here class k same = grind (arith, nat_tests, same)
+
+less_owed : (a b n m : ℕ) → a ≤ b → b < n → n ≡ m → a < m
+less_owed a b n m le lt is = omega (arith, le, lt, is)
+
+none_owed : (planned settled all : ℕ) → planned ≡ all → planned ≡ settled → settled < all → ⊥
+none_owed planned settled all is even lt = omega (arith, is, even, lt)
 
 -- ---- what the calls tell, one after the other
 
@@ -232,9 +259,115 @@ module _ (start : State) (passes : ℕ) where
   abbrev pub part_none : (class now : ℕ) (old new : PassValue) → Enters start passes [] old new → DrainsPart start passes class now old new
   part_none class now old new enters = record { made = []; enters = enters; each = tt }
 
-  pub stops_more : (class now : ℕ) (stop : Stop) (old mid new : PassValue) → DrainsPart start passes class now old mid → StopsIn start passes class now stop mid new
-      → StopsIn start passes class now stop old new
-  stops_more class now stop.DiskFault old mid new first next = record {
+  -- the state that a pass sees, behind that which it saw
+  seen_after : (made : List Entry) (old new : PassValue) → StoodAlone made old new → replay start new.seen ≡ replay (replay start old.seen) made
+  seen_after made old new alone = ap (replay start) alone ∙ replay-append start old.seen made
+
+  -- ---- the drain whose run failed
+
+  -- what a part leaves owed is owed from before it, or the last of it
+  abbrev pub LeavesOwed : ℕ → List Entry → PassValue → PassValue → Type 0
+  LeavesOwed class made old new =
+      StoodAlone made old new → IsOwed class new → (IsOwed class old × (about_class class made ≡ [])) ⊎ EndsUnwritten (replay start old.seen) class made
+
+  ends_behind : (class : ℕ) (first made : List Entry) (s s' : State) → s' ≡ replay s first → EndsUnwritten s' class made → EndsUnwritten s class (first ++ made)
+  ends_behind class first made s s' same ends = record {
+    before = first ++ ends.before;
+    pass = ends.pass;
+    path = ends.path;
+    now = ends.now;
+    is = ap (λ (l : List Entry). first ++ l) ends.is ∙ sym (append_assoc first ends.before (entry.Drain ends.pass ends.path ends.now ∷ []));
+    here = ends.here;
+    needs = λ none. ends.needs
+        (subst (λ (t : State). NeedsNoWrite t ends.path ends.now) (replay-append s first ends.before ∙ ap (λ (t : State). replay t ends.before) (sym same)) none);
+  }
+
+  run_behind : (class : ℕ) (first made fault : List Entry) (old mid new : PassValue) → Leads first old mid → Leads (made ++ fault) mid new
+      → LeavesOwed class first old mid → (about_class class made ≡ [] → made ≡ [])
+      → (StoodAlone (made ++ fault) mid new → (IsOwed class mid × (about_class class made ≡ [])) ⊎ EndsUnwritten (replay start mid.seen) class made)
+      → StoodAlone (first ++ (made ++ fault)) old new
+      → (IsOwed class old × (about_class class (first ++ made) ≡ [])) ⊎ EndsUnwritten (replay start old.seen) class (first ++ made)
+  run_behind class first made fault old mid new leads next leaves none whose alone =
+      let parts = alone_parts first (made ++ fault) old mid new leads next alone in
+      elim (whose parts.1) [
+        | inl owed ↦
+            let front : first ≡ first ++ made = sym (append-nil first) ∙ ap (λ (l : List Entry). first ++ l) (sym (none owed.1)) in
+            subst (λ (l : List Entry). (IsOwed class old × (about_class class l ≡ [])) ⊎ EndsUnwritten (replay start old.seen) class l) front
+            (leaves parts.0 owed.0)
+        | inr ends ↦ inr (ends_behind class first made (replay start old.seen) (replay start mid.seen) (seen_after first old mid parts.0) ends)
+      ]
+
+  are_about : (pass class now : ℕ) (xs : List Entry) → AreDrainsOf pass class now xs → about_class class xs ≡ [] → xs ≡ []
+  are_about pass class now [] are none = refl
+  are_about pass class now (entry.Put by path time value end ∷ xs) are none = absurd are.0
+  are_about pass class now (entry.Drain by path at ∷ xs) are none =
+      absurd (cc (sym (ap (λ (b : Bool). cond b (entry.Drain by path at ∷ about_class class xs) (about_class class xs)) (about_here (class_of path) class are.0.1.0)) ∙ none))
+  are_about pass class now (entry.Ask by number try at ∷ xs) are none = absurd are.0
+  are_about pass class now (entry.Fault by of_class ∷ xs) are none = absurd are.0
+
+  -- a part that made nothing leaves owed what was
+  pub leaves_none : (class : ℕ) (old new : PassValue) → settled_in class old ≤ settled_in class new → LeavesOwed class [] old new
+  leaves_none class old new less alone owed =
+      inl (
+        less_owed (settled_in class old) (settled_in class new) (drains (about_class class new.seen)) (drains (about_class class old.seen)) less owed
+            (ap (λ (l : List Entry). drains (about_class class l)) (alone ∙ append-nil old.seen)),
+        refl,
+      )
+
+  -- nor does one that drained lower classes alone
+  pub leaves_lower : (class now : ℕ) (old new : PassValue) (made : List Entry) → RiseWithin old.number now 0 class made → settled_in class old ≤ settled_in class new
+      → LeavesOwed class made old new
+  leaves_lower class now old new made rise less alone owed =
+      let none = rise_apart old.number now 0 class class made (omega arith) rise in
+      inl (
+        less_owed (settled_in class old) (settled_in class new) (drains (about_class class new.seen)) (drains (about_class class old.seen)) less owed
+            (ap drains (ap (about_class class) alone ∙ (filter-append (is_about class) old.seen made
+            ∙ (ap (λ (l : List Entry). about_class class old.seen ++ l) none ∙ append-nil (about_class class old.seen))))),
+        none,
+      )
+
+  -- one behind which all is written leaves nothing
+  pub leaves_whole : (class : ℕ) (made : List Entry) (old new : PassValue) → IsWhole class new → LeavesOwed class made old new
+  leaves_whole class made old new whole alone owed =
+      absurd (none_owed (planned_in class new) (settled_in class new) (drains (about_class class new.seen)) whole.all whole.settled owed)
+
+  -- a metric that was taken is what is owed then, and has something to write
+  pub leaves_took : (class now : ℕ) (path : List ℕ) (old new : PassValue) → new.number ≡ old.number → HasPlanned class new → TookMetric start class now path new
+      → LeavesOwed class (entry.Drain old.number path now ∷ []) old new
+  leaves_took class now path old new number planned took alone owed =
+      let drain = entry.Drain old.number path now ∷ [] in
+      let before : took.before ≡ old.seen =
+      append_cancel_right took.before old.seen drain
+      (ap (λ (n : ℕ). took.before ++ entry.Drain n path now ∷ []) (sym number) ∙ (sym took.last ∙ alone)) in
+      inr (record {
+        before = [];
+        pass = old.number;
+        path = path;
+        now = now;
+        is = refl;
+        here = took.here;
+        needs = λ none. none_owed (planned_in class new) (settled_in class new) (drains (about_class class new.seen)) planned
+            (took.nothing.1 (subst (λ (l : List Entry). NeedsNoWrite (replay start l) path now) (sym before) none)) owed;
+      })
+
+  run_more : (class now : ℕ) (old mid new : PassValue) (first : DrainsPart start passes class now old mid) (next : DrainsFailing start passes class now mid new)
+      → LeavesOwed class first.made old mid → FailedPlan start class new ⊎ FailedRun start class next.made mid new
+      → FailedPlan start class new ⊎ FailedRun start class (first.made ++ next.made) old new
+  run_more class now old mid new first next leaves (inl failed) = inl failed
+  run_more class now old mid new first next leaves (inr run) =
+      let fault = entry.Fault mid.number class ∷ [] in
+      let told : (first.made ++ next.made) ++ entry.Fault old.number class ∷ [] ≡ first.made ++ (next.made ++ fault) =
+      ap (λ (n : ℕ). (first.made ++ next.made) ++ entry.Fault n class ∷ []) (sym first.enters.number) ∙ append_assoc first.made next.made fault in
+      inr (record {
+        under = run.under;
+        whose = λ alone. run_behind class first.made next.made fault old mid new (leads_of first.made old mid first.enters)
+            (leads_of (next.made ++ fault) mid new next.enters) leaves (are_about mid.number class now next.made next.each) run.whose
+            (subst (λ (l : List Entry). StoodAlone l old new) told alone);
+      })
+
+  pub stops_more : (class now : ℕ) (stop : Stop) (old mid new : PassValue) (first : DrainsPart start passes class now old mid) → LeavesOwed class first.made old mid
+      → StopsIn start passes class now stop mid new → StopsIn start passes class now stop old new
+  stops_more class now stop.DiskFault old mid new first leaves next = record {
     made = first.made ++ next.made;
     enters = subst (λ (l : List Entry). Enters start passes l old new)
         (sym (append_assoc first.made next.made (entry.Fault mid.number class ∷ []))
@@ -243,10 +376,10 @@ module _ (start : State) (passes : ℕ) where
     each = are_both old.number class now first.made next.made first.each
         (subst (λ (n : ℕ). AreDrainsOf n class now next.made) first.enters.number next.each);
     planned = next.planned;
-    either = next.either;
+    either = run_more class now old mid new first next leaves next.either;
   }
-  stops_more class now stop.Spent old mid new first next = (part_both class now old mid new first next.0, next.1)
-  stops_more class now stop.NoMemory old mid new first next = (part_both class now old mid new first next.0, next.1)
+  stops_more class now stop.Spent old mid new first leaves next = (part_both class now old mid new first next.0, next.1)
+  stops_more class now stop.NoMemory old mid new first leaves next = (part_both class now old mid new first next.0, next.1)
 
   -- ---- a drain is written to its end
 
@@ -261,16 +394,28 @@ module _ (start : State) (passes : ℕ) where
     room = enters_room mid new next room;
   }
 
-  pub write_fails : (class : ℕ) (old mid new : PassValue) → Leads [] old mid → Enters start passes (entry.Fault mid.number class ∷ []) mid new
+  pub write_fails : (class : ℕ) (old mid new : PassValue) → Leads [] old mid → LooksIn class old mid → Enters start passes (entry.Fault mid.number class ∷ []) mid new
       → LooksAgain class mid new → IsUnderWay class new → (now : ℕ) → DrainsFailing start passes class now old new
-  write_fails class old mid new first next look under now = record {
+  write_fails class old mid new first before next look under now = record {
     made = [];
     enters = subst (λ (n : ℕ). Enters start passes (entry.Fault n class ∷ []) old new) first.number
         (enters_more [] (entry.Fault mid.number class ∷ []) old mid new first next);
     each = tt;
     planned = has_planned class mid new look;
-    either = inr under;
+    either = inr (record {
+      under = under;
+      whose = λ alone. inl (
+        owed_before (planned_in class new) (settled_in class old) (settled_in class mid) (settled_in class new) (drains (about_class class old.seen)) under
+            before.here.settled look.settled
+            (has_planned class mid new look ∙ ap drains (ap (about_class class) alone ∙ filter-append (is_about class) old.seen (entry.Fault old.number class ∷ []))
+            ∙ fault_drains old.number class class (about_class class old.seen)),
+        refl,
+      );
+    });
   }
+    where
+      owed_before : (planned a b c all : ℕ) → planned ≡ c + 1 → a ≤ b → b ≤ c → planned ≡ all → a < all
+      owed_before planned a b c all under le more is = omega (arith, under, le, more, is)
 
   -- ---- the next metric of a class
 
@@ -309,12 +454,12 @@ module _ (start : State) (passes : ℕ) where
         room = writes.room;
       }
     where
-      none_owed : (planned settled planned' settled' : ℕ) → planned ≡ settled → settled ≤ settled' → planned' ≡ settled' + 1 → planned' ≡ planned → ⊥
-      none_owed planned settled planned' settled' even le one same = omega (arith, even, le, one, same)
+      never_owed : (planned settled planned' settled' : ℕ) → planned ≡ settled → settled ≤ settled' → planned' ≡ settled' + 1 → planned' ≡ planned → ⊥
+      never_owed planned settled planned' settled' even le one same = omega (arith, even, le, one, same)
 
       never : mid.seen ≡ old.seen → ⊥
       never seen =
-          none_owed (planned_in class old) (settled_in class old) (planned_in class mid) (settled_in class mid) whole.settled look.settled under
+          never_owed (planned_in class old) (settled_in class old) (planned_in class mid) (settled_in class mid) whole.settled look.settled under
           (has_planned class old mid look ∙ (ap (λ (l : List Entry). drains (about_class class l)) seen ∙ sym whole.all))
 
   pub next_idle : (class now : ℕ) (old new : PassValue) → Enters start passes [] old new → LooksAgain class old new → WasIdle start class old new
@@ -337,25 +482,26 @@ module _ (start : State) (passes : ℕ) where
   }
 
   -- however the write of the drain ended
-  pub stops_writing : (class now : ℕ) (stop : Stop) (old mid new : PassValue) → DrainsPart start passes class now old mid → StopsWriting start passes class stop mid new
-      → StopsIn start passes class now stop old new
-  stops_writing class now stop.DiskFault old mid new part writes = stops_more class now stop.DiskFault old mid new part (writes now)
-  stops_writing class now stop.Spent old mid new part writes = (subst (DrainsPart start passes class now old) (sym writes.0) part, writes.1)
-  stops_writing class now stop.NoMemory old mid new part writes = absurd writes
+  pub stops_writing : (class now : ℕ) (stop : Stop) (old mid new : PassValue) (part : DrainsPart start passes class now old mid) → LeavesOwed class part.made old mid
+      → StopsWriting start passes class stop mid new → StopsIn start passes class now stop old new
+  stops_writing class now stop.DiskFault old mid new part leaves writes = stops_more class now stop.DiskFault old mid new part leaves (writes now)
+  stops_writing class now stop.Spent old mid new part leaves writes = (subst (DrainsPart start passes class now old) (sym writes.0) part, writes.1)
+  stops_writing class now stop.NoMemory old mid new part leaves writes = absurd writes
 
   pub took_whole : (class now : ℕ) (path : List ℕ) (result : Result Bool Stop) (old mid new : PassValue) → Enters start passes (entry.Drain old.number path now ∷ []) old mid
-      → TookMetric start class now path mid → WritesTo start passes class result mid new → DrainsNext start passes class now result old new
-  took_whole class now path (Ok true) old mid new enters took writes = next_took class now path old mid new enters took writes
-  took_whole class now path (Ok false) old mid new enters took writes = absurd writes
-  took_whole class now path (Err stop) old mid new enters took writes =
-      stops_writing class now stop old mid new (part_took class now path old mid enters took) writes
+      → LooksAgain class old mid → TookMetric start class now path mid → WritesTo start passes class result mid new → DrainsNext start passes class now result old new
+  took_whole class now path (Ok true) old mid new enters look took writes = next_took class now path old mid new enters took writes
+  took_whole class now path (Ok false) old mid new enters look took writes = absurd writes
+  took_whole class now path (Err stop) old mid new enters look took writes =
+      stops_writing class now stop old mid new (part_took class now path old mid enters took)
+      (leaves_took class now path old mid enters.number (has_planned class old mid look) took) writes
 
   pub busy_whole : (class now : ℕ) (result : Result Bool Stop) (old mid new : PassValue) → IsWhole class old → Enters start passes [] old mid
       → LooksAgain class old mid → IsUnderWay class mid → WritesTo start passes class result mid new → DrainsNext start passes class now result old new
   busy_whole class now (Ok true) old mid new whole enters look under writes = next_busy class now old mid new whole enters look under writes
   busy_whole class now (Ok false) old mid new whole enters look under writes = absurd writes
   busy_whole class now (Err stop) old mid new whole enters look under writes =
-      stops_writing class now stop old mid new (part_none class now old mid enters) writes
+      stops_writing class now stop old mid new (part_none class now old mid enters) (leaves_none class old mid look.settled) writes
 
   -- ---- a class
 
@@ -417,10 +563,6 @@ module _ (start : State) (passes : ℕ) where
     alone = λ alone. refl;
     written = λ alone k lt. absurd (omega (arith, lt));
   }
-
-  -- the state that a pass sees, behind that which it saw
-  seen_after : (made : List Entry) (old new : PassValue) → StoodAlone made old new → replay start new.seen ≡ replay (replay start old.seen) made
-  seen_after made old new alone = ap (replay start) alone ∙ replay-append start old.seen made
 
   some_of : (class now : ℕ) (made more : List Entry) (mid new : PassValue) → AreDrainsOf mid.number class now made → IsLegalHistory start new.seen
       → new.seen ≡ mid.seen ++ (made ++ more) → DrainsSome (replay start mid.seen) mid.number class now made
@@ -537,9 +679,24 @@ module _ (start : State) (passes : ℕ) where
         (subst (λ (l : List Entry). StoodAlone (first.made ++ l) old new) (sym (append-nil next.made)) alone);
   }
 
-  pub to_fault : (now class : ℕ) (old mid new : PassValue) → class < 16 → DrainsFirst start passes now class old mid → DrainsFailing start passes class now mid new
-      → LooksIn class mid new → DrainsToFault start passes now class old new
-  to_fault now class old mid new within first next looks =
+  run_first : (now class : ℕ) (old mid new : PassValue) (first : DrainsFirst start passes now class old mid) → LooksOn old mid
+      → (next : DrainsFailing start passes class now mid new) → FailedPlan start class new ⊎ FailedRun start class next.made mid new
+      → FailedPlan start class new ⊎ FailedRun start class (first.made ++ next.made) old new
+  run_first now class old mid new first on next (inl failed) = inl failed
+  run_first now class old mid new first on next (inr run) =
+      let fault = entry.Fault mid.number class ∷ [] in
+      let told : (first.made ++ next.made) ++ entry.Fault old.number class ∷ [] ≡ first.made ++ (next.made ++ fault) =
+      ap (λ (n : ℕ). (first.made ++ next.made) ++ entry.Fault n class ∷ []) (sym first.leads.number) ∙ append_assoc first.made next.made fault in
+      inr (record {
+        under = run.under;
+        whose = λ alone. run_behind class first.made next.made fault old mid new first.leads (leads_of (next.made ++ fault) mid new next.enters)
+            (leaves_lower class now old mid first.made first.rise (on.classes class).settled) (are_about mid.number class now next.made next.each) run.whose
+            (subst (λ (l : List Entry). StoodAlone l old new) told alone);
+      })
+
+  pub to_fault : (now class : ℕ) (old mid new : PassValue) → class < 16 → DrainsFirst start passes now class old mid → LooksOn old mid
+      → DrainsFailing start passes class now mid new → LooksIn class mid new → DrainsToFault start passes now class old new
+  to_fault now class old mid new within first on next looks =
       let fault = entry.Fault mid.number class ∷ [] in
       let leads = leads_of (next.made ++ fault) mid new next.enters in
       let told : first.made ++ (next.made ++ fault) ≡ (first.made ++ next.made) ++ entry.Fault old.number class ∷ [] =
@@ -558,11 +715,11 @@ module _ (start : State) (passes : ℕ) where
             (filter-append (is_about k) next.made fault ∙ (λ i. are_apart mid.number class now k next.made next.each (not_below k class lt) i
             ++ fault_apart mid.number class k (not_below k class lt) i));
         planned = next.planned;
-        either = next.either;
+        either = run_first now class old mid new first on next next.either;
       }
 
-  pub all_stop : (now class : ℕ) (stop : Stop) (old mid new : PassValue) → class < 16 → DrainsFirst start passes now class old mid → StopsIn start passes class now stop mid new
-      → LooksIn class mid new → DrainsTo start passes now (end_of stop class) old new
-  all_stop now class stop.DiskFault old mid new within first next looks = to_fault now class old mid new within first next looks
-  all_stop now class stop.Spent old mid new within first next looks = (partly now class old mid new within first next.0, next.1)
-  all_stop now class stop.NoMemory old mid new within first next looks = (partly now class old mid new within first next.0, next.1)
+  pub all_stop : (now class : ℕ) (stop : Stop) (old mid new : PassValue) → class < 16 → DrainsFirst start passes now class old mid → LooksOn old mid
+      → StopsIn start passes class now stop mid new → LooksIn class mid new → DrainsTo start passes now (end_of stop class) old new
+  all_stop now class stop.DiskFault old mid new within first on next looks = to_fault now class old mid new within first on next looks
+  all_stop now class stop.Spent old mid new within first on next looks = (partly now class old mid new within first next.0, next.1)
+  all_stop now class stop.NoMemory old mid new within first on next looks = (partly now class old mid new within first next.0, next.1)

@@ -12,3 +12,9 @@ mod AskFoundLemmas
 mod AskChainLemmas
 mod AskReadLemmas
 mod AskSeriesLemmas
+mod EmptyLemmas
+mod NoteLemmas
+mod NameLemmas
+mod PieceLemmas
+mod RoomLemmas
+pub mod StoreCross

@@ -1,9 +1,10 @@
 -- What the drain of all that is pending tells.
-use Rattle.std.specs.Prelude.{◌≡◌, ◌≢◌, ◌⊎◌, ◌<◌, ◌≤◌, ◌+◌, ◌^◌, ℕ, Bool, true, false, List, [], ◌∷◌, ◌++◌, length, Result, Ok, Err}
+use Rattle.std.specs.Prelude.{◌≡◌, ◌≢◌, ◌⊎◌, ◌<◌, ◌≤◌, ◌+◌, ℕ, Bool, true, false, List, [], ◌∷◌, ◌++◌, length, Result, Ok, Err}
 use Rattle.carbon_history.specs.declared.entry.Entry.{Entry}
-use Rattle.carbon_history.specs.declared.entry.Entry.TheVariants.{Fault}
+use Rattle.carbon_history.specs.declared.entry.Entry.TheVariants.{Drain, Fault}
 use Rattle.carbon_history.specs.Entries.{about_class, drains}
-use Rattle.shared_history.specs.Parts.{PassValue, own_entries}
+use Rattle.metric_path.specs.Class.{class_of}
+use Rattle.shared_history.specs.Parts.{PassValue}
 use Rattle.shared_history.specs.Views.{look_at}
 use Rattle.carbon_model.specs.State.{State}
 use Rattle.carbon_model.specs.Replay.{DrainsAll, DrainsUpTo, IsDrainOf, replay}
@@ -11,8 +12,8 @@ use Rattle.shared_store.specs.declared.drain_end.DrainEnd.{DrainEnd}
 use Rattle.shared_store.specs.declared.drain_end.DrainEnd.TheVariants.{Done, DiskFault, Spent, NoMemory}
 use Rattle.shared_store.specs.declared.drain_end.Stop.{Stop}
 use Rattle.shared_store.specs.declared.drain_end.Stop.TheVariants as stop
-use Rattle.shared_store.specs.Passes.{Enters, HasRoom, IsNoLess, IsSettled, IsUnderWay, planned_in}
-use Rattle.shared_store.specs.Steps.{FailedPlan}
+use Rattle.shared_store.specs.Passes.{Enters, HasRoom, IsNoLess, IsSettled, IsSpent, IsUnderWay, planned_in, settled_in}
+use Rattle.shared_store.specs.Steps.{FailedPlan, NeedsNoWrite}
 
 -- drains by a pass at a moment, of classes from this one on and below that one, none of a lower class than one before it
 abbrev pub RiseWithin : ℕ → ℕ → ℕ → ℕ → List Entry → Type 0
@@ -42,6 +43,27 @@ pub record DrainsWhole (start : State) (passes now count : ℕ) (old new : PassV
   pub alone : StoodAlone made old new → DrainsAll (replay start old.seen) old.number now made
   pub written : StoodAlone made old new → (k : ℕ) → k < 16 → IsWhole k new
 
+-- The last of these entries, the first of which came in this state, is the drain of a metric of the class that had something to write.
+pub record EndsUnwritten (s : State) (class : ℕ) (made : List Entry) : Type 0 where
+  pub before : List Entry
+  pub pass : ℕ
+  pub path : List ℕ
+  pub now : ℕ
+  pub is : made ≡ before ++ Drain pass path now ∷ []
+  pub here : class_of path ≡ class
+  pub needs : NeedsNoWrite (replay s before) path now → ⊥
+
+-- the pass sees a drain of the class that it did not see written whole
+abbrev pub IsOwed : ℕ → PassValue → Type 0
+IsOwed class pass = settled_in class pass < drains (about_class class pass.seen)
+
+-- The disk failed in a run of the drain of the class that is under way. Where the call stood alone, that is one from before it, and then it drained
+-- no metric of the class, or the last that it drained.
+pub record FailedRun (start : State) (class : ℕ) (made : List Entry) (old new : PassValue) : Type 0 where
+  pub under : IsUnderWay class new
+  pub whose : StoodAlone (made ++ Fault old.number class ∷ []) old new
+      → (IsOwed class old × (about_class class made ≡ [])) ⊎ EndsUnwritten (replay start old.seen) class made
+
 -- The disk of a class failed: the last entry tells so, behind drains of classes up to this one. It failed in a plan of what was pending, with no
 -- drain of the class under way, or in a run of the one that is.
 pub record DrainsToFault (start : State) (passes now class : ℕ) (old new : PassValue) : Type 0 where
@@ -52,7 +74,7 @@ pub record DrainsToFault (start : State) (passes now class : ℕ) (old new : Pas
   pub alone : StoodAlone (made ++ Fault old.number class ∷ []) old new → DrainsUpTo (replay start old.seen) old.number class now made
   pub written : StoodAlone (made ++ Fault old.number class ∷ []) old new → (k : ℕ) → k < class → IsWhole k new
   pub planned : HasPlanned class new
-  pub either : FailedPlan start class new ⊎ IsUnderWay class new
+  pub either : FailedPlan start class new ⊎ FailedRun start class made old new
 
 -- The call was cut short, in some class.
 pub record DrainsPartly (start : State) (passes now : ℕ) (old new : PassValue) : Type 0 where
@@ -67,7 +89,7 @@ pub record DrainsPartly (start : State) (passes now : ℕ) (old new : PassValue)
 abbrev pub DrainsTo : State → ℕ → ℕ → DrainEnd → PassValue → PassValue → Type 0
 DrainsTo start passes now (Done count) old new = DrainsWhole start passes now count old new × HasRoom new
 DrainsTo start passes now (DiskFault class) old new = DrainsToFault start passes now class old new
-DrainsTo start passes now Spent old new = DrainsPartly start passes now old new × (2 ^ 48 < length (own_entries new) + 4)
+DrainsTo start passes now Spent old new = DrainsPartly start passes now old new × IsSpent new
 DrainsTo start passes now NoMemory old new = DrainsPartly start passes now old new × HasRoom new
 
 -- ---- inside a call
@@ -95,18 +117,18 @@ pub record DrainsFailing (start : State) (passes class now : ℕ) (old new : Pas
   pub enters : Enters start passes (made ++ Fault old.number class ∷ []) old new
   pub each : AreDrainsOf old.number class now made
   pub planned : HasPlanned class new
-  pub either : FailedPlan start class new ⊎ IsUnderWay class new
+  pub either : FailedPlan start class new ⊎ FailedRun start class made old new
 
 -- what each end before a class is drained tells
 abbrev pub StopsIn : State → ℕ → ℕ → ℕ → Stop → PassValue → PassValue → Type 0
 StopsIn start passes class now stop.DiskFault old new = DrainsFailing start passes class now old new
-StopsIn start passes class now stop.Spent old new = DrainsPart start passes class now old new × (2 ^ 48 < length (own_entries new) + 4)
+StopsIn start passes class now stop.Spent old new = DrainsPart start passes class now old new × IsSpent new
 StopsIn start passes class now stop.NoMemory old new = DrainsPart start passes class now old new × HasRoom new
 
 -- what each end before a drain is written whole tells
 abbrev pub StopsWriting : State → ℕ → ℕ → Stop → PassValue → PassValue → Type 0
 StopsWriting start passes class stop.DiskFault old new = (now : ℕ) → DrainsFailing start passes class now old new
-StopsWriting start passes class stop.Spent old new = (new ≡ old) × (2 ^ 48 < length (own_entries new) + 4)
+StopsWriting start passes class stop.Spent old new = (new ≡ old) × IsSpent new
 StopsWriting start passes class stop.NoMemory old new = ⊥
 
 -- the drains of a class that the pass sees are written whole, and it has made no entry

@@ -9,3 +9,6 @@ pub mod Closes
 pub mod Drains
 pub mod Asks
 pub mod Asking
+pub mod Empty
+pub mod Naming
+pub mod Pieces

@@ -13,6 +13,10 @@ use Rattle.carbon_model.specs.Replay.{IsLegalHistory}
 abbrev pub HasRoom : PassValue → Type 0
 HasRoom pass = length (own_entries pass) + 4 ≤ 2 ^ 48
 
+-- the pass has no room for a call
+abbrev pub IsSpent : PassValue → Type 0
+IsSpent pass = 2 ^ 48 < length (own_entries pass) + 4
+
 -- The pass made these entries in a call: what it had seen begins what it sees now, which is legal from the opening state, names the passes that
 -- were made alone, and has of its own what it had and these, in order.
 pub record Enters (start : State) (passes : ℕ) (entries : List Entry) (old new : PassValue) : Type 0 where

@@ -28,7 +28,7 @@ impl<D: Disk, N: Named> Store<D, N> {
     ghost use Rattle.shared_store.specs.Passes.{HasRoom, LooksOn};
 
     // The locks of all classes, taken in order.
-    fn lock_all<'a>(
+    pub(crate) fn lock_all<'a>(
         &'a self,
         rt: &impl Wait,
         alloc: Global,
@@ -98,7 +98,7 @@ impl<D: Disk, N: Named> Store<D, N> {
     }
 
     // Enters a try, where the locks of all classes are held. The order is free before the pass looks at the classes.
-    fn enter_try(
+    pub(crate) fn enter_try(
         &self,
         rt: &impl Wait,
         desks: &mut Vec<MutexGuard<'_, ClassDesk<D, N>>>,

@@ -6,6 +6,7 @@ ghost use Rattle.shared_store.specs.Closes.{AllLook, EndsBelow, EndsClass};
 use crate::class_desk::ClassDesk;
 use crate::named::Named;
 use crate::order_desk::OrderDesk;
+use crate::room::Room;
 use crate::store::Store;
 use crate::tally::Tally;
 use metric_path::CLASSES;
@@ -151,9 +152,9 @@ impl<D: Disk + Drop, N: Named> Store<D, N> {
         let Store {
             order,
             classes,
-            disks,
-            tails,
+            room,
         } = self;
+        let Room { disks, tails } = room.into_inner();
         let Ends { disks, tails } = end_classes(
             rt,
             classes,

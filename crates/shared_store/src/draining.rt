@@ -2,6 +2,7 @@
 ghost use Rattle.std.specs.Prelude.{◌≡◌};
 ghost use Rattle.shared_store.specs.Drains.{end_of};
 
+use crate::call_room::has_room;
 use crate::class_desk::ClassDesk;
 use crate::drain_end::{DrainEnd, Stop};
 use crate::named::Named;
@@ -129,7 +130,7 @@ impl<D: Disk, N: Named> Store<D, N> {
         ensures whole { WritesTo N.start N.passes class result pass.old pass.new }
         ensures looks { LooksIn class pass.old pass.new }
     {
-        if pass.left() < 4 {
+        if !has_room(pass) {
             return Err(Stop::Spent);
         }
         match self.finish(rt, pass, class) {

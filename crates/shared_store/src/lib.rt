@@ -4,6 +4,7 @@
 
 mod ask_fault;
 mod asking;
+mod call_room;
 mod class_asking;
 mod class_desk;
 mod close;
@@ -14,8 +15,13 @@ mod finding;
 mod found_set;
 mod laws;
 mod named;
+mod naming;
+mod notes;
 mod order_desk;
+mod put_counts;
+mod putting;
 mod reading;
+mod room;
 mod runs;
 mod start;
 mod step;
@@ -24,11 +30,16 @@ mod tally;
 mod try_end;
 
 pub use ask_fault::AskFault;
+pub use call_room::{MOST_CALL_ENTRIES, has_room};
 pub use close::Closed;
 pub use drain_end::DrainEnd;
 pub use laws::a_started_shard_is_fresh;
 pub use named::Named;
+pub use put_counts::PutCounts;
 pub use start::Parts;
 pub use step::Step;
 pub use store::Store;
 pub use tally::Tally;
+
+#[cfg(test)]
+mod tests;

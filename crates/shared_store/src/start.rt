@@ -6,6 +6,7 @@ ghost use Rattle.shared_store.specs.Starts.{AreFreshClasses, IsFresh, IsFreshCla
 use crate::class_desk::ClassDesk;
 use crate::named::Named;
 use crate::order_desk::OrderDesk;
+use crate::room::Room;
 use crate::store::Store;
 use crate::tally::Tally;
 use metric_path::CLASSES;
@@ -29,23 +30,17 @@ pub struct Parts<D: Disk> {
 
 // Room for the locks, and for what a close hands out.
 #[derive(Drop)]
-struct Room<D: Disk, N: Named> {
+struct Places<D: Disk, N: Named> {
     classes: Vec<Mutex<ClassDesk<D, N>>>,
-    disks: Vec<D>,
-    tails: Vec<Tail>,
+    room: Room<D>,
     ghost no_class: { vec_len classes ≡ 0 },
     ghost class_room: { 16 ≤ vec_capacity classes },
-    ghost no_disk: { vec_len disks ≡ 0 },
-    ghost disk_room: { 16 ≤ vec_capacity disks },
-    ghost no_tail: { vec_len tails ≡ 0 },
-    ghost tail_room: { 16 ≤ vec_capacity tails },
 }
 
-fn make_room<D: Disk + Drop, N: Named>(alloc: Global) -> Result<Room<D, N>, AllocError> {
-    Ok(Room {
+fn take_places<D: Disk + Drop, N: Named>(alloc: Global) -> Result<Places<D, N>, AllocError> {
+    Ok(Places {
         classes: Vec::with_capacity(alloc, CLASSES as usize)?,
-        disks: Vec::with_capacity(alloc, CLASSES as usize)?,
-        tails: Vec::with_capacity(alloc, CLASSES as usize)?,
+        room: Room::take(alloc)?,
     })
 }
 
@@ -103,14 +98,10 @@ fn open_order<N: Named>(order: Order) -> Mutex<OrderDesk<N>>
 }
 
 #[tactic(auto, using(crate::proofs::StartLemmas::classes_of))]
-fn open<D: Disk + Drop, N: Named>(room: Room<D, N>, parts: Parts<D>) -> Store<D, N>
+fn open<D: Disk + Drop, N: Named>(places: Places<D, N>, parts: Parts<D>) -> Store<D, N>
     requires { IsFresh N.table N.passes N.told N.start N.faults parts }
 {
-    let Room {
-        classes,
-        disks,
-        tails: room,
-    } = room;
+    let Places { classes, room } = places;
     let Parts {
         order,
         tails,
@@ -119,8 +110,7 @@ fn open<D: Disk + Drop, N: Named>(room: Room<D, N>, parts: Parts<D>) -> Store<D,
     Store {
         order: open_order(order),
         classes: open_classes(classes, tails, shards),
-        disks,
-        tails: room,
+        room: Mutex::new(room),
     }
 }
 
@@ -134,8 +124,8 @@ impl<D: Disk + Drop, N: Named> Store<D, N> {
         requires { IsFresh N.table N.passes N.told N.start N.faults parts }
         ensures refused { IfErr result (λ back. back ≡ parts) }
     {
-        match make_room(alloc) {
-            Ok(room) => Ok(open(room, parts)),
+        match take_places(alloc) {
+            Ok(places) => Ok(open(places, parts)),
             Err(_) => Err(parts),
         }
     }

@@ -1,16 +1,17 @@
 //! The store.
-ghost use Rattle.std.specs.Prelude.{◌≡◌, ◌≤◌, vec_capacity, vec_len};
+ghost use Rattle.std.specs.Prelude.{◌≡◌, vec_len};
 
 use crate::class_desk::ClassDesk;
 use crate::named::Named;
 use crate::order_desk::OrderDesk;
+use crate::room::Room;
 use crate::step::Step;
 use crate::tally::Tally;
 use metric_line::Datum;
 use outside_io::Disk;
 use point_cache::Put;
 use shard_core::{Planned, Wrote};
-use shared_history::{Pass, Tail};
+use shared_history::Pass;
 use std::sync::{Mutex, MutexGuard, Wait};
 
 /// The shards of all classes, each behind a lock of its own, and their one history behind another. Locks are taken in rising class, that of the
@@ -19,14 +20,9 @@ use std::sync::{Mutex, MutexGuard, Wait};
 pub struct Store<D: Disk, N: Named> {
     pub(crate) order: Mutex<OrderDesk<N>>,
     pub(crate) classes: Vec<Mutex<ClassDesk<D, N>>>,
-    // Room for what a close hands out.
-    pub(crate) disks: Vec<D>,
-    pub(crate) tails: Vec<Tail>,
+    // It is behind a lock, though only a close opens it: so threads share a store of disks that they may not share.
+    pub(crate) room: Mutex<Room<D>>,
     ghost all: { vec_len classes ≡ 16 },
-    ghost no_disk: { vec_len disks ≡ 0 },
-    ghost disk_room: { 16 ≤ vec_capacity disks },
-    ghost no_tail: { vec_len tails ≡ 0 },
-    ghost tail_room: { 16 ≤ vec_capacity tails },
 }
 
 impl<D: Disk, N: Named> Store<D, N> {

@@ -1,4 +1,4 @@
-use Rattle.std.proofs.Common.{◌≡◌, Option, List, ℕ, refl, subst, sym, ◌∙◌, rules}
+use Rattle.std.proofs.Common.{◌≡◌, refl, subst, sym, ◌∙◌, rules}
 use Rattle.outside_io.proofs.FrameLemmas.{rose_after}
 use Rattle.outside_io.specs.Faults.{Rose}
 use Rattle.http_front.specs.Links.{Ends, TellsShort}

@@ -1,6 +1,5 @@
-use Rattle.std.proofs.Common.{ℕ, List, ◌∙◌, arith, drop, length, take, subst, length-take}
+use Rattle.std.proofs.Common.{ℕ, ◌∙◌, arith, length-take}
 use Rattle.std.proofs.lemmas.List.{take_rest}
-use Rattle.http_wire.specs.Reading.{Takes}
 use Rattle.http_front.specs.Origin.{origin_of}
 use Rattle.http_front.proofs.StandingLemmas.{breaks_short, breaks_waiting, takes_more}
 use Rattle.http_front.proofs.renderer.Renderer.serve_piece.Goals as goal

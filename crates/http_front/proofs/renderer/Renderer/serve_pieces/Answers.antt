@@ -1,4 +1,4 @@
-use Rattle.std.proofs.Common.{◌≡◌, ℕ, List, Option, ◌∙◌, arith, refl, subst, sym, take, length-take}
+use Rattle.std.proofs.Common.{ℕ, List, Option, ◌∙◌, arith, refl, subst, sym, take, length-take}
 use Rattle.std.proofs.lemmas.List.{length-take-le}
 use Rattle.std.specs.Io.KnownBytes.{Consumes, IsAtEnd, Keeps}
 use Rattle.http_front.specs.Origin.{origin_of, standing}

@@ -23,7 +23,7 @@ pub returns-in-Err-clause-drains : goal.returns-in-Err-clause-drains
 returns-in-Err-clause-drains g c =
     subst (λ (e : DrainEnd). DrainsTo g.N.Named.start g.N.Named.passes c.args.now e c.args.pass.now c.drain_class.new.pass) (sym c.end_of.ensures)
     (all_stop g.N.Named.start g.N.Named.passes c.args.now c.loop-class.class c.in-Err.stop c.args.pass.now c.loop-class.pass c.drain_class.new.pass
-    (omega (arith, c.loop-class-test.true)) c.loop-class.invariant.first c.in-Err.ensures.drains c.drain_class.ensures.looks)
+    (omega (arith, c.loop-class-test.true)) c.loop-class.invariant.first c.loop-class.invariant.looks c.in-Err.ensures.drains c.drain_class.ensures.looks)
 
 pub returns-clause-drains : goal.returns-clause-drains
 returns-clause-drains g c =

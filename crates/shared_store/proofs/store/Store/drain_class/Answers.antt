@@ -1,11 +1,13 @@
 use Rattle.std.proofs.Common.{arith}
-use Rattle.shared_store.proofs.DrainLemmas.{here_last, here_more, in_both, in_same, part_none, stops_more, stops_writing, turns_begin, turns_more}
+use Rattle.shared_store.proofs.DrainLemmas.{here_last, here_more, in_both, in_same, leaves_none, leaves_whole, part_none, stops_more, stops_writing, turns_begin, turns_more}
 use Rattle.shared_store.proofs.store.Store.drain_class.Goals as goal
 
 pub returns-in-Err-clause-drains : goal.returns-in-Err-clause-drains
 returns-in-Err-clause-drains g c =
     stops_writing g.N.Named.start g.N.Named.passes c.args.class c.args.now c.in-Err.stop c.args.pass.now c.pending-most.new.pass c.finish.new.pass
-    (part_none g.N.Named.start g.N.Named.passes c.args.class c.args.now c.args.pass.now c.pending-most.new.pass c.pending-most.ensures.enters) c.in-Err.ensures.writes
+    (part_none g.N.Named.start g.N.Named.passes c.args.class c.args.now c.args.pass.now c.pending-most.new.pass c.pending-most.ensures.enters)
+    (leaves_none g.N.Named.start g.N.Named.passes c.args.class c.args.pass.now c.pending-most.new.pass
+    (in_same c.args.class c.args.pass.now c.pending-most.new.pass c.pending-most.ensures.looks).here.settled) c.in-Err.ensures.writes
 
 pub loop-turn-init : goal.loop-turn-init
 loop-turn-init g c = record {
@@ -31,7 +33,9 @@ returns-in-Ok-false-clause-drains g c =
 pub returns-in-Err-drain_next-clause-drains : goal.returns-in-Err-drain_next-clause-drains
 returns-in-Err-drain_next-clause-drains g c =
     stops_more g.N.Named.start g.N.Named.passes c.args.class c.args.now c.in-Err-drain_next.stop c.args.pass.now c.loop-turn.pass c.drain_next.new.pass
-    c.loop-turn.invariant.turns.part c.in-Err-drain_next.ensures.drains
+    c.loop-turn.invariant.turns.part
+    (leaves_whole g.N.Named.start g.N.Named.passes c.args.class c.loop-turn.invariant.turns.part.made c.args.pass.now c.loop-turn.pass c.loop-turn.invariant.turns.whole)
+    c.in-Err-drain_next.ensures.drains
 
 pub returns-in-Ok-drain_next-clause-drains : goal.returns-in-Ok-drain_next-clause-drains
 returns-in-Ok-drain_next-clause-drains g c =
@@ -41,4 +45,6 @@ returns-in-Ok-drain_next-clause-drains g c =
 pub returns-in-Err-drain_next-2-clause-drains : goal.returns-in-Err-drain_next-2-clause-drains
 returns-in-Err-drain_next-2-clause-drains g c =
     stops_more g.N.Named.start g.N.Named.passes c.args.class c.args.now c.in-Err-drain_next-2.stop c.args.pass.now c.loop-turn.pass c.drain_next-2.new.pass
-    c.loop-turn.invariant.turns.part c.in-Err-drain_next-2.ensures.drains
+    c.loop-turn.invariant.turns.part
+    (leaves_whole g.N.Named.start g.N.Named.passes c.args.class c.loop-turn.invariant.turns.part.made c.args.pass.now c.loop-turn.pass c.loop-turn.invariant.turns.whole)
+    c.in-Err-drain_next-2.ensures.drains

@@ -4,7 +4,7 @@ use Rattle.shared_store.proofs.store.Store.drain_next.Goals as goal
 pub returns-in-Took-clause-drains : goal.returns-in-Took-clause-drains
 returns-in-Took-clause-drains g c =
     took_whole g.N.Named.start g.N.Named.passes c.args.class c.args.now _ c.write_whole.result c.args.pass.now c.plan_step.new.pass c.write_whole.new.pass
-    c.in-Took.ensures.enters c.in-Took.ensures.after c.write_whole.ensures.whole
+    c.in-Took.ensures.enters c.plan_step.ensures.looks c.in-Took.ensures.after c.write_whole.ensures.whole
 
 pub returns-in-Took-clause-looks : goal.returns-in-Took-clause-looks
 returns-in-Took-clause-looks g c =

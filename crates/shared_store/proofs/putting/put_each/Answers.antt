@@ -1,0 +1,55 @@
+use Rattle.std.proofs.Common.{rules, ◌≡◌, ◌∙◌, ℕ, Bool, true, false, List, length, Some, slice_get, sym, subst, arith}
+use Rattle.metric_line.specs.declared.datum.Datum.{Datum}
+use Rattle.shared_store.specs.Pieces.{CountsPut}
+use Rattle.shared_store.proofs.PieceLemmas.{few_so_far, get_there, puts_short, puts_whole, room_so_far, same_both, so_far_more}
+use Rattle.shared_store.proofs.putting.put_each.Goals as goal
+
+pub put_held-put-requires-clause-one : goal.put_held-put-requires-clause-one
+put_held-put-requires-clause-one g c = c.loop-datum.invariant.puts.enters.table ∙ c.requires.one
+
+pub put_held-put-requires-clause-room : goal.put_held-put-requires-clause-room
+put_held-put-requires-clause-room g c =
+    let n = g.N.Named in
+    room_so_far n.start n.passes c.args.points.now c.args.pass.now c.loop-datum.datum-index c.loop-datum.counts c.loop-datum.pass c.requires.room c.loop-datum-test.true c.loop-datum.invariant.puts
+
+pub count-requires : goal.count-requires
+count-requires g c =
+    let n = g.N.Named in
+    few_so_far n.start n.passes c.args.points.now c.args.pass.now c.loop-datum.datum-index c.loop-datum.counts c.loop-datum.pass c.requires.room c.loop-datum-test.true c.loop-datum.invariant.puts
+
+pub loop-datum-preserved : goal.loop-datum-preserved
+loop-datum-preserved g c =
+    let n = g.N.Named in
+    let v = c.loop-datum.invariant in
+    let points : List Datum = c.args.points.now in
+    let i : ℕ = c.loop-datum.datum-index in
+    let datum : Datum = c.datum-item.result in
+    let there : slice_get points i ≡ Some datum = get_there points i datum c.loop-datum-test.true (sym c.datum-item.is) in
+    let more : c.count.result ≡ true = search rules in
+    let put = c.put_held-put.result in
+    record {
+      sixteen = c.put_held-put.ensures.desks.0;
+      desks = c.put_held-put.ensures.desks.1;
+      puts = so_far_more n.start n.passes points c.args.pass.now i c.loop-datum.counts c.count.new.self datum c.loop-datum.pass c.put_held-put.new.pass v.puts there put
+          c.put_held-put.ensures.enters (subst (λ (b : Bool). CountsPut put b c.loop-datum.counts c.count.new.self) more c.count.ensures);
+      looks = same_both c.args.pass.now c.loop-datum.pass c.put_held-put.new.pass v.looks c.put_held-put.ensures.looks;
+    }
+
+pub returns-then-not-count-clause-puts : goal.returns-then-not-count-clause-puts
+returns-then-not-count-clause-puts g c =
+    let n = g.N.Named in
+    let v = c.loop-datum.invariant in
+    let points : List Datum = c.args.points.now in
+    let i : ℕ = c.loop-datum.datum-index in
+    let datum : Datum = c.datum-item.result in
+    let there : slice_get points i ≡ Some datum = get_there points i datum c.loop-datum-test.true (sym c.datum-item.is) in
+    let none : c.count.result ≡ false = search rules in
+    let put = c.put_held-put.result in
+    puts_short n.start n.passes points c.args.pass.now i c.loop-datum.counts c.count.new.self datum c.loop-datum.pass c.put_held-put.new.pass v.puts there put
+    c.put_held-put.ensures.enters c.put_held-put.ensures.after (subst (λ (b : Bool). CountsPut put b c.loop-datum.counts c.count.new.self) none c.count.ensures) c.loop-datum-test.true
+
+pub returns-clause-puts : goal.returns-clause-puts
+returns-clause-puts g c =
+    let n = g.N.Named in
+    let all : c.loop-datum.datum-index ≡ length c.args.points.now = omega (arith, c.loop-datum-test.false, c.loop-datum.auto.datum-index-end) in
+    puts_whole n.start n.passes c.args.points.now c.args.pass.now c.loop-datum.datum-index c.loop-datum.counts c.loop-datum.pass c.loop-datum.invariant.puts all

@@ -1,0 +1,127 @@
+//! The points of a piece, put under the locks of all classes.
+ghost use Rattle.std.specs.Prelude.{◌≡◌, vec_len};
+ghost use Rattle.carbon_history.specs.Entries.{listed};
+ghost use Rattle.shared_store.specs.Asking.{AreDesks};
+ghost use Rattle.shared_store.specs.Passes.{Enters, HasRoom, SameLooks};
+ghost use Rattle.shared_store.specs.Pieces.{HasRoomFor, PutsFirst};
+ghost use Rattle.shared_store.specs.Steps.{AfterPut, put_entry};
+
+use crate::class_desk::ClassDesk;
+use crate::events::put_event;
+use crate::named::Named;
+use crate::order_desk::OrderDesk;
+use crate::put_counts::PutCounts;
+use crate::store::Store;
+use metric_line::Datum;
+use outside_io::Disk;
+use point_cache::Put;
+use shared_history::Pass;
+use std::alloc::Global;
+use std::sync::{MutexGuard, Wait};
+
+impl<D: Disk, N: Named> ClassDesk<D, N> {
+    ghost use Rattle.std.specs.Prelude.{◌≡◌};
+    ghost use Rattle.metric_path.specs.Class.{class_of};
+    ghost use Rattle.carbon_history.specs.Entries.{listed};
+    ghost use Rattle.shared_store.specs.Passes.{Enters, HasRoom, SameLooks};
+    ghost use Rattle.shared_store.specs.Steps.{AfterPut, put_entry};
+
+    /// Puts a point of the class, where the lock of the order is held.
+    pub(crate) fn put_under(
+        &mut self,
+        order: &mut OrderDesk<N>,
+        pass: &mut Pass,
+        datum: &Datum,
+    ) -> Put
+        requires here { class_of datum.now.path ≡ self.old.class }
+        requires one { pass.old.table ≡ N.table }
+        requires room { HasRoom pass.old }
+        ensures enters { Enters N.start N.passes
+            (listed (put_entry pass.old.number datum.now.path datum.now.time datum.now.value result))
+            pass.old pass.new }
+        ensures after { AfterPut N.start datum.now.path datum.now.time datum.now.value result pass.new }
+        ensures looks { SameLooks pass.old pass.new }
+        ensures class { self.new.class ≡ self.old.class }
+    {
+        let put = self.shard.put(datum);
+        let event = put_event(put, datum);
+        order.tell(pass, &mut self.tail, event);
+        put
+    }
+}
+
+// Puts a point, where the locks of all classes and that of the order are held.
+fn put_held<D: Disk, N: Named>(
+    desks: &mut Vec<MutexGuard<'_, ClassDesk<D, N>>>,
+    order: &mut OrderDesk<N>,
+    pass: &mut Pass,
+    datum: &Datum,
+) -> Put
+    requires desks { (vec_len desks.old ≡ 16) × AreDesks desks.old.items }
+    requires one { pass.old.table ≡ N.table }
+    requires room { HasRoom pass.old }
+    ensures enters { Enters N.start N.passes
+        (listed (put_entry pass.old.number datum.now.path datum.now.time datum.now.value result))
+        pass.old pass.new }
+    ensures after { AfterPut N.start datum.now.path datum.now.time datum.now.value result pass.new }
+    ensures looks { SameLooks pass.old pass.new }
+    ensures desks { (vec_len desks.new ≡ 16) × AreDesks desks.new.items }
+{
+    let class = datum.path.class();
+    let desk = &mut desks[class as usize];
+    desk.put_under(order, pass, datum)
+}
+
+// Puts points in order, up to the first for which there is no memory.
+fn put_each<D: Disk, N: Named>(
+    desks: &mut Vec<MutexGuard<'_, ClassDesk<D, N>>>,
+    order: &mut OrderDesk<N>,
+    pass: &mut Pass,
+    points: &[Datum],
+) -> PutCounts
+    requires desks { (vec_len desks.old ≡ 16) × AreDesks desks.old.items }
+    requires one { pass.old.table ≡ N.table }
+    requires room { HasRoomFor points.now pass.old }
+    ensures puts { PutsFirst N.start N.passes points.now result pass.old pass.new }
+    ensures looks { SameLooks pass.old pass.new }
+{
+    order.see_all(pass);
+    let mut counts = PutCounts::new();
+    for datum in points {
+        let put = put_held(desks, order, pass, datum);
+        if !counts.count(put) {
+            return counts;
+        }
+    }
+    counts
+}
+
+impl<D: Disk, N: Named> Store<D, N> {
+    ghost use Rattle.std.specs.Prelude.{◌≡◌, ◌⊎◌};
+    ghost use Rattle.shared_store.specs.Passes.{SameLooks};
+    ghost use Rattle.shared_store.specs.Pieces.{HasRoomFor, PutsFirst, PutsNone};
+
+    /// Puts the points of a piece in order, under the locks of all classes and that of the order, which are taken once: one entry for each
+    /// point, with its outcome. Want of memory ends it, and what was put before stays.
+    pub fn put_all(
+        &self,
+        rt: &impl Wait,
+        alloc: Global,
+        pass: &mut Pass,
+        points: &[Datum],
+    ) -> PutCounts
+        requires one { pass.old.table ≡ N.table }
+        requires room { HasRoomFor points.now pass.old }
+        ensures puts { PutsFirst N.start N.passes points.now result pass.old pass.new
+            ⊎ PutsNone N.start N.passes result pass.old pass.new }
+        ensures looks { SameLooks pass.old pass.new }
+    {
+        let Ok(mut desks) = self.lock_all(rt, alloc) else {
+            self.order.lock(rt).see_all(pass);
+            return PutCounts::new();
+        };
+        let mut guard = self.order.lock(rt);
+        let order = &mut *guard;
+        put_each(&mut desks, order, pass, points)
+    }
+}
