@@ -1,21 +1,23 @@
-//! The storage daemon: its words, its standard streams, its disks and its exit status. All else is `carbon_run::run`.
+//! The storage daemon: its words, its standard streams, its disks, the system's clock and ports, and its exit status. All else is `carbon_run::run`.
 //!
 //! The ring files stand below the working folder, those of class 0 in `data/00`, and so on to `data/15`.
 #![tactic(auto)]
 
 ghost use Rattle.std.specs.Prelude.{◌≡◌, IfOk, vec_len};
 
+mod host_net;
+
 use carbon_run::run;
-use outside_io::{ClosedNet, FixedClock, FolderDisk, StdSink, StdSource};
+use host_net::{HostNet, close_at_stop};
+use outside_io::{FolderDisk, StdSink, StdSource};
 use std::alloc::AllocError;
+use std::net::{IpAddr, Ipv4Addr};
 use std::process::ExitCode;
-use std::{env, io};
+use std::{env, io, thread};
+use tcp_net::{SystemClock, TcpNet};
 
 /// How many classes there are, each with a disk of its own.
 const CLASSES: usize = metric_path::CLASSES as usize;
-
-/// The moment of the clock, which no command reads yet: 2023-11-14 22:13:20 UTC.
-const MOMENT: u64 = 1_700_000_000;
 
 fn main(rt: HostRuntime) -> io::Result<ExitCode> {
     let alloc = rt.alloc();
@@ -24,12 +26,30 @@ fn main(rt: HostRuntime) -> io::Result<ExitCode> {
     let mut input = StdSource::new(&rt);
     let mut out = StdSink::new(rt.clone()?);
     let mut conf = FolderDisk::new(rt.clone()?, String::from_str(alloc, "conf")?);
-    let clock = FixedClock::new(MOMENT);
-    let mut net = ClosedNet;
+    let clock = SystemClock::new(rt);
+    let tcp = if is_server(&words) {
+        TcpNet::new(alloc, rt, IpAddr::V4(Ipv4Addr::UNSPECIFIED)).ok()
+    } else {
+        None
+    };
+    if let Some(tcp) = &tcp {
+        let closer = tcp.closer()?;
+        // Never joined: it may wait for a line when all else has ended.
+        let _ = thread::spawn(&rt, move || close_at_stop(rt, closer))?;
+    }
+    let mut net = HostNet::new(rt, tcp);
     let report = run(
         &rt, alloc, &words, &mut input, &mut out, &mut conf, disks, &clock, &mut net,
     );
     Ok(ExitCode::from(report.status))
+}
+
+/// Whether the command needs ports. Only then is the standard input listened to for the stop.
+fn is_server(words: &[String]) -> bool {
+    match words.first() {
+        Some(word) => word.as_str() == "serve",
+        None => false,
+    }
 }
 
 /// The words behind the program's name. Where one of them is no text they are none, which is no command.

@@ -9,6 +9,7 @@ use crate::text::first_word;
 use std::alloc::{AllocError, Global};
 use std::mem;
 use std::sync::Wait;
+use std::thread::Threads;
 
 /// The case that is being said, the one before it, and the last run.
 #[derive(Drop)]
@@ -31,7 +32,7 @@ impl Cases {
     /// Does a line, and writes what it tells.
     pub fn take(
         &mut self,
-        rt: &impl Wait,
+        rt: &(impl Threads + Wait + Sync),
         alloc: Global,
         line: &str,
         page: &mut String,
@@ -71,7 +72,12 @@ impl Cases {
         }
     }
 
-    fn run(&mut self, rt: &impl Wait, alloc: Global, page: &mut String) -> Result<(), AllocError> {
+    fn run(
+        &mut self,
+        rt: &(impl Threads + Wait + Sync),
+        alloc: Global,
+        page: &mut String,
+    ) -> Result<(), AllocError> {
         self.ran = Some(run_case(rt, alloc, &self.case, page)?);
         Ok(())
     }

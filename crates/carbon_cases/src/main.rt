@@ -43,6 +43,7 @@ use std::alloc::Global;
 use std::io::{self, BufRead, BufReader};
 use std::process::ExitCode;
 use std::sync::Wait;
+use std::thread::Threads;
 
 fn main(rt: HostRuntime) -> io::Result<ExitCode> {
     let alloc = rt.alloc();
@@ -58,7 +59,7 @@ fn main(rt: HostRuntime) -> io::Result<ExitCode> {
 }
 
 // Does a line and prints what it tells.
-fn take_line<R: Print + Wait>(
+fn take_line<R: Print + Threads + Wait + Sync>(
     rt: &R,
     alloc: Global,
     cases: &mut Cases,

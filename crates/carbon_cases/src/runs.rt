@@ -6,6 +6,7 @@ use carbon_run::{Report, run};
 use outside_io::{ClosedNet, FixedClock, MemDisk, MemSink, MemSource};
 use std::alloc::{AllocError, Global};
 use std::sync::Wait;
+use std::thread::Threads;
 
 // The moment of the clock, which no command reads.
 const MOMENT: u64 = 1_700_000_000;
@@ -25,7 +26,7 @@ pub struct Ran {
 
 /// Runs a case once, with one more cut of its input.
 fn run_once(
-    rt: &impl Wait,
+    rt: &(impl Threads + Wait + Sync),
     alloc: Global,
     case: &Case,
     cut: Option<usize>,
@@ -56,7 +57,7 @@ fn run_once(
 
 /// Runs a case and tells its status and what it wrote.
 pub fn run_case(
-    rt: &impl Wait,
+    rt: &(impl Threads + Wait + Sync),
     alloc: Global,
     case: &Case,
     page: &mut String,
@@ -71,7 +72,7 @@ pub fn run_case(
 
 // Runs a case once for each place inside its input, and tells those at which it ends otherwise.
 fn run_cut(
-    rt: &impl Wait,
+    rt: &(impl Threads + Wait + Sync),
     alloc: Global,
     case: &Case,
     uncut: &Ran,

@@ -1,4 +1,6 @@
 pub mod ConfLemmas
 pub mod FrontLemmas
 pub mod RunLemmas
+mod ServingLemmas
 mod TellLemmas
+mod WordsLemmas

@@ -222,10 +222,10 @@ came_to {D = D} d own told start earlier made served passes closed streams mid a
 
 -- ---- from the shards to the disks that were given
 
-less_told : (earlier earlier' count failed : ℕ) → earlier' ≤ earlier → capped (earlier + count) ≤ failed → capped (earlier' + count) ≤ failed
+pub less_told : (earlier earlier' count failed : ℕ) → earlier' ≤ earlier → capped (earlier + count) ≤ failed → capped (earlier' + count) ≤ failed
 less_told earlier earlier' count failed later told = omega (arith, later, told)
 
-less_rose : (earlier earlier' failed : ℕ) → earlier' ≤ earlier → Rose earlier failed → Rose earlier' failed
+pub less_rose : (earlier earlier' failed : ℕ) → earlier' ≤ earlier → Rose earlier failed → Rose earlier' failed
 less_rose earlier earlier' failed later rose = omega (arith, later, rose)
 
 came_earlier : {D : Type 0} (d : Ghosts D) (told : ℕ → Option Image) (start : State) (earlier earlier' : ℕ → ℕ) (streams : Streams) (answer : Answer D) → ((k : ℕ) → earlier' k ≤ earlier k)
@@ -260,7 +260,7 @@ told_back : {D : Type 0} {d : Ghosts D} (o : Option (Shard D d)) → option_and_
 told_back None = refl
 told_back (Some shard) = refl
 
-back_same : {D : Type 0} {d : Ghosts D} (shards : List (Shard D d)) (k : ℕ) → told_of d.image (map (λ shard. shard.disk) shards) k ≡ told_at shards k
+pub back_same : {D : Type 0} {d : Ghosts D} (shards : List (Shard D d)) (k : ℕ) → told_of d.image (map (λ shard. shard.disk) shards) k ≡ told_at shards k
 back_same {d = d} shards k = rw (slice_get-map (λ shard. shard.disk) shards k) (told_back (slice_get shards k))
 
 pub length_back : {D : Type 0} {d : Ghosts D} (shards : List (Shard D d)) → length (map (λ shard. shard.disk) shards) ≡ length shards

@@ -1,5 +1,6 @@
-pub mod Words
 pub mod Conf
 pub mod Texts
 pub mod Runs
 pub mod Stores
+pub mod Serves
+pub mod Commands

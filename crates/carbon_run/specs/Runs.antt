@@ -1,7 +1,7 @@
 -- What a run of carbon comes to.
 use Rattle.std.specs.Prelude.{◌≡◌, ◌<◌, ◌⊎◌, ℕ, List, [], ◌∷◌, ◌++◌, Option, Some, IfSome, Ok, slice_get, string_bytes}
 use Rattle.std.specs.Io.KnownBytes.{Appends}
-use Rattle.outside_io.specs.Image.{Image, WhereKnown}
+use Rattle.outside_io.specs.Image.{Image}
 use Rattle.outside_io.specs.Faults.{Rose}
 use Rattle.outside_io.specs.Sink.{AppendsFront}
 use Rattle.outside_io.specs.declared.disk.Disk.{Ghosts}
@@ -10,22 +10,21 @@ use Rattle.outside_io.specs.declared.sink.Sink.{Ghosts as SinkGhosts}
 use Rattle.carbon_history.specs.declared.entry.Entry.{Entry}
 use Rattle.carbon_history.specs.declared.entry.Entry.TheVariants.{Fault}
 use Rattle.carbon_model.specs.State.{State}
-use Rattle.carbon_model.specs.RingFiles.{Opens, Settings, Stands}
+use Rattle.carbon_model.specs.RingFiles.{Opens, Settings}
 use Rattle.carbon_model.specs.Replay.{IsLegalHistory, replay}
-use Rattle.schema_rules.specs.LayoutBy.{layout_by}
-use Rattle.schema_rules.specs.RulesOf.{RulesValue}
 use Rattle.shard_core.specs.declared.fault.StartFault.{StartFault}
 use Rattle.shard_core.specs.declared.fault.StartFault.TheVariants.{Damaged, DiskFault, NoMemory}
 use Rattle.shard_set.specs.Disks.{disk_faults, told_of}
 use Rattle.shard_set.specs.Opening.{AreSound, RefusesAll}
 use Rattle.shard_set.specs.declared.refused.Refusal.{Refusal}
 use Rattle.shared_store.specs.Closes.{EndsAs}
+pub use Rattle.carbon_serve.specs.Serves.{IsDrained}
 use Rattle.carbon_script.specs.Sessions.{Ends, SessionValue}
 use Rattle.carbon_script.specs.declared.serve.ScriptEnd.{ScriptEnd}
 use Rattle.carbon_script.specs.declared.serve.ScriptEnd.TheVariants as end
-use Rattle.carbon_run.specs.Words.{limit_of, order_of}
-use Rattle.carbon_run.specs.declared.words.Options.{Options}
-use Rattle.carbon_run.specs.Conf.{IsRefused, rules_in}
+use Rattle.carbon_words.specs.declared.reading.WordsFault.{WordsFault}
+use Rattle.carbon_words.specs.declared.reading.WordsFault.TheVariants as words
+use Rattle.carbon_run.specs.Conf.{IsRefused}
 use Rattle.carbon_run.specs.declared.conf.ConfFault.{ConfFault}
 use Rattle.carbon_run.specs.declared.conf.ConfFault.TheVariants as conf
 use Rattle.carbon_run.specs.Texts.{conf_fault_line, damaged_line, disk_fault_line, limit_line, no_memory_line, read_fault_line, rule_fault_line, usage_line}
@@ -57,7 +56,7 @@ pub record TellsAlone (status : ℕ) (line : List ℕ) (answer : ℕ) (before af
   pub told : answer ≡ status → Appends before after line
   pub short : answer ≡ 7 → AppendsFront before after line
 
--- ---- runs that end before the script
+-- ---- runs that end before their command
 
 -- The words are no command: that alone is told, and nothing is touched.
 pub record NoCommand {D : Type 0} (streams : Streams) (given : List D) (answer : Answer D) : Type 0 where
@@ -65,6 +64,18 @@ pub record NoCommand {D : Type 0} (streams : Streams) (given : List D) (answer :
   pub history : answer.history ≡ []
   pub disks : answer.disks ≡ given
   pub input : streams.left' ≡ streams.left
+
+-- There was no memory to read the words: the same.
+pub record NoWords {D : Type 0} (streams : Streams) (given : List D) (answer : Answer D) : Type 0 where
+  pub tells : TellsAlone 8 no_memory_line answer.status streams.written streams.written'
+  pub history : answer.history ≡ []
+  pub disks : answer.disks ≡ given
+  pub input : streams.left' ≡ streams.left
+
+-- how it is told why the words say nothing
+abbrev pub TellsWords : WordsFault → ℕ → Option (List ℕ) → Option (List ℕ) → Type 0
+TellsWords words.Usage answer before after = TellsAlone 2 usage_line answer before after
+TellsWords words.NoMemory answer before after = TellsAlone 8 no_memory_line answer before after
 
 -- how a fault of the rule files is told
 abbrev pub TellsConf : ConfFault → ℕ → Option (List ℕ) → Option (List ℕ) → Type 0
@@ -126,15 +137,6 @@ FailsToTell end.InputLimit answer = answer ≡ 7
 FailsToTell end.Spent answer = answer ≡ 7
 FailsToTell end.NoMemory answer = answer ≡ 7
 
--- each disk that tells its image alone stands for what a state keeps of its class
-abbrev pub DisksStand : {D : Type 0} → (D → Option Image) → (ℕ → Option Image) → List D → State → Type 0
-DisksStand image told disks s = (k : ℕ) → IfSome (slice_get disks k) (λ disk. WhereKnown (told k) (image disk) (λ opening now. Stands opening now s.kept k))
-
--- nothing is pending, and the disks stand for all that is kept
-pub record IsDrained {D : Type 0} (image : D → Option Image) (told : ℕ → Option Image) (disks : List D) (s : State) : Type 0 where
-  pub none : (class : ℕ) → class < 16 → s.pending class ≡ []
-  pub stand : DisksStand image told disks s
-
 -- the last entry is that the disk of a class failed, whose count of failed calls rose
 pub record EndsByDisk {D : Type 0} (d : Ghosts D) (earlier : ℕ → ℕ) (class : ℕ) (answer : Answer D) : Type 0 where
   pub before : List Entry
@@ -162,19 +164,3 @@ pub record Scripted {D : Type 0} (d : Ghosts D) (settings : Settings) (streams :
   pub start : State
   pub opens : Opens settings (told_of d.image given) start
   pub came : CameTo d (told_of d.image given) start (disk_faults d.faults given) streams answer
-
--- ---- all runs of the command
-
--- what is fixed for a run by its rules and by what its words say
-abbrev pub settings_by : RulesValue → Options → Settings
-settings_by rules said = record { rules = layout_by rules; limit = limit_of said; strategy = order_of said }
-
--- both rule files are read, and these are the rules that they give
-pub record HasRules {D : Type 0} (d : Ghosts D) (said : Options) (folder : D) (streams : Streams) (disks : List D) (answer : Answer D) : Type 0 where
-  pub rules : RulesValue
-  pub read : IfSome (d.image folder) (λ image. rules_in image ≡ Ok rules)
-  pub comes : NoStart d streams disks answer ⊎ Scripted d (settings_by rules said) streams disks answer
-
--- A run of `script` with these options: it has no rules; or a shard does not start; or the script runs.
-abbrev pub Outcome : {D : Type 0} → Ghosts D → Options → D → D → Streams → List D → Answer D → Type 0
-Outcome d said folder folder' streams disks answer = NoRules d folder folder' streams disks answer ⊎ HasRules d said folder streams disks answer

@@ -3,6 +3,7 @@ use Rattle.std.specs.Prelude.{ℕ, List, ◌++◌, codes, decimal}
 use Rattle.schema_rules.specs.declared.fault.RuleFile.{RuleFile}
 use Rattle.schema_rules.specs.declared.fault.RuleCause.{RuleCause}
 use Rattle.schema_rules.specs.declared.fault.RuleCause.TheVariants.{TooLong, Line, BadPattern, BadRetention, BadLayout, BadFactor, BadMethod}
+use Rattle.shared_store.specs.declared.tally.Tally.{Tally}
 use Rattle.carbon_run.specs.Conf.{rule_file_name}
 
 unfoldable pub usage_line : List ℕ
@@ -33,6 +34,32 @@ disk_fault_line class = disk_fault_word ++ (decimal class ++ codes "\n")
 
 unfoldable pub conf_fault_line : List ℕ
 conf_fault_line = codes "carbon: disk fault conf\n"
+
+unfoldable pub no_port_line : List ℕ
+no_port_line = codes "carbon: no port\n"
+
+-- ---- the end of a server
+
+unfoldable pub stored_word : List ℕ
+stored_word = codes "stored "
+
+unfoldable pub replaced_word : List ℕ
+replaced_word = codes " replaced "
+
+unfoldable pub full_word : List ℕ
+full_word = codes " full "
+
+unfoldable pub drains_word : List ℕ
+drains_word = codes " drains "
+
+abbrev pub counted : List ℕ → ℕ → List ℕ
+counted word count = word ++ decimal count
+
+-- how many points were put, by how that ended, and how many metrics were drained
+abbrev pub tally_line : Tally → List ℕ
+tally_line t =
+    counted stored_word t.stored
+    ++ (counted replaced_word t.replaced ++ (counted full_word t.full ++ (counted drains_word t.drains ++ codes "\n")))
 
 -- ---- a refused rule file
 

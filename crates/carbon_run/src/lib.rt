@@ -2,14 +2,19 @@
 #![tactic(auto)]
 
 mod conf;
+mod line;
 mod report;
 mod rule_line;
 mod scripts;
+mod serving;
+mod tally_line;
 mod telling;
-#[cfg(test)]
-mod tests;
 mod top;
-mod words;
 
 pub use report::Report;
 pub use top::run;
+
+#[cfg(test)]
+mod serve_tests;
+#[cfg(test)]
+mod tests;

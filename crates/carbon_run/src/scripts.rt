@@ -36,7 +36,8 @@ pub(crate) fn run_script<R: Wait, D: Disk + Drop, S: Source, K: Sink>(
     ensures comes { NoStart D.Disk
         (streams_of S.Source K.Sink input.old input.new out.old out.new) disks.items
         (answer_of result.status result.history result.disks.items)
-        ⊎ Scripted D.Disk (settings_of setup.now) (streams_of S.Source K.Sink input.old input.new out.old out.new) disks.items
+        ⊎ Scripted D.Disk (settings_of setup.now)
+        (streams_of S.Source K.Sink input.old input.new out.old out.new) disks.items
         (answer_of result.status result.history result.disks.items) }
     ensures reads { CountsReads S.Source input.old input.new (result.status ≡ 6) }
     ensures writes { CountsWrites K.Sink out.old out.new (result.status ≡ 7) }
@@ -174,8 +175,12 @@ fn tell_end<K: Sink>(end: ScriptEnd, out: &mut K) -> u8
     }
 }
 
-// Tells that memory ran out before the script, and hands the disks back.
-fn report_no_memory<D: Disk, K: Sink>(shards: Vec<Shard<D>>, room: Vec<D>, out: &mut K) -> Report<D>
+/// Tells that memory ran out before the command began, and hands the disks back.
+pub(crate) fn report_no_memory<D: Disk, K: Sink>(
+    shards: Vec<Shard<D>>,
+    room: Vec<D>,
+    out: &mut K,
+) -> Report<D>
     requires empty { vec_len room ≡ 0 }
     requires room { vec_len shards ≤ vec_capacity room }
     ensures told { TellsAlone 8 no_memory_line result.status (K.written out.old)
@@ -188,8 +193,8 @@ fn report_no_memory<D: Disk, K: Sink>(shards: Vec<Shard<D>>, room: Vec<D>, out: 
     Report::without_command(status, hand_back(shards, room))
 }
 
-// Tells why the shards did not start.
-fn tell_refusal<K: Sink>(refusal: &Refusal, out: &mut K) -> u8
+/// Tells why the shards did not start.
+pub(crate) fn tell_refusal<K: Sink>(refusal: &Refusal, out: &mut K) -> u8
     ensures told { TellsStart refusal.now.fault refusal.now.class result (K.written out.old)
         (K.written out.new) }
     ensures writes { CountsWrites K.Sink out.old out.new (result ≡ 7) }

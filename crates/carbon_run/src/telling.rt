@@ -3,12 +3,13 @@ ghost use Rattle.std.specs.Io.KnownBytes.{Appends};
 ghost use Rattle.outside_io.specs.Frames.{CountsWrites};
 ghost use Rattle.outside_io.specs.Sink.{AppendsFront};
 ghost use Rattle.carbon_run.specs.Runs.{TellsAlone};
-ghost use Rattle.carbon_run.specs.Texts.{usage_line, read_fault_line, no_memory_line, limit_line, damaged_line, damaged_word, disk_fault_line, disk_fault_word, conf_fault_line, rule_fault_line};
+ghost use Rattle.carbon_run.specs.Texts.{usage_line, read_fault_line, no_memory_line, limit_line, damaged_line, damaged_word, disk_fault_line, disk_fault_word, conf_fault_line, no_port_line, rule_fault_line, tally_line};
 
-use crate::rule_line::RuleLine;
+use crate::line::Line;
 use itoa::Buffer;
 use outside_io::{Sink, WriteFault, write_all};
 use schema_rules::{RuleCause, RuleFile};
+use shared_store::Tally;
 
 /// Writes the fault line of a status. The answer is that status, or 7 where the line could not be written.
 fn tell<K: Sink>(out: &mut K, status: u8, line: &[u8]) -> u8
@@ -56,6 +57,24 @@ pub(crate) fn tell_limit<K: Sink>(out: &mut K) -> u8
     ensures writes { CountsWrites K.Sink out.old out.new (result ≡ 7) }
 {
     tell(out, 10, b"carbon: limit\n")
+}
+
+/// Tells that the ports could not be had: status 9, or 7 where that could not be written.
+#[tactic(auto, unfolding(crate::specs::Texts::no_port_line))]
+pub(crate) fn tell_no_port<K: Sink>(out: &mut K) -> u8
+    ensures told { TellsAlone 9 no_port_line result (K.written out.old) (K.written out.new) }
+    ensures writes { CountsWrites K.Sink out.old out.new (result ≡ 7) }
+{
+    tell(out, 9, b"carbon: no port\n")
+}
+
+/// Tells the counts of a server that drained all: status 0, or 7 where they could not be written.
+pub(crate) fn tell_tally<K: Sink>(out: &mut K, tally: &Tally) -> u8
+    ensures told { TellsAlone 0 (tally_line tally.now) result (K.written out.old) (K.written out.new) }
+    ensures writes { CountsWrites K.Sink out.old out.new (result ≡ 7) }
+{
+    let line = Line::of_tally(tally);
+    tell(out, 0, line.text())
 }
 
 /// Tells the first damaged file, by its name: status 4, or 7 where that could not be written.
@@ -144,6 +163,6 @@ pub(crate) fn tell_rule_fault<K: Sink>(out: &mut K, file: RuleFile, cause: RuleC
         (K.written out.new) }
     ensures writes { CountsWrites K.Sink out.old out.new (result ≡ 7) }
 {
-    let line = RuleLine::of(file, cause);
+    let line = Line::of_fault(file, cause);
     tell(out, 3, line.text())
 }

@@ -10,6 +10,7 @@ use std::alloc::{AllocError, Global};
 use std::process::Abort;
 use std::sync::Wait;
 use std::test::Fail;
+use std::thread::Threads;
 
 fn assert_told(rt: &impl Abort, alloc: Global, file: RuleFile, cause: RuleCause, line: &[u8]) {
     let mut out = MemSink::new(alloc);
@@ -98,7 +99,7 @@ fn script_words(alloc: Global) -> Result<Vec<String>, AllocError> {
 }
 
 // A run of a script over the folders, and its status.
-fn run_folders<R: Wait>(
+fn run_folders<R: Threads + Wait + Sync>(
     rt: &R,
     host: &HostRuntime,
     words: &[String],
@@ -122,7 +123,7 @@ fn run_folders<R: Wait>(
     Ok(report.status)
 }
 
-fn assert_run<R: Wait + Abort>(
+fn assert_run<R: Threads + Wait + Abort + Sync>(
     rt: &R,
     host: &HostRuntime,
     script: &[u8],

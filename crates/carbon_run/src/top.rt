@@ -1,33 +1,46 @@
-ghost use Rattle.std.specs.Prelude.{◌≡◌, None, IfSome, map, string_bytes, vec_len};
+ghost use Rattle.std.specs.Prelude.{◌≡◌, ◌≤◌, ◌⊎◌, None, IfSome, map, string_bytes, vec_len};
 ghost use Rattle.outside_io.specs.Frames.{CountsReads, CountsWrites};
-ghost use Rattle.carbon_run.specs.Runs.{NoCommand, Outcome, TellsConf, answer_of, streams_of};
-ghost use Rattle.carbon_run.specs.Words.{script_options};
+ghost use Rattle.shard_set.specs.Opening.{settings_of};
+ghost use Rattle.carbon_words.specs.CommandLine.{HasLimit, IsSound, command_of};
+ghost use Rattle.carbon_run.specs.Commands.{Does, Outcome, beside, settings_by};
+ghost use Rattle.carbon_run.specs.Runs.{NoCommand, NoWords, TellsConf, TellsWords, answer_of, streams_of};
 
 use crate::Report;
 use crate::conf::{ConfFault, read_rules};
 use crate::scripts::run_script;
+use crate::serving::run_server;
 use crate::telling::{tell_conf_fault, tell_no_memory, tell_rule_fault, tell_usage};
-use crate::words::read_words;
+use carbon_words::{Command, Options, WordsFault, read_words};
 use outside_io::{Clock, Disk, Net, Sink, Source};
+use schema_rules::Rules;
 use shard_set::Setup;
 use std::alloc::Global;
 use std::sync::Wait;
+use std::thread::Threads;
 
 /// Runs carbon: does what the words of the command line say, and answers the program's exit status.
 ///
-/// `words` are those after the program's name, and there is one disk for each of the sixteen classes. The one command is
-/// `script`: it reads the rule files `storage-schemas.conf` and `storage-aggregation.conf` of the folder `conf`, of which one that is
-/// absent counts as empty, runs the script that stands on the input over the ring files of the disks, and drains all at its end.
-/// Behind it may stand, in either order and each once:
+/// `words` are those after the program's name, and there is one disk for each of the sixteen classes. Each command first reads the rule files
+/// `storage-schemas.conf` and `storage-aggregation.conf` of the folder `conf`, of which one that is absent counts as empty.
+///
+/// | Command | Does |
+/// |---|---|
+/// | `script` | runs the script that stands on the input over the ring files of the disks, and drains all at its end |
+/// | `serve` | binds the ports of the net, puts the metric lines and answers the requests that its links bring, and drains what is pending all the while; once the net is closed it drains all |
+///
+/// Behind the command options may stand, in any order and each once, as two words or as `--x=v`:
 ///
 /// | Option | Says | Else |
 /// |---|---|---|
-/// | `--limit N` | how many points of a class may be pending: 1 to 10,000,000, in at most 19 digits | 262,144 |
+/// | `--limit N` | how many points of a class may be pending: 1 to 10,000,000 | 262,144 |
 /// | `--order O` | which metric of a class is drained next: `max`, `sorted`, `timesorted` or `naive` | `sorted` |
+/// | `--line-port P`, `--http-port P` | `serve`: the ports, 0 to 65,535 | 2003, 8080 |
+/// | `--receivers N`, `--renderers N` | `serve`: how many threads serve the links of each port: 1 to 256 | 16 |
+/// | `--links N` | `serve`: how many links each port gives before it closes, to 1,000,000,000; 0: it never does | 0 |
 ///
 /// | Status | Comes |
 /// |---|---|
-/// | 0 | the input was read to its end, all that the script says was written, and all points are in the ring files |
+/// | 0 | `script`: the input was read to its end, and all that the script says was written. `serve`: the net was closed, and `stored S replaced R full F drains D` was written. All points are in the ring files |
 /// | 2 | the words are no command |
 /// | 3 | a rule file is refused: its first fault, and those of the schema file before those of the aggregation file |
 /// | 4 | a ring file is damaged: the first of the least class, in byte order of its name |
@@ -35,12 +48,21 @@ use std::sync::Wait;
 /// | 6 | a read of the input failed |
 /// | 7 | a write failed |
 /// | 8 | memory ran out |
-/// | 10 | 2^40 bytes of input were taken, or so many entries were made that a command has no room for its own |
+/// | 9 | a port could not be had |
+/// | 10 | 2^40 bytes of input were taken, or so many entries were made that a command or a worker has no room for its own |
 ///
 /// At each status but 0 and 7 the last line that is written says the fault. All sixteen shards have started before the first byte of
-/// the input is taken. A disk that fails at a command of the script is told in the reply, and the script goes on. A run that 6, 7, 8
-/// or 10 ends before the end of its input makes no drain at its end. The clock and the net are not looked at.
-pub fn run<R: Wait, S: Source, K: Sink, D: Disk + Send + Drop, C: Clock + Sync, N: Net + Sync>(
+/// the input is taken or a port is bound. A disk that fails at a command of the script is told in the reply, and the script goes on; one that fails
+/// at a request is told in the reply, and the drainer of `serve` tries again. A run that 6, 7, 8 or 10 ends before its last drain makes none.
+/// A script looks at neither clock nor net, and `serve` not at the input.
+pub fn run<
+    R: Threads + Wait + Sync,
+    S: Source,
+    K: Sink,
+    D: Disk + Send + Drop,
+    C: Clock + Sync,
+    N: Net + Sync,
+>(
     rt: &R,
     alloc: Global,
     words: &[String],
@@ -51,35 +73,113 @@ pub fn run<R: Wait, S: Source, K: Sink, D: Disk + Send + Drop, C: Clock + Sync, 
     clock: &C,
     net: &mut N,
 ) -> Report<D>
+where
+    N::L: Drop + Send,
     requires { vec_len disks ≡ 16 }
-    ensures usage { script_options (map string_bytes words.now) ≡ None → (conf.new ≡ conf.old)
-        × NoCommand (streams_of S.Source K.Sink input.old input.new out.old out.new) disks.items (answer_of result.status result.history result.disks.items) }
-    ensures outcome { IfSome (script_options (map string_bytes words.now))
-        (λ said. Outcome D.Disk said conf.old conf.new
-        (streams_of S.Source K.Sink input.old input.new out.old out.new) disks.items (answer_of result.status result.history result.disks.items)) }
+    ensures usage { command_of (map string_bytes words.now) ≡ None
+        → (conf.new ≡ conf.old) × (net.new ≡ net.old)
+        × (NoCommand (streams_of S.Source K.Sink input.old input.new out.old out.new) disks.items
+        (answer_of result.status result.history result.disks.items)
+        ⊎ NoWords (streams_of S.Source K.Sink input.old input.new out.old out.new) disks.items
+        (answer_of result.status result.history result.disks.items)) }
+    ensures outcome { IfSome (command_of (map string_bytes words.now))
+        (λ command. Outcome D.Disk (beside N.faults (C.moments clock.now) net.old net.new)
+        command conf.old conf.new
+        (streams_of S.Source K.Sink input.old input.new out.old out.new) disks.items
+        (answer_of result.status result.history result.disks.items)) }
     ensures reads { CountsReads S.Source input.old input.new (result.status ≡ 6) }
     ensures writes { CountsWrites K.Sink out.old out.new (result.status ≡ 7) }
     ensures disks { vec_len result.disks ≡ 16 }
     ensures conf { D.image conf.new ≡ D.image conf.old }
-    ensures net { net.new ≡ net.old }
+    ensures net { N.faults net.old ≤ N.faults net.new }
 {
-    let Some(options) = read_words(words) else {
-        let status = tell_usage(out);
-        return Report::without_command(status, disks);
+    let command = match read_words(alloc, words) {
+        Ok(command) => command,
+        Err(fault) => {
+            let status = tell_words(fault, out);
+            return Report::without_command(status, disks);
+        }
     };
     match read_rules(alloc, conf) {
-        Ok(rules) => {
-            let setup = Setup {
-                rules,
-                limit: options.limit(),
-                strategy: options.order(),
-            };
-            run_script(rt, alloc, disks, &setup, input, out)
-        }
+        Ok(rules) => run_command(rt, alloc, command, rules, disks, input, out, clock, net),
         Err(fault) => {
             let status = tell_conf(&fault, out);
             Report::without_command(status, disks)
         }
+    }
+}
+
+// Does what a command says, by these rules.
+fn run_command<
+    R: Threads + Wait + Sync,
+    S: Source,
+    K: Sink,
+    D: Disk + Send + Drop,
+    C: Clock + Sync,
+    N: Net + Sync,
+>(
+    rt: &R,
+    alloc: Global,
+    command: Command,
+    rules: Rules,
+    disks: Vec<D>,
+    input: &mut S,
+    out: &mut K,
+    clock: &C,
+    net: &mut N,
+) -> Report<D>
+where
+    N::L: Drop + Send,
+    requires all { vec_len disks ≡ 16 }
+    requires sound { IsSound command }
+    ensures does { Does D.Disk (beside N.faults (C.moments clock.now) net.old net.new)
+        rules command
+        (streams_of S.Source K.Sink input.old input.new out.old out.new) disks.items
+        (answer_of result.status result.history result.disks.items) }
+    ensures reads { CountsReads S.Source input.old input.new (result.status ≡ 6) }
+    ensures writes { CountsWrites K.Sink out.old out.new (result.status ≡ 7) }
+    ensures disks { vec_len result.disks ≡ 16 }
+    ensures net { N.faults net.old ≤ N.faults net.new }
+{
+    match command {
+        Command::Script(options) => {
+            run_script(rt, alloc, disks, &setup(rules, options), input, out)
+        }
+        Command::Serve(options, more) => {
+            run_server(
+                rt,
+                alloc,
+                disks,
+                &setup(rules, options),
+                more,
+                out,
+                clock,
+                net,
+            )
+        }
+    }
+}
+
+// What is fixed for a run.
+fn setup(rules: Rules, options: Options) -> Setup
+    requires { HasLimit options }
+    ensures { settings_of result ≡ settings_by rules options }
+{
+    Setup {
+        rules,
+        limit: options.limit,
+        strategy: options.order,
+    }
+}
+
+// Tells why the words say nothing.
+fn tell_words<K: Sink>(fault: WordsFault, out: &mut K) -> u8
+    ensures told { TellsWords fault result (K.written out.old) (K.written out.new) }
+    ensures writes { CountsWrites K.Sink out.old out.new (result ≡ 7) }
+{
+    match fault {
+        WordsFault::Usage => tell_usage(out),
+        WordsFault::NoMemory => tell_no_memory(out),
     }
 }
 

@@ -1,0 +1,72 @@
+//! The ports of the system, and their clean stop.
+ghost use Rattle.std.specs.Prelude.{◌≡◌};
+
+use outside_io::{Net, NetFailed};
+use tcp_net::{NetCloser, TcpLink, TcpNet};
+
+/// The two ports of a server. A command that serves nothing has none, and its net binds nothing.
+///
+/// Once the ports are bound a line on standard error tells their numbers.
+#[derive(Drop)]
+pub(crate) struct HostNet {
+    rt: HostRuntime,
+    net: Option<TcpNet<HostRuntime>>,
+    faults: u64,
+}
+
+impl HostNet {
+    /// The net with these ports.
+    pub(crate) fn new(rt: HostRuntime, net: Option<TcpNet<HostRuntime>>) -> HostNet {
+        HostNet { rt, net, faults: 0 }
+    }
+}
+
+impl Net for HostNet {
+    type L = TcpLink<HostRuntime>;
+
+    ghost faults = { λ net. net.faults };
+
+    fn faults(&self) -> u64 {
+        self.faults
+    }
+
+    fn bind(&mut self, line_port: u16, http_port: u16, links: u64) -> Result<(), NetFailed> {
+        if let Some(net) = &mut self.net {
+            if net.bind(line_port, http_port, links).is_ok() {
+                if let Some(ports) = net.ports() {
+                    let _ = eprintln!(self.rt;
+                        "carbon: lines on {}, HTTP on {}",
+                        ports.lines, ports.http
+                    );
+                }
+                return Ok(());
+            }
+        }
+        self.faults = self.faults.saturating_add(1);
+        Err(NetFailed)
+    }
+
+    fn next_lines(&self) -> Option<TcpLink<HostRuntime>> {
+        self.net.as_ref()?.next_lines()
+    }
+
+    fn next_http(&self) -> Option<TcpLink<HostRuntime>> {
+        self.net.as_ref()?.next_http()
+    }
+}
+
+/// Closes the ports at a line `stop` on standard input. An input that is at its end stops nothing.
+pub(crate) fn close_at_stop(rt: HostRuntime, closer: NetCloser) {
+    for _ in 0..u64::MAX {
+        let mut line = String::new(rt.alloc());
+        match rt.read_line(&mut line) {
+            Ok(count) if 0 < count => {}
+            _ => return,
+        }
+        if line.as_str().trim_end() == "stop" {
+            let _ = eprintln!(rt; "carbon: stopping");
+            closer.close(&rt);
+            return;
+        }
+    }
+}

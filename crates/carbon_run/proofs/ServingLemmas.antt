@@ -1,0 +1,122 @@
+-- From shards that started to the end of a server.
+use Rattle.std.proofs.Common.{◌≡◌, ◌⊎◌, inl, inr, ◌∙◌, ℕ, ◌<◌, ◌≤◌, List, [], length, map, Option, Some, refl, sym, ap, subst, arith}
+use Rattle.std.specs.Prelude.{count_by, slice_get}
+use mathlib.Core.Path.{fun_ext}
+use Rattle.outside_io.specs.Image.{Image}
+use Rattle.outside_io.specs.Faults.{Rose}
+use Rattle.outside_io.specs.Frames.{CountsWrites}
+use Rattle.outside_io.specs.declared.disk.Disk.{Ghosts}
+use Rattle.outside_io.specs.declared.sink.Sink.{Ghosts as SinkGhosts}
+use Rattle.carbon_history.specs.declared.entry.Entry.{Entry}
+use Rattle.carbon_history.specs.Entries.{about_class}
+use Rattle.carbon_model.specs.State.{State}
+use Rattle.carbon_model.specs.RingFiles.{Settings}
+use Rattle.shard_core.specs.declared.fault.StartFault.TheVariants.{NoMemory}
+use Rattle.shard_core.specs.declared.shard.Shard.{Shard}
+use Rattle.shard_set.specs.Disks.{disk_faults, faults_at, told_at, told_of}
+use Rattle.shard_set.specs.Opening.{StartsAll}
+use Rattle.shard_set.specs.OpeningState.{opening_of}
+use Rattle.shard_set.proofs.StateLemmas.{opens_run}
+use Rattle.shared_store.specs.Closes.{EndsAs}
+use Rattle.shared_store.specs.Tallies.{is_fault, tally_of}
+use Rattle.shared_store.specs.declared.drain_end.DrainEnd.{DrainEnd}
+use Rattle.shared_store.specs.declared.drain_end.DrainEnd.TheVariants as end
+use Rattle.shared_store.specs.declared.tally.Tally.{Tally}
+use Rattle.carbon_serve.specs.Serves.{EndsServed, Serves}
+use Rattle.carbon_run.specs.Runs.{Answer, NoStart, Streams}
+use Rattle.carbon_run.specs.Serves.{LacksPort, NoPort, ServeRuns, Served, ServesAll, ServesShards, TellsServed, unread}
+use Rattle.carbon_run.proofs.RunLemmas.{back_same, length_back, less_rose, less_told}
+
+-- ---- earlier counts of failed calls
+
+ends_earlier : {D : Type 0} (d : Ghosts D) (told : ℕ → Option Image) (start : State) (earlier earlier' : ℕ → ℕ) (passes : ℕ) (reason : DrainEnd) (history : List Entry) (disks : List D) → ((k : ℕ) → earlier' k ≤ earlier k)
+    → EndsServed d told start earlier passes reason history disks → EndsServed d told start earlier' passes reason history disks
+ends_earlier d told start earlier earlier' passes (end.Done count) history disks later ends = ends
+ends_earlier d told start earlier earlier' passes (end.DiskFault class) history disks later ends = record {
+  pass = ends.pass;
+  is = ends.is;
+  before = ends.before;
+  last = ends.last;
+  cause = less_rose (earlier class) (earlier' class) (disk_faults d.faults disks class) (later class) ends.cause;
+}
+ends_earlier d told start earlier earlier' passes end.Spent history disks later ends = ends
+ends_earlier d told start earlier earlier' passes end.NoMemory history disks later ends = ends
+
+serves_earlier : {D : Type 0} (d : Ghosts D) (told : ℕ → Option Image) (start : State) (earlier earlier' : ℕ → ℕ) (moments : ℕ → Type 0) (passes : ℕ) (streams : Streams) (answer : Answer D) → ((k : ℕ) → earlier' k ≤ earlier k)
+    → ServesAll d told start earlier moments passes streams answer → ServesAll d told start earlier' moments passes streams answer
+serves_earlier {D} d told start earlier earlier' moments passes streams answer later all =
+    let serves : Serves d told start earlier moments passes all.reason answer.history answer.disks = all.serves in record {
+      reason = all.reason;
+      serves = record {
+        ends = ends_earlier d told start earlier earlier' passes all.reason answer.history answer.disks later serves.ends;
+        legal = serves.legal;
+        names = serves.names;
+        timed = serves.timed;
+        stand = λ k disk there.
+            let ends : EndsAs d told start earlier [] answer.history k disk = serves.stand k disk there in record {
+              patch = ends.patch;
+              stands = ends.stands;
+              last = ends.last;
+              whole = ends.whole;
+              faults = less_told (earlier k) (earlier' k) (count_by is_fault (about_class k answer.history)) (d.faults disk) (later k) ends.faults;
+            };
+        sixteen = serves.sixteen;
+      };
+      tells = all.tells;
+      input = all.input;
+    }
+
+-- ---- from the shards to the disks that were given
+
+pub served_over : {D E : Type 0} {d : Ghosts D} (net_faults : E → ℕ) (net net' : E) (settings : Settings) (given : List D) (shards : List (Shard D d)) (moments : ℕ → Type 0) (passes : ℕ) (streams : Streams) (answer : Answer D)
+    → StartsAll settings given shards
+    → LacksPort net_faults net net' shards streams answer ⊎ ServesShards (told_at shards) (opening_of shards) (faults_at shards) shards moments passes streams answer
+    → ServeRuns d net_faults net net' settings moments passes streams given answer
+served_over {d = d} net_faults net net' settings given shards moments passes streams answer starts (inl lacks) = inr (inl (record {
+  cause = lacks.cause;
+  tells = lacks.tells;
+  sound = starts.sound;
+  sixteen = ap (λ (ds : List _). length ds) lacks.disks ∙ (length_back shards ∙ starts.all);
+  same = λ k. ap (λ (ds : List _). told_of d.image ds k) lacks.disks ∙ (back_same shards k ∙ starts.same k);
+  history = lacks.history;
+  input = lacks.input;
+}))
+served_over {d = d} net_faults net net' settings given shards moments passes streams answer starts (inr (inl lacks)) = inl (record {
+  refusal = record { class = 0; fault = NoMemory };
+  refuses = record {
+    class = omega arith;
+    all = ap (λ (ds : List _). length ds) lacks.disks ∙ (length_back shards ∙ starts.all);
+    same = λ k. ap (λ (ds : List _). told_of d.image ds k) lacks.disks ∙ (back_same shards k ∙ starts.same k);
+    damaged = tt;
+    below = λ k few. absurd (omega (arith, few));
+    cause = λ failed. absurd failed;
+  };
+  tells = lacks.tells;
+  history = lacks.history;
+  input = lacks.input;
+})
+served_over {d = d} net_faults net net' settings given shards moments passes streams answer starts (inr (inr serves)) = inr (inr (record {
+  sound = starts.sound;
+  start = opening_of shards;
+  opens = opens_run settings (told_of d.image given) given shards starts.all starts.each (λ k. refl);
+  serves = serves_earlier d (told_of d.image given) (opening_of shards) (faults_at shards) (disk_faults d.faults given) moments passes streams answer starts.later
+      (subst (λ (told : ℕ → Option Image). ServesAll d told (opening_of shards) (faults_at shards) moments passes streams answer) (fun_ext starts.same) serves);
+}))
+
+-- ---- streams
+
+-- a server is told of no input, so whatever is left of one stays
+pub beside_input : {D E : Type 0} (d : Ghosts D) (net_faults : E → ℕ) (net net' : E) (settings : Settings) (moments : ℕ → Type 0) (passes : ℕ) (left : Option (List ℕ)) (before after : Option (List ℕ)) (given : List D) (answer : Answer D)
+    → ServeRuns d net_faults net net' settings moments passes (unread before after) given answer
+    → ServeRuns d net_faults net net' settings moments passes (record { left = left; left' = left; written = before; written' = after }) given answer
+beside_input d net_faults net net' settings moments passes left before after given answer (inl none) =
+    inl (record { refusal = none.refusal; refuses = none.refuses; tells = none.tells; history = none.history; input = refl })
+beside_input d net_faults net net' settings moments passes left before after given answer (inr (inl none)) =
+    inr (inl (record { cause = none.cause; tells = none.tells; sound = none.sound; sixteen = none.sixteen; same = none.same; history = none.history; input = refl }))
+beside_input d net_faults net net' settings moments passes left before after given answer (inr (inr served)) =
+    inr (inr (record {
+      sound = served.sound;
+      start = served.start;
+      opens = served.opens;
+      serves = record { reason = served.serves.reason; serves = served.serves.serves; tells = served.serves.tells; input = refl };
+    }))

@@ -1,0 +1,79 @@
+-- What a run of `serve` comes to.
+use Rattle.std.specs.Prelude.{◌≡◌, ◌⊎◌, ℕ, List, [], length, map, Option, None}
+use Rattle.outside_io.specs.Image.{Image}
+use Rattle.outside_io.specs.Faults.{Rose}
+use Rattle.outside_io.specs.declared.disk.Disk.{Ghosts}
+use Rattle.carbon_model.specs.State.{State}
+use Rattle.carbon_model.specs.RingFiles.{Opens, Settings}
+use Rattle.shard_core.specs.declared.shard.Shard.{Shard}
+use Rattle.shard_set.specs.Disks.{disk_faults, told_of}
+use Rattle.shard_set.specs.Opening.{AreSound}
+use Rattle.shared_store.specs.Tallies.{tally_of}
+use Rattle.shared_store.specs.declared.tally.Tally.{Tally}
+use Rattle.shared_store.specs.declared.drain_end.DrainEnd.{DrainEnd}
+use Rattle.shared_store.specs.declared.drain_end.DrainEnd.TheVariants.{Done, DiskFault, Spent, NoMemory}
+use Rattle.carbon_serve.specs.Serves.{Serves}
+use Rattle.carbon_run.specs.Runs.{Answer, NoStart, Streams, TellsAlone}
+use Rattle.carbon_run.specs.Stores.{LacksMemory}
+use Rattle.carbon_run.specs.Texts.{disk_fault_line, limit_line, no_memory_line, no_port_line, tally_line}
+
+-- ---- the end of a server
+
+-- How the end of a server is told: by the counts of its history where all is drained, else by a fault line.
+abbrev pub TellsServed : DrainEnd → Tally → ℕ → Option (List ℕ) → Option (List ℕ) → Type 0
+TellsServed (Done count) tally answer before after = TellsAlone 0 (tally_line tally) answer before after
+TellsServed (DiskFault class) tally answer before after = TellsAlone 5 (disk_fault_line class) answer before after
+TellsServed Spent tally answer before after = TellsAlone 10 limit_line answer before after
+TellsServed NoMemory tally answer before after = TellsAlone 8 no_memory_line answer before after
+
+-- What serving came to that began in a state, over disks that had told these images and had failed so often. Nothing is written but how it ended, and
+-- the input is not read.
+pub record ServesAll {D : Type 0} (d : Ghosts D) (told : ℕ → Option Image) (start : State) (earlier : ℕ → ℕ) (moments : ℕ → Type 0) (passes : ℕ) (streams : Streams) (answer : Answer D) : Type 0 where
+  pub reason : DrainEnd
+  pub serves : Serves d told start earlier moments passes reason answer.history answer.disks
+  pub tells : TellsServed reason (tally_of answer.history) answer.status streams.written streams.written'
+  pub input : streams.left' ≡ streams.left
+
+-- ---- runs of the command
+
+-- The shards of all classes started, none of whose disks has a damaged file, and the ports could not be had: the net's count of failed calls rose.
+-- That alone is told, nothing was put, drained or asked, and the disks tell what they told.
+pub record NoPort {D : Type 0} {E : Type 0} (d : Ghosts D) (net_faults : E → ℕ) (net net' : E) (streams : Streams) (given : List D) (answer : Answer D) : Type 0 where
+  pub cause : Rose (net_faults net) (net_faults net')
+  pub tells : TellsAlone 9 no_port_line answer.status streams.written streams.written'
+  pub sound : AreSound (told_of d.image given) 16
+  pub sixteen : length answer.disks ≡ 16
+  pub same : (k : ℕ) → told_of d.image answer.disks k ≡ told_of d.image given k
+  pub history : answer.history ≡ []
+  pub input : streams.left' ≡ streams.left
+
+-- The shards of all classes started, and the store served what the net brought, from a state in which a run may begin over these disks.
+pub record Served {D : Type 0} (d : Ghosts D) (settings : Settings) (moments : ℕ → Type 0) (passes : ℕ) (streams : Streams) (given : List D) (answer : Answer D) : Type 0 where
+  pub sound : AreSound (told_of d.image given) 16
+  pub start : State
+  pub opens : Opens settings (told_of d.image given) start
+  pub serves : ServesAll d (told_of d.image given) start (disk_faults d.faults given) moments passes streams answer
+
+-- A server over these disks: a shard does not start, or there is no port, or it serves.
+abbrev pub ServeRuns : {D E : Type 0} → Ghosts D → (E → ℕ) → E → E → Settings → (ℕ → Type 0) → ℕ → Streams → List D → Answer D → Type 0
+ServeRuns d net_faults net net' settings moments passes streams given answer =
+    NoStart d streams given answer ⊎ (NoPort d net_faults net net' streams given answer ⊎ Served d settings moments passes streams given answer)
+
+-- ---- over shards that have started
+
+-- the streams of what has no input
+abbrev pub unread : Option (List ℕ) → Option (List ℕ) → Streams
+unread before after = record { left = None; left' = None; written = before; written' = after }
+
+-- there is no port for them, and the disks of the shards are handed back
+pub record LacksPort {D : Type 0} {E : Type 0} {d : Ghosts D} (net_faults : E → ℕ) (net net' : E) (shards : List (Shard D d)) (streams : Streams) (answer : Answer D) : Type 0 where
+  pub cause : Rose (net_faults net) (net_faults net')
+  pub tells : TellsAlone 9 no_port_line answer.status streams.written streams.written'
+  pub history : answer.history ≡ []
+  pub disks : answer.disks ≡ map (λ shard. shard.disk) shards
+  pub input : streams.left' ≡ streams.left
+
+-- once the ports are bound, memory runs out, or they are served
+abbrev pub ServesShards : {D : Type 0} {d : Ghosts D} → (ℕ → Option Image) → State → (ℕ → ℕ) → List (Shard D d) → (ℕ → Type 0) → ℕ → Streams → Answer D → Type 0
+ServesShards {D} {d} told start earlier shards moments passes streams answer =
+    LacksMemory shards streams answer ⊎ ServesAll d told start earlier moments passes streams answer

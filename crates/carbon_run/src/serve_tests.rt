@@ -1,0 +1,246 @@
+//! Servers over networks in memory.
+ghost use Rattle.std.specs.Prelude.{◌≡◌, IfOk, vec_len};
+
+use crate::run;
+use gate_io::{Flag, Gate, GateDisk, GateLink, MemNet, Sent};
+use outside_io::{FixedClock, MemDisk, MemSink, MemSource};
+use std::alloc::{AllocError, Global};
+use std::process::Abort;
+use std::sync::Wait;
+use std::test::Fail;
+use std::thread::Threads;
+use std::time::Clock;
+
+// The moment of the clock.
+const NOW: u64 = 1_700_000_030;
+
+const NO_ROUTE: &[u8] = b"GET /x HTTP/1.1\r\nHost: localhost\r\n\r\n";
+
+fn sixteen_disks<R: Clock + Drop>(alloc: Global) -> Result<Vec<GateDisk<R>>, AllocError>
+    ensures { IfOk result (λ disks. vec_len disks ≡ 16) }
+{
+    let mut disks = Vec::with_capacity(alloc, 16)?;
+    for class in 0..16u32 {
+        let _ = class;
+        disks.push(GateDisk::new(MemDisk::new(alloc, 10_000_000)))?;
+    }
+    Ok(disks)
+}
+
+fn words_of(alloc: Global, text: &str) -> Result<Vec<String>, AllocError> {
+    let mut words = Vec::new(alloc);
+    for word in text.split(' ') {
+        words.push(String::from_str(alloc, word)?)?;
+    }
+    Ok(words)
+}
+
+// A link that brings these bytes.
+fn link<R: Wait + Clock + Drop>(
+    rt: R,
+    alloc: Global,
+    bytes: &[u8],
+    sent: &Sent,
+) -> Result<GateLink<R>, AllocError> {
+    let source = MemSource::new(alloc, Vec::from_slice(alloc, bytes)?);
+    Ok(GateLink::new(rt, source, sent.share()?))
+}
+
+// Links that bring a line each.
+fn line_links<R: Wait + Clock + Copy + Drop>(
+    rt: R,
+    alloc: Global,
+    lines: &[&[u8]],
+) -> Result<Vec<GateLink<R>>, AllocError> {
+    let mut links = Vec::new(alloc);
+    for line in lines {
+        links.push(link(rt, alloc, line, &Sent::new(alloc)?)?)?;
+    }
+    Ok(links)
+}
+
+fn run_server<R: Threads + Wait + Clock + Send + Sync + Drop>(
+    rt: &R,
+    alloc: Global,
+    words: &str,
+    disks: Vec<GateDisk<R>>,
+    net: &mut MemNet<GateLink<R>, R>,
+    out: &mut MemSink,
+) -> Result<u8, AllocError>
+    requires { vec_len disks ≡ 16 }
+{
+    let mut input = MemSource::new(alloc, Vec::new(alloc));
+    let mut conf: GateDisk<R> = GateDisk::new(MemDisk::new(alloc, 0));
+    let clock = FixedClock::new(NOW);
+    let words = words_of(alloc, words)?;
+    let report = run(
+        rt, alloc, &words, &mut input, out, &mut conf, disks, &clock, net,
+    );
+    Ok(report.status)
+}
+
+fn assert_served<R: Threads + Wait + Abort + Clock + Send + Sync + Drop>(
+    rt: &R,
+    alloc: Global,
+    words: &str,
+    net: &mut MemNet<GateLink<R>, R>,
+    status: u8,
+    text: &[u8],
+) -> Result<(), Fail> {
+    let mut out = MemSink::new(alloc);
+    let came = run_server(rt, alloc, words, sixteen_disks(alloc)?, net, &mut out)?;
+    assert!(rt; came == status);
+    assert!(rt; out.bytes() == text, "{words}");
+    Ok(())
+}
+
+#[test]
+fn one_line_is_served_and_drained(rt: HostRuntime) -> Result<(), Fail> {
+    let alloc = rt.alloc();
+    let lines = line_links(rt, alloc, &[b"a.b 1.5 1700000000\n".as_slice()])?;
+    let mut net = MemNet::new(rt, lines, Vec::new(alloc));
+    assert_served(
+        &rt,
+        alloc,
+        "serve",
+        &mut net,
+        0,
+        b"stored 1 replaced 0 full 0 drains 1\n",
+    )
+}
+
+#[test]
+fn a_server_without_ports_tells_so(rt: HostRuntime) -> Result<(), Fail> {
+    let alloc = rt.alloc();
+    let mut net = MemNet::new(rt, Vec::new(alloc), Vec::new(alloc)).failing();
+    assert_served(
+        &rt,
+        alloc,
+        "serve --receivers=1",
+        &mut net,
+        9,
+        b"carbon: no port\n",
+    )
+}
+
+#[test]
+fn one_worker_of_each_kind_serves_all_links(rt: HostRuntime) -> Result<(), Fail> {
+    let alloc = rt.alloc();
+    let lines = line_links(
+        rt,
+        alloc,
+        &[
+            b"a.b 1 1700000000\n".as_slice(),
+            b"a.r 2 1700000000\n".as_slice(),
+            b"a.2 3 1700000000\n".as_slice(),
+        ],
+    )?;
+    let first = Sent::new(alloc)?;
+    let second = Sent::new(alloc)?;
+    let mut http = Vec::new(alloc);
+    http.push(link(rt, alloc, NO_ROUTE, &first)?)?;
+    http.push(link(rt, alloc, NO_ROUTE, &second)?)?;
+    let mut net = MemNet::new(rt, lines, http);
+    assert_served(
+        &rt,
+        alloc,
+        "serve --receivers 1 --renderers 1",
+        &mut net,
+        0,
+        b"stored 3 replaced 0 full 0 drains 3\n",
+    )?;
+    assert!(rt; first.begin_with(&rt, b"HTTP/1.1 404 "));
+    assert!(rt; second.begin_with(&rt, b"HTTP/1.1 404 "));
+    Ok(())
+}
+
+// Two links, each of which goes on once the other has come so far.
+fn crossed_gates<R: Clock + Copy + Drop>(
+    rt: R,
+    alloc: Global,
+) -> Result<(Gate<R>, Gate<R>), AllocError> {
+    let left = Flag::new(alloc)?;
+    let right = Flag::new(alloc)?;
+    Ok((
+        Gate::new(rt, left.share()?, right.share()?),
+        Gate::new(rt, right, left),
+    ))
+}
+
+#[test]
+fn two_receivers_read_at_once(rt: HostRuntime) -> Result<(), Fail> {
+    let alloc = rt.alloc();
+    let (left, right) = crossed_gates(rt, alloc)?;
+    let sent = Sent::new(alloc)?;
+    let mut lines = Vec::new(alloc);
+    lines.push(link(rt, alloc, b"a.b 1 1700000000\n", &sent)?.reading_at(left))?;
+    lines.push(link(rt, alloc, b"a.r 2 1700000000\n", &sent)?.reading_at(right))?;
+    let mut net = MemNet::new(rt, lines, Vec::new(alloc));
+    assert_served(
+        &rt,
+        alloc,
+        "serve --receivers 2 --renderers 1",
+        &mut net,
+        0,
+        b"stored 2 replaced 0 full 0 drains 2\n",
+    )
+}
+
+#[test]
+fn two_renderers_write_at_once(rt: HostRuntime) -> Result<(), Fail> {
+    let alloc = rt.alloc();
+    let (left, right) = crossed_gates(rt, alloc)?;
+    let first = Sent::new(alloc)?;
+    let second = Sent::new(alloc)?;
+    let mut http = Vec::new(alloc);
+    http.push(link(rt, alloc, NO_ROUTE, &first)?.writing_at(left))?;
+    http.push(link(rt, alloc, NO_ROUTE, &second)?.writing_at(right))?;
+    let mut net = MemNet::new(rt, Vec::new(alloc), http);
+    assert_served(
+        &rt,
+        alloc,
+        "serve --receivers 1 --renderers 2",
+        &mut net,
+        0,
+        b"stored 0 replaced 0 full 0 drains 0\n",
+    )?;
+    assert!(rt; first.begin_with(&rt, b"HTTP/1.1 404 "));
+    assert!(rt; second.begin_with(&rt, b"HTTP/1.1 404 "));
+    Ok(())
+}
+
+// Disks of which that of class 12 waits in its first write.
+fn waiting_disks<R: Clock + Drop>(
+    alloc: Global,
+    gate: Gate<R>,
+) -> Result<Vec<GateDisk<R>>, AllocError>
+    ensures { IfOk result (λ disks. vec_len disks ≡ 16) }
+{
+    let mut disks = sixteen_disks(alloc)?;
+    disks[12] = GateDisk::new(MemDisk::new(alloc, 10_000_000)).writing_at(gate);
+    Ok(disks)
+}
+
+#[test]
+fn the_drainer_writes_while_links_are_served(rt: HostRuntime) -> Result<(), Fail> {
+    let alloc = rt.alloc();
+    let draining = Flag::new(alloc)?;
+    let replied = Flag::new(alloc)?;
+    let disks = waiting_disks(alloc, Gate::new(rt, draining.share()?, replied.share()?))?;
+    let gate = Gate::new(rt, Flag::new(alloc)?, draining);
+    let sent = Sent::new(alloc)?;
+    let mut http = Vec::new(alloc);
+    http.push(
+        link(rt, alloc, NO_ROUTE, &sent)?
+            .writing_at(gate)
+            .marking(1, replied),
+    )?;
+    let lines = line_links(rt, alloc, &[b"a.b 1.5 1700000000\n".as_slice()])?;
+    let mut net = MemNet::new(rt, lines, http);
+    let mut out = MemSink::new(alloc);
+    let status = run_server(&rt, alloc, "serve", disks, &mut net, &mut out)?;
+    assert!(rt; status == 0);
+    assert!(rt; out.bytes() == b"stored 1 replaced 0 full 0 drains 1\n".as_slice());
+    assert!(rt; sent.begin_with(&rt, b"HTTP/1.1 404 "));
+    Ok(())
+}

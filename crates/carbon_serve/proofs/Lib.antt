@@ -1,0 +1,10 @@
+mod WorkLemmas
+mod LineLemmas
+mod HttpLemmas
+mod EntryLemmas
+mod PendingLemmas
+mod PassLemmas
+mod OrderLemmas
+mod MusterLemmas
+mod CrewLemmas
+mod EndLemmas

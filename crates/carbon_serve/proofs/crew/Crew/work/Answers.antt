@@ -1,0 +1,30 @@
+use Rattle.std.proofs.Common.{rules, ◌≡◌, ◌∙◌, ◌++◌, ℕ, List, length, take, drop, sym, ap, subst, arith}
+use Rattle.std.specs.Prelude.{All}
+use Rattle.shared_history.specs.Parts.{PassValue}
+use Rattle.carbon_serve.specs.Crews.{AllWent, CrewValue, in_order}
+use Rattle.carbon_serve.specs.Workers.{AllWork, IsReady}
+use Rattle.carbon_serve.specs.declared.workers.Worker.{Worker}
+use Rattle.carbon_serve.proofs.OrderLemmas.{all_ready, all_went, taken_back}
+use Rattle.carbon_serve.proofs.crew.Crew.work.Goals as goal
+
+pub work_all-requires-clause-ready : goal.work_all-requires-clause-ready
+work_all-requires-clause-ready g c κs within =
+    let same : c.as_mut_slice.result.now ≡ c.self.inside.workers.items = search rules in
+    let all : All (λ (pass : PassValue). pass.table ≡ g.N.Named.table) (in_order c.self.inside.workers.items c.self.inside.drainer) =
+    subst (λ (crew : CrewValue). All (λ (pass : PassValue). pass.table ≡ g.N.Named.table) crew.served) (sym c.self.view_is) c.requires.one in
+    subst (λ (workers : List Worker). All (IsReady g.N.Named.table) workers) (sym same) (all_ready g.N.Named.table c.self.inside.workers.items c.self.inside.drainer all)
+
+pub returns-clause-went : goal.returns-clause-went
+returns-clause-went g c =
+    let old : List Worker = c.self.inside.workers.items in
+    let now : List Worker = c.work_all.new.workers in
+    let moments : ℕ → Type 0 = g.C.Clock.moments c.args.clock.now in
+    let same : c.as_mut_slice.result.now ≡ old = search rules in
+    let work : AllWork moments g.N.Named.start old now =
+    subst (λ (workers : List Worker). AllWork moments g.N.Named.start workers now) same c.work_all.ensures.workers in
+    let len : c.self.inside.workers.len ≡ length old = omega (arith, c.self.inside.workers.ok.0) in
+    let back : take c.self.inside.workers.len (now ++ drop (length now) old) ≡ now =
+    ap (λ (n : ℕ). take n (now ++ drop (length now) old)) len ∙ taken_back now old work.count in
+    subst (λ (crew : CrewValue). AllWent moments g.N.Named.start crew.served (in_order (take c.self.inside.workers.len (now ++ drop (length now) old)) c.work_all.new.drainer)) c.self.view_is
+    (subst (λ (workers : List Worker). AllWent moments g.N.Named.start (in_order old c.self.inside.drainer) (in_order workers c.work_all.new.drainer)) (sym back)
+    (all_went moments g.N.Named.start old now c.self.inside.drainer c.work_all.new.drainer work c.work_all.ensures.drainer))

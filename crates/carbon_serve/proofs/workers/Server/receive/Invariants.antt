@@ -1,0 +1,9 @@
+use Rattle.std.proofs.Common.{◌≡◌}
+use Rattle.carbon_serve.specs.Workers.{Works}
+use Rattle.carbon_serve.proofs.workers.Server.receive.Given as goal
+
+abbrev pub invariant-loop-link : goal.invariant-loop-link
+invariant-loop-link g l = record {
+  one : l.pass.table ≡ g.N.Named.table;
+  works : Works (g.C.Clock.moments l.fn.self.clock.now) g.N.Named.start l.fn.pass l.pass;
+}

@@ -1,0 +1,93 @@
+-- The passes of a crew.
+use Rattle.std.specs.Prelude.{◌≡◌, ◌≤◌, ◌+◌, ◌^◌, ◌||◌, ℕ, nat_lt, All, Bool, true, false, List, [], ◌∷◌, ◌++◌, length, reverse, Option, Some, None}
+use Rattle.std.specs.List.{AllZip, list_any}
+use mathlib.Core.List.{IsPrefix}
+use Rattle.atomic_table.specs.Seated.{TableId}
+use Rattle.carbon_model.specs.State.{State}
+use Rattle.shared_history.specs.Parts.{AreNewPasses, PassValue, own_entries}
+use Rattle.shared_store.specs.Drains.{DrainsTo}
+use Rattle.shared_store.specs.declared.drain_end.DrainEnd.{DrainEnd}
+use Rattle.shared_store.specs.declared.drain_end.DrainEnd.TheVariants.{Spent}
+use Rattle.carbon_serve.specs.Workers.{Works}
+use Rattle.carbon_serve.specs.declared.workers.Worker.{Worker}
+
+abbrev pub pass_list : Option PassValue → List PassValue
+pass_list None = []
+pass_list (Some pass) = pass ∷ []
+
+abbrev pub passes_of : List Worker → List PassValue
+passes_of [] = []
+passes_of (worker ∷ workers) = pass_list worker.pass ++ passes_of workers
+
+-- The passes of workers and of a drainer, in order of their numbers: the last worker has the first
+-- one.
+abbrev pub in_order : List Worker → PassValue → List PassValue
+in_order workers drainer = reverse (passes_of workers) ++ drainer ∷ []
+
+-- each of these passes went on
+abbrev pub AllWent : (ℕ → Type 0) → State → List PassValue → List PassValue → Type 0
+AllWent moments start old new = AllZip (Works moments start) old new
+
+-- what contracts see of a crew: the passes of its workers and of its drainer, in order of their
+-- numbers, and its own
+pub record CrewValue : Type 0 where
+  pub served : List PassValue
+  pub own : PassValue
+
+-- a crew whose passes, which are all that were made, have done nothing yet
+pub record IsNewCrew (table : TableId) (passes : ℕ) (crew : CrewValue) : Type 0 where
+  pub new : AreNewPasses table (crew.served ++ crew.own ∷ [])
+  pub all : length (crew.served ++ crew.own ∷ []) ≡ passes
+
+-- a crew whose workers have done what a store and a clock let them
+pub record IsServedCrew (table : TableId) (start : State) (passes : ℕ) (moments : ℕ → Type 0) (crew : CrewValue) : Type 0 where
+  pub before : List PassValue
+  pub new : AreNewPasses table (before ++ crew.own ∷ [])
+  pub all : length (before ++ crew.own ∷ []) ≡ passes
+  pub went : AllWent moments start before crew.served
+
+-- ---- passes that came back
+
+-- a pass has no room for the entries of another call
+abbrev pub lacks_room : PassValue → Bool
+lacks_room pass = nat_lt (2 ^ 48) (length (own_entries pass) + 4)
+
+-- what each of these passes had seen begins what this one has seen
+abbrev pub HasLearned : PassValue → List PassValue → Type 0
+HasLearned own passes = All (λ pass. IsPrefix pass.seen own.seen) passes
+
+-- a pass saw more, and made no entry
+pub record OnlySaw (old new : PassValue) : Type 0 where
+  pub table : new.table ≡ old.table
+  pub number : new.number ≡ old.number
+  pub begins : IsPrefix old.seen new.seen
+  pub none : own_entries new ≡ own_entries old
+
+-- what contracts see of a crew that has mustered: also whether a pass of it lacks room, and for how
+-- many more there is a place
+pub record MusterValue : Type 0 where
+  pub served : List PassValue
+  pub own : PassValue
+  pub is_spent : Bool
+  pub places : ℕ
+
+-- All these passes came back to the crew's own, which had been this one and has seen what they had.
+pub record Musters (passes : List PassValue) (before : PassValue) (muster : MusterValue) : Type 0 where
+  pub served : muster.served ≡ passes
+  pub learned : HasLearned muster.own passes
+  pub own : OnlySaw before muster.own
+  pub spent : muster.is_spent ≡ list_any lacks_room passes
+
+-- These passes came to those that it had, and its own has seen what they had.
+pub record Adds (added : List PassValue) (old new : MusterValue) : Type 0 where
+  pub served : new.served ≡ old.served ++ added
+  pub learned : HasLearned new.own added
+  pub own : OnlySaw old.own new.own
+  pub spent : new.is_spent ≡ (old.is_spent || list_any lacks_room added)
+  pub places : old.places ≤ new.places + length added
+
+-- How the crew's own pass came to the end: one of the others was spent, and it did nothing; or it
+-- drained all that was pending, at a moment of the clock.
+abbrev pub Finishes : (ℕ → Type 0) → State → ℕ → Bool → DrainEnd → PassValue → PassValue → Type 0
+Finishes moments start passes true end old new = (end ≡ Spent) × (new ≡ old)
+Finishes moments start passes false end old new = (now : ℕ) × (moments now × DrainsTo start passes now end old new)

@@ -1,0 +1,71 @@
+-- What the service of a net comes to.
+use Rattle.std.specs.Prelude.{◌≡◌, ◌<◌, ◌≤◌, ◌+◌, ◌^◌, ℕ, All, List, [], ◌∷◌, ◌++◌, length, Option, Some, IfSome, slice_get}
+use Rattle.outside_io.specs.Image.{Image, WhereKnown}
+use Rattle.outside_io.specs.Faults.{Rose}
+use Rattle.outside_io.specs.declared.disk.Disk.{Ghosts}
+use Rattle.carbon_history.specs.declared.entry.Entry.{Entry}
+use Rattle.carbon_history.specs.declared.entry.Entry.TheVariants.{Fault}
+use Rattle.carbon_history.specs.Entries.{NamesPasses, of_pass}
+use Rattle.carbon_model.specs.State.{State}
+use Rattle.carbon_model.specs.RingFiles.{Stands}
+use Rattle.carbon_model.specs.Replay.{IsLegalHistory, replay}
+use Rattle.shard_set.specs.Disks.{disk_faults}
+use Rattle.shared_store.specs.Closes.{EndsAs}
+use Rattle.shared_store.specs.declared.drain_end.DrainEnd.{DrainEnd}
+use Rattle.shared_store.specs.declared.drain_end.DrainEnd.TheVariants.{Done, DiskFault, Spent, NoMemory}
+use Rattle.carbon_serve.specs.Workers.{HasMoment}
+
+-- ---- what is drained
+
+-- each disk that tells its image alone stands for what a state keeps of its class
+abbrev pub DisksStand : {D : Type 0} → (D → Option Image) → (ℕ → Option Image) → List D → State → Type 0
+DisksStand image told disks s = (k : ℕ) → IfSome (slice_get disks k) (λ disk. WhereKnown (told k) (image disk) (λ opening now. Stands opening now s.kept k))
+
+-- nothing is pending, and the disks stand for all that is kept
+pub record IsDrained {D : Type 0} (image : D → Option Image) (told : ℕ → Option Image) (disks : List D) (s : State) : Type 0 where
+  pub none : (class : ℕ) → class < 16 → s.pending class ≡ []
+  pub stand : DisksStand image told disks s
+
+-- ---- the end
+
+-- each of the passes has room for what a call enters
+abbrev pub AllHaveRoom : ℕ → List Entry → Type 0
+AllHaveRoom passes history = (pass : ℕ) → pass < passes → length (of_pass pass history) + 4 ≤ 2 ^ 48
+
+-- one of the passes has not
+pub record SomeSpent (passes : ℕ) (history : List Entry) : Type 0 where
+  pub pass : ℕ
+  pub made : pass < passes
+  pub spent : 2 ^ 48 < length (of_pass pass history) + 4
+
+-- the last entry is that the disk of a class failed, told by the last pass; the disk's count of
+-- failed calls rose
+pub record EndsByFault {D : Type 0} (d : Ghosts D) (earlier : ℕ → ℕ) (passes class : ℕ) (history : List Entry) (disks : List D) : Type 0 where
+  pub pass : ℕ
+  pub is : pass + 1 ≡ passes
+  pub before : List Entry
+  pub last : history ≡ before ++ Fault pass class ∷ []
+  pub cause : Rose (earlier class) (disk_faults d.faults disks class)
+
+-- What stands at each end. All is drained, and every pass has room left; or the disk of a class
+-- failed in the drain at the end, which the last pass made; or a pass was spent, in its work or in
+-- that drain; or memory ran out.
+abbrev pub EndsServed : {D : Type 0} → Ghosts D → (ℕ → Option Image) → State → (ℕ → ℕ) → ℕ → DrainEnd → List Entry → List D → Type 0
+EndsServed d told start earlier passes (Done count) history disks =
+    IsDrained d.image told disks (replay start history) × AllHaveRoom passes history
+EndsServed d told start earlier passes (DiskFault class) history disks = EndsByFault d earlier passes class history disks
+EndsServed d told start earlier passes Spent history disks = SomeSpent passes history
+EndsServed d told start earlier passes NoMemory history disks = Unit {0}
+
+-- What the service of a net came to over a store that began in a state, over disks that had told
+-- these images and had failed so often, with so many passes: those of the workers and last that of
+-- the crew itself. The history is legal, names these passes alone, and each moment in it is one of
+-- the clock's. Each disk stands for what is kept of its class, under a patch perhaps of a drain
+-- that was not written whole.
+pub record Serves {D : Type 0} (d : Ghosts D) (told : ℕ → Option Image) (start : State) (earlier : ℕ → ℕ) (moments : ℕ → Type 0) (passes : ℕ) (end : DrainEnd) (history : List Entry) (disks : List D) : Type 0 where
+  pub ends : EndsServed d told start earlier passes end history disks
+  pub legal : IsLegalHistory start history
+  pub names : NamesPasses passes history
+  pub timed : All (HasMoment moments) history
+  pub stand : (k : ℕ) (disk : D) → slice_get disks k ≡ Some disk → EndsAs d told start earlier [] history k disk
+  pub sixteen : length disks ≡ 16

@@ -1,0 +1,11 @@
+//! A store that is served by many threads: some put what links of metric lines bring, some answer
+//! links of HTTP requests, and one drains what is pending. Once the net is closed all is drained,
+//! and the store ends.
+#![tactic(auto)]
+
+mod crew;
+mod serving;
+mod workers;
+
+pub use crew::Crew;
+pub use serving::{Served, serve};

@@ -1,0 +1,65 @@
+//! The service of a net.
+ghost use Rattle.std.specs.Prelude.{◌≡◌};
+ghost use Rattle.shared_store.specs.Tallies.{tally_of};
+ghost use Rattle.carbon_serve.specs.Crews.{IsNewCrew, IsServedCrew};
+ghost use Rattle.carbon_serve.specs.Serves.{Serves};
+
+use crate::crew::Crew;
+use outside_io::{Clock, Disk, Net};
+use shared_store::{Closed, DrainEnd, Named, Store};
+use std::alloc::Global;
+use std::sync::Wait;
+use std::thread::Threads;
+
+/// What the service of a net came to.
+#[derive(Drop)]
+pub struct Served<D: Disk> {
+    /// How it ended. It is spent where a pass has no room for the entries of another call: of a
+    /// worker, or of the crew itself in the last drain.
+    pub end: DrainEnd,
+    /// What the store ended as.
+    pub closed: Closed<D>,
+}
+
+/// Serves the ports of a net over a store, by all workers of a crew at once, until the net is
+/// closed or passes are spent. Then it drains all that is pending, unless a worker's pass is spent,
+/// and ends the store.
+#[tactic(auto, using(crate::proofs::CrewLemmas::served_crew))]
+pub fn serve<
+    N: Named + Send + Sync,
+    R: Threads + Wait + Sync,
+    D: Disk + Send + Drop,
+    C: Clock + Sync,
+    E: Net + Sync,
+>(rt: &R, alloc: Global, store: Store<D, N>, crew: Crew, clock: &C, net: &E) -> Served<D>
+where
+    E::L: Drop + Send,
+    requires { IsNewCrew N.table N.passes crew }
+    ensures serves { Serves D.Disk N.told N.start N.faults (C.moments clock.now) N.passes result.end
+        result.closed.history result.closed.disks.items }
+    ensures counted { result.closed.tally ≡ tally_of result.closed.history }
+{
+    let mut crew = crew;
+    crew.work(rt, alloc, &store, clock, net);
+    end_service(rt, store, crew, clock)
+}
+
+// Drains all, and ends the store.
+fn end_service<N: Named, R: Wait, D: Disk + Drop, C: Clock>(
+    rt: &R,
+    store: Store<D, N>,
+    crew: Crew,
+    clock: &C,
+) -> Served<D>
+    requires { IsServedCrew N.table N.start N.passes (C.moments clock.now) crew }
+    ensures serves { Serves D.Disk N.told N.start N.faults (C.moments clock.now) N.passes result.end
+        result.closed.history result.closed.disks.items }
+    ensures counted { result.closed.tally ≡ tally_of result.closed.history }
+{
+    let mut muster = crew.muster(rt, &store);
+    let end = muster.drain(rt, &store, clock);
+    Served {
+        end,
+        closed: store.close(rt, muster.into_passes()),
+    }
+}

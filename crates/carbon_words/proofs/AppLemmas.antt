@@ -1,0 +1,19 @@
+-- Commands of `clap`, step by step.
+use Rattle.std.proofs.Common.{◌∙◌, ◌≡◌, ap, ap₂, codes, false, refl, true}
+use Rattle.clap.specs.Words.{AddsArg, AddsSubcommand, App, Rule, Shape, Text, app_of, rule_of, shape_of, with_rule, with_subcommand}
+use Rattle.clap.specs.declared.builder.Arg.{Arg}
+use Rattle.clap.specs.declared.builder.Command.{Command}
+use Rattle.clap.proofs.SimpleLemmas.{plain_fields}
+use Rattle.carbon_words.specs.CommandLine.{option_rule, with_option}
+
+-- a command with an option more
+pub option_added : (name : Text) (arg : Arg) (old new : Command) (app : App) → AddsArg old arg new → arg.global ≡ false
+    → rule_of arg ≡ option_rule name → app_of old ≡ app → app_of new ≡ with_option name app
+option_added name arg old new app added local rule before = added.shape local ∙ ap₂ with_rule before rule
+
+-- a command with a subcommand more, which has no global argument
+pub subcommand_added : (old sub new : Command) (app below : App) → AddsSubcommand old sub new → below.top.is_plain ≡ true
+    → app_of sub ≡ below → app_of old ≡ app → app_of new ≡ with_subcommand app below.top
+subcommand_added old sub new app below added plain is before =
+    let local = (plain_fields sub (ap (λ (a : App). a.top.is_plain) is ∙ plain)).globals in
+    added.shape local ∙ ap₂ with_subcommand before (ap (λ (a : App). a.top) is)

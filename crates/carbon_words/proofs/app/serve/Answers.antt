@@ -1,0 +1,15 @@
+use Rattle.std.proofs.Common.{codes}
+use Rattle.std.proofs.lemmas.Result.{IfOk-weaker}
+use Rattle.carbon_words.specs.CommandLine.{serve_app}
+use Rattle.carbon_words.proofs.AppLemmas.{option_added}
+use Rattle.carbon_words.proofs.app.serve.Goals as goal
+
+pub returns : goal.returns
+unfolding serve_app
+returns c =
+    let lines = option_added (codes "line-port") _ _ _ _ c.in_ok-arg.ensures c.option.ensures.local c.option.ensures.rule c.in_ok-command.ensures in
+    let http = option_added (codes "http-port") _ _ _ _ c.in_ok-arg-2.ensures c.option-2.ensures.local c.option-2.ensures.rule lines in
+    let receivers = option_added (codes "receivers") _ _ _ _ c.in_ok-arg-3.ensures c.option-3.ensures.local c.option-3.ensures.rule http in
+    let renderers = option_added (codes "renderers") _ _ _ _ c.in_ok-arg-4.ensures c.option-4.ensures.local c.option-4.ensures.rule receivers in
+    IfOk-weaker c.arg-5.result _ _
+    (λ r added. option_added (codes "links") _ _ _ _ added c.option-5.ensures.local c.option-5.ensures.rule renderers) c.arg-5.ensures

@@ -1,0 +1,143 @@
+-- The words of a command line, without the program's name.
+use Rattle.std.specs.Prelude.{◌≡◌, ◌<◌, ◌≤◌, ℕ, ◌&&◌, nat_le, true, List, [], ◌∷◌, codes, Option, Some, None, option_map, option_and_then, if◌then◌else◌}
+use Rattle.std.specs.Option.{option_map_or}
+use Rattle.std.specs.Str.{bytes_eq}
+use Rattle.fixed_num.specs.Whole.{whole_number}
+use Rattle.drain_order.specs.declared.strategy.Strategy.{Strategy}
+use Rattle.drain_order.specs.declared.strategy.Strategy.TheVariants.{Max, Sorted, TimeSorted, Naive}
+use Rattle.clap.specs.Faults.{fault_of}
+use Rattle.clap.specs.Kinds.{Kinds}
+use Rattle.clap.specs.Simple.{App, Shape, new_app, new_rule, on_top, subcommand_of, subcommand_rows_of, with_rule, with_subcommand}
+use Rattle.clap.specs.Walk.{Row, Rule, Text, first_of}
+use Rattle.clap.specs.declared.parser.matches.ArgMatches.{ArgMatches}
+use Rattle.carbon_words.specs.declared.command.Command.{Command}
+use Rattle.carbon_words.specs.declared.command.Command.TheVariants.{Script, Serve}
+use Rattle.carbon_words.specs.declared.command.Options.{Options}
+use Rattle.carbon_words.specs.declared.command.ServeOptions.{ServeOptions}
+use Rattle.carbon_words.specs.declared.reading.Choice.{Choice}
+
+-- ---- which words are commands
+
+-- an option that has a value
+abbrev pub option_rule : Text → Rule
+option_rule name = record (new_rule name) { long = Some name }
+
+abbrev pub with_option : Text → App → App
+with_option name app = with_rule app (option_rule name)
+
+abbrev pub without_help : App → App
+without_help = on_top (λ s. record s { disable_help_flag = true })
+
+-- the words behind every command: the limit and the order
+unfoldable pub command_app : Text → App
+command_app name = with_option (codes "order") (with_option (codes "limit") (without_help (new_app name)))
+
+-- the words behind `script`
+abbrev pub script_app : App
+script_app = command_app (codes "script")
+
+-- the words behind `serve`
+unfoldable pub serve_app : App
+serve_app =
+    with_option (codes "links")
+    (with_option (codes "renderers")
+    (with_option (codes "receivers")
+    (with_option (codes "http-port")
+    (with_option (codes "line-port") (command_app (codes "serve"))))))
+
+-- The program has no word before its command, and none of clap's own commands and flags.
+abbrev pub commands_alone : Shape → Shape
+commands_alone s = record s {
+  no_binary_name = true;
+  disable_help_flag = true;
+  disable_help_subcommand = true;
+  disable_version_flag = true;
+  subcommand_required = true;
+}
+
+-- all words
+unfoldable pub carbon : App
+carbon = with_subcommand (with_subcommand (on_top commands_alone (new_app (codes "carbon"))) script_app.top) serve_app.top
+
+-- ---- what they say
+
+-- the number of a text, in a range
+unfoldable pub between : Choice → Text → Option ℕ
+between choice text =
+    option_and_then (λ n. if nat_le choice.least n && nat_le n choice.most then Some n else None) (whole_number text)
+
+-- the number that an option says, or would say
+unfoldable pub number_in : Choice → Text → List Row → Option ℕ
+number_in choice name rows = option_map_or (between choice) (first_of name rows) (Some choice.other)
+
+abbrev pub choice : ℕ → ℕ → ℕ → Choice
+choice least most other = record { least = least; most = most; other = other }
+
+unfoldable pub order_of : Text → Option Strategy
+order_of text =
+    if bytes_eq text (codes "max") then Some Max else
+    (if bytes_eq text (codes "sorted") then Some Sorted else
+    (if bytes_eq text (codes "timesorted") then Some TimeSorted else
+    (if bytes_eq text (codes "naive") then Some Naive else None)))
+
+-- the drain order that an option says: most points first where it is left out
+unfoldable pub order_in : List Row → Option Strategy
+order_in rows = option_map_or order_of (first_of (codes "order") rows) (Some Sorted)
+
+-- what every command may say
+unfoldable pub options_in : List Row → Option Options
+options_in rows =
+    option_and_then (λ limit. option_map (λ order. record { limit = limit; order = order }) (order_in rows))
+    (number_in (choice 1 10000000 262144) (codes "limit") rows)
+
+-- what `serve` may say besides
+unfoldable pub serve_options_in : List Row → Option ServeOptions
+serve_options_in rows =
+    option_and_then (λ lines. option_and_then (λ http. option_and_then (λ receivers. option_and_then (λ renderers. option_map (λ links.
+    record { line_port = lines; http_port = http; receivers = receivers; renderers = renderers; links = links })
+    (number_in (choice 0 1000000000 0) (codes "links") rows))
+    (number_in (choice 1 256 16) (codes "renderers") rows))
+    (number_in (choice 1 256 16) (codes "receivers") rows))
+    (number_in (choice 0 65535 8080) (codes "http-port") rows))
+    (number_in (choice 0 65535 2003) (codes "line-port") rows)
+
+-- the command of a name, with what stands behind it; there is no third one
+unfoldable pub command_in : Text → List Row → Option Command
+command_in name rows =
+    option_and_then (λ options.
+    if bytes_eq name (codes "script") then Some (Script options) else option_map (Serve options) (serve_options_in rows))
+    (options_in rows)
+
+-- what clap finds, where it refuses nothing
+abbrev pub unless_refused : {X : Type 0} → Kinds → Option X → Option X
+unless_refused [] found = found
+unless_refused (k ∷ ks) found = None
+
+-- the command that a parse met
+abbrev pub command_met : Option (Text × List Row) → Option Command
+command_met = option_and_then (λ met. command_in met.0 met.1)
+
+-- What these words say, where they are a command.
+unfoldable pub command_of : List Text → Option Command
+command_of words = command_met (unless_refused (fault_of carbon words) (subcommand_of carbon words))
+
+-- clap refuses nothing in the words, and this is what it finds
+pub record FindsWords (words : List Text) (matches : ArgMatches) : Type 0 where
+  pub none : fault_of carbon words ≡ []
+  pub met : subcommand_rows_of matches ≡ subcommand_of carbon words
+
+-- ---- what is known of each command
+
+abbrev pub HasLimit : Options → Type 0
+HasLimit options = 0 < options.limit
+
+-- there are workers of both kinds, and no more than 512
+pub record HasWorkers (options : ServeOptions) : Type 0 where
+  pub some_receivers : 1 ≤ options.receivers
+  pub few_receivers : options.receivers ≤ 256
+  pub some_renderers : 1 ≤ options.renderers
+  pub few_renderers : options.renderers ≤ 256
+
+abbrev pub IsSound : Command → Type 0
+IsSound (Script options) = HasLimit options
+IsSound (Serve options more) = HasLimit options × HasWorkers more

@@ -1,0 +1,51 @@
+//! What `clap` is told of the command line.
+ghost use Rattle.std.specs.Prelude.{◌≡◌, false, IfOk};
+ghost use Rattle.clap.specs.Words.{app_of, rule_of};
+ghost use Rattle.carbon_words.specs.CommandLine.{carbon, command_app, option_rule, serve_app};
+
+use clap::{Arg, Command};
+use std::alloc::{AllocError, Global};
+
+// An option that has a value, of this name.
+fn option<'a>(alloc: Global, name: &'a str) -> Arg<'a>
+    ensures rule { rule_of result ≡ option_rule name.entry.now }
+    ensures local { result.global ≡ false }
+{
+    Arg::new(alloc, name).long(name)
+}
+
+// A command of this name. Each says the limit and the order.
+fn command<'a>(alloc: Global, name: &'a str) -> Result<Command<'a>, AllocError>
+    ensures { IfOk result (λ c. app_of c ≡ command_app name.entry.now) }
+{
+    Command::new(alloc, name)
+        .disable_help_flag(true)
+        .arg(option(alloc, "limit"))?
+        .arg(option(alloc, "order"))
+}
+
+// The words behind `serve`.
+fn serve<'a>(alloc: Global) -> Result<Command<'a>, AllocError>
+    ensures { IfOk result (λ c. app_of c ≡ serve_app) }
+{
+    command(alloc, "serve")?
+        .arg(option(alloc, "line-port"))?
+        .arg(option(alloc, "http-port"))?
+        .arg(option(alloc, "receivers"))?
+        .arg(option(alloc, "renderers"))?
+        .arg(option(alloc, "links"))
+}
+
+/// All words behind the program's name. Nothing but the commands is understood: no help is asked for, and no version.
+pub(crate) fn carbon<'a>(alloc: Global) -> Result<Command<'a>, AllocError>
+    ensures { IfOk result (λ c. app_of c ≡ carbon) }
+{
+    Command::new(alloc, "carbon")
+        .no_binary_name(true)
+        .disable_help_flag(true)
+        .disable_help_subcommand(true)
+        .disable_version_flag(true)
+        .subcommand_required(true)
+        .subcommand(command(alloc, "script")?)?
+        .subcommand(serve(alloc)?)
+}

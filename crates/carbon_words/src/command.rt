@@ -1,0 +1,35 @@
+//! What a command line says.
+use drain_order::Strategy;
+
+/// What every command may say.
+#[derive(Clone, Copy, Debug, PartialEq, Eq)]
+pub struct Options {
+    /// How many points of a class may be pending.
+    pub limit: u64,
+    /// In which order metrics are drained.
+    pub order: Strategy,
+}
+
+/// What `serve` may say besides.
+#[derive(Clone, Copy, Debug, PartialEq, Eq)]
+pub struct ServeOptions {
+    /// The port for metric lines.
+    pub line_port: u16,
+    /// The port for HTTP.
+    pub http_port: u16,
+    /// How many threads receive metric lines.
+    pub receivers: u32,
+    /// How many threads answer HTTP requests.
+    pub renderers: u32,
+    /// How many links each port gives before it closes; 0: it never does.
+    pub links: u64,
+}
+
+/// A command.
+#[derive(Clone, Copy, Debug, PartialEq, Eq)]
+pub enum Command {
+    /// The script of the standard input runs.
+    Script(Options),
+    /// The ports are served.
+    Serve(Options, ServeOptions),
+}

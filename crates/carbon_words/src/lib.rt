@@ -1,0 +1,12 @@
+//! The words of the command line, and what they say. Which words are commands is said by `clap`.
+#![tactic(auto)]
+
+mod app;
+mod command;
+mod reading;
+
+pub use command::{Command, Options, ServeOptions};
+pub use reading::{WordsFault, read_words};
+
+#[cfg(test)]
+mod tests;

@@ -1,0 +1,206 @@
+//! Reading the words.
+ghost use Rattle.std.specs.Prelude.{◌≡◌, ◌≢◌, ◌≤◌, [], IfOk, IfErr, IfSome, map, string_bytes};
+ghost use Rattle.clap.specs.Faults.{fault_of};
+ghost use Rattle.clap.specs.Words.{found_of, kind_of, rows_of, subcommand_rows_of};
+ghost use Rattle.carbon_words.specs.CommandLine.{FindsWords, HasLimit, HasWorkers, IsSound, between, carbon, command_in, command_met, command_of, number_in, options_in, order_in, order_of, serve_options_in};
+
+use crate::app::carbon;
+use crate::command::{Command, Options, ServeOptions};
+use clap::error::ErrorKind;
+use clap::{ArgMatches, Error};
+use drain_order::Strategy;
+use fixed_num::read_whole;
+use std::alloc::{AllocError, Global};
+use thiserror::Error;
+
+/// Why words say nothing.
+#[derive(Clone, Copy, Debug, PartialEq, Eq, Error)]
+pub enum WordsFault {
+    /// They are no command.
+    #[error("the words are no command")]
+    Usage,
+    /// There was no memory.
+    #[error("there was no memory")]
+    NoMemory,
+}
+
+// The numbers that an option may say, and the one that it says where it is left out.
+#[derive(Clone, Copy)]
+pub(crate) struct Choice {
+    least: u64,
+    most: u64,
+    other: u64,
+}
+
+const LIMIT: Choice = Choice {
+    least: 1,
+    most: 10_000_000,
+    other: 262_144,
+};
+
+const LINE_PORT: Choice = Choice {
+    least: 0,
+    most: 65_535,
+    other: 2003,
+};
+
+const HTTP_PORT: Choice = Choice {
+    least: 0,
+    most: 65_535,
+    other: 8080,
+};
+
+const WORKERS: Choice = Choice {
+    least: 1,
+    most: 256,
+    other: 16,
+};
+
+const LINKS: Choice = Choice {
+    least: 0,
+    most: 1_000_000_000,
+    other: 0,
+};
+
+/// What the words behind the program's name say. They are refused exactly where they are no command.
+pub fn read_words(alloc: Global, words: &[String]) -> Result<Command, WordsFault>
+    ensures command { IfOk result (λ command. command_of (map string_bytes words.now) ≡ Some command) }
+    ensures usage { result ≡ Err WordsFault.Usage → command_of (map string_bytes words.now) ≡ None }
+    ensures sound { IfOk result IsSound }
+{
+    let matches = match parse(alloc, words) {
+        Ok(matches) => matches,
+        Err(error) => return Err(fault_of(&error)),
+    };
+    match command_met(&matches) {
+        Some(command) => Ok(command),
+        None => Err(WordsFault::Usage),
+    }
+}
+
+// What clap finds in the words.
+fn parse<'a>(alloc: Global, words: &'a [String]) -> Result<ArgMatches<'a>, Error>
+    ensures ok { IfOk result (FindsWords (map string_bytes words.now)) }
+    ensures err { IfErr result (λ e. kind_of e ≢ ErrorKind.OutOfMemory
+        → fault_of carbon (map string_bytes words.now) ≢ []) }
+{
+    let carbon = carbon(alloc)?;
+    carbon.try_get_matches_from(words)
+}
+
+fn fault_of(error: &Error) -> WordsFault
+    ensures { result ≡ WordsFault.Usage → kind_of error.now ≢ ErrorKind.OutOfMemory }
+{
+    match error.kind() {
+        ErrorKind::OutOfMemory => WordsFault::NoMemory,
+        _ => WordsFault::Usage,
+    }
+}
+
+// The command that was met, with what was found for it.
+fn command_met(matches: &ArgMatches<'_>) -> Option<Command>
+    ensures said { result ≡ command_met (subcommand_rows_of matches.now) }
+    ensures sound { IfSome result IsSound }
+{
+    let (name, values) = matches.subcommand()?;
+    command_in(name, values)
+}
+
+// The command of this name, with what was found for it.
+#[tactic(auto, unfolding(crate::specs::CommandLine::command_in))]
+fn command_in(name: &str, values: &ArgMatches<'_>) -> Option<Command>
+    ensures said { result ≡ command_in name.now (rows_of (found_of values.now)) }
+    ensures sound { IfSome result IsSound }
+{
+    let options = options_in(values)?;
+    if name == "script" {
+        return Some(Command::Script(options));
+    }
+    let more = serve_options_in(values)?;
+    Some(Command::Serve(options, more))
+}
+
+#[tactic(auto, unfolding(crate::specs::CommandLine::options_in))]
+fn options_in(values: &ArgMatches<'_>) -> Option<Options>
+    ensures said { result ≡ options_in (rows_of (found_of values.now)) }
+    ensures limit { IfSome result HasLimit }
+{
+    let limit = number_in(values, "limit", LIMIT)?;
+    let order = order_in(values)?;
+    Some(Options { limit, order })
+}
+
+#[tactic(auto, unfolding(crate::specs::CommandLine::serve_options_in))]
+fn serve_options_in(values: &ArgMatches<'_>) -> Option<ServeOptions>
+    ensures said { result ≡ serve_options_in (rows_of (found_of values.now)) }
+    ensures workers { IfSome result HasWorkers }
+{
+    let line_port = number_in(values, "line-port", LINE_PORT)?;
+    let http_port = number_in(values, "http-port", HTTP_PORT)?;
+    let receivers = number_in(values, "receivers", WORKERS)?;
+    let renderers = number_in(values, "renderers", WORKERS)?;
+    let links = number_in(values, "links", LINKS)?;
+    Some(ServeOptions {
+        line_port: line_port as u16,
+        http_port: http_port as u16,
+        receivers: receivers as u32,
+        renderers: renderers as u32,
+        links,
+    })
+}
+
+// The number of an option.
+#[tactic(auto, unfolding(crate::specs::CommandLine::number_in))]
+fn number_in(values: &ArgMatches<'_>, name: &str, choice: Choice) -> Option<u64>
+    requires { (choice.least ≤ choice.other) × (choice.other ≤ choice.most) }
+    ensures number { result ≡ number_in choice name.now (rows_of (found_of values.now)) }
+    ensures within { IfSome result (λ n. (choice.least ≤ n) × (n ≤ choice.most)) }
+{
+    match values.get_str(name) {
+        Some(text) => between(choice, text),
+        None => Some(choice.other),
+    }
+}
+
+#[tactic(auto, unfolding(crate::specs::CommandLine::between))]
+fn between(choice: Choice, text: &str) -> Option<u64>
+    ensures number { result ≡ between choice text.now }
+    ensures within { IfSome result (λ n. (choice.least ≤ n) × (n ≤ choice.most)) }
+{
+    let number = read_whole(text.as_bytes())?;
+    if choice.least <= number && number <= choice.most {
+        Some(number)
+    } else {
+        None
+    }
+}
+
+// The drain order that an option says.
+#[tactic(auto, unfolding(crate::specs::CommandLine::order_in))]
+fn order_in(values: &ArgMatches<'_>) -> Option<Strategy>
+    ensures { result ≡ order_in (rows_of (found_of values.now)) }
+{
+    match values.get_str("order") {
+        Some(text) => order_of(text),
+        None => Some(Strategy::Sorted),
+    }
+}
+
+#[tactic(auto, unfolding(crate::specs::CommandLine::order_of))]
+fn order_of(text: &str) -> Option<Strategy>
+    ensures { result ≡ order_of text.now }
+{
+    if text == "max" {
+        return Some(Strategy::Max);
+    }
+    if text == "sorted" {
+        return Some(Strategy::Sorted);
+    }
+    if text == "timesorted" {
+        return Some(Strategy::TimeSorted);
+    }
+    if text == "naive" {
+        return Some(Strategy::Naive);
+    }
+    None
+}

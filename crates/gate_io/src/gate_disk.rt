@@ -1,0 +1,97 @@
+// A disk whose calls may wait.
+use crate::faults::raised;
+use crate::gate::{Gate, pass};
+use outside_io::{Disk, DiskFailed, MemDisk, NamesFault};
+use std::time::Clock;
+
+/// A disk over another one, whose image it tells. Its first `write_at` may be made to wait at a gate, and fails where that does not open.
+#[derive(Drop)]
+pub struct GateDisk<R: Clock, D: Disk = MemDisk> {
+    disk: D,
+    write_gate: Option<Gate<R>>,
+    faults: u64,
+}
+
+impl<R: Clock + Drop, D: Disk + Drop> GateDisk<R, D> {
+    /// This disk. No call waits.
+    pub fn new(disk: D) -> GateDisk<R, D> {
+        GateDisk {
+            disk,
+            write_gate: None,
+            faults: 0,
+        }
+    }
+
+    /// The same disk, whose first `write_at` waits.
+    pub fn writing_at(mut self, gate: Gate<R>) -> GateDisk<R, D> {
+        self.write_gate = Some(gate);
+        self
+    }
+}
+
+impl<R: Clock + Drop, D: Disk + Drop> Disk for GateDisk<R, D> {
+    ghost image = { λ disk. D.image disk.disk };
+
+    ghost faults = { λ disk. disk.faults };
+
+    fn faults(&self) -> u64 {
+        self.faults
+    }
+
+    fn names(&mut self) -> Result<Vec<String>, NamesFault> {
+        match self.disk.names() {
+            Err(NamesFault::Failed) => {
+                self.faults = raised(self.faults);
+                Err(NamesFault::Failed)
+            }
+            answer => answer,
+        }
+    }
+
+    fn length(&mut self, name: &str) -> Result<Option<u64>, DiskFailed> {
+        match self.disk.length(name) {
+            Ok(length) => Ok(length),
+            Err(fault) => {
+                self.faults = raised(self.faults);
+                Err(fault)
+            }
+        }
+    }
+
+    fn create(&mut self, name: &str, len: u64) -> Result<(), DiskFailed> {
+        match self.disk.create(name, len) {
+            Ok(()) => Ok(()),
+            Err(fault) => {
+                self.faults = raised(self.faults);
+                Err(fault)
+            }
+        }
+    }
+
+    fn read_at(&mut self, name: &str, at: u64, buf: &mut [u8]) -> Result<(), DiskFailed> {
+        match self.disk.read_at(name, at, buf) {
+            Ok(()) => Ok(()),
+            Err(fault) => {
+                self.faults = raised(self.faults);
+                Err(fault)
+            }
+        }
+    }
+
+    #[tactic(auto, using(crate::proofs::SameFiles::same_tears))]
+    fn write_at(&mut self, name: &str, at: u64, piece: &[u8]) -> Result<(), DiskFailed> {
+        let is_open = pass(&self.write_gate);
+        self.write_gate = None;
+        if !is_open {
+            self.faults = raised(self.faults);
+            return Err(DiskFailed);
+        }
+        match self.disk.write_at(name, at, piece) {
+            Ok(()) => Ok(()),
+            Err(fault) => {
+                self.faults = raised(self.faults);
+                Err(fault)
+            }
+        }
+    }
+}
