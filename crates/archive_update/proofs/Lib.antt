@@ -6,5 +6,6 @@ pub mod StepLemmas
 pub mod RollLemmas
 pub mod PlanLemmas
 pub mod MoveLemmas
+pub mod SpanLemmas
 pub mod StretchLemmas
 pub mod NearLemmas

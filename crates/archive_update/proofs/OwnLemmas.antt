@@ -1,5 +1,5 @@
 -- What points write into their own archive.
-use Rattle.std.proofs.Common.{◌≡◌, ◌≢◌, ℕ, ℤ, suc, ◌+◌, ◌-◌, ◌*◌, ◌/◌, ◌%◌, ◌<◌, ◌≤◌, ◌==◌, Bool, true, false, List, [], ◌∷◌, ◌++◌, length, get_or, set, All, refl, sym, ap, ◌∙◌, arith}
+use Rattle.std.proofs.Common.{◌≡◌, ◌≢◌, ℕ, ℤ, suc, ◌+◌, ◌-◌, ◌*◌, ◌/◌, ◌%◌, ◌^◌, ◌<◌, ◌≤◌, ◌==◌, Bool, true, false, List, [], ◌∷◌, ◌++◌, length, get_or, set, All, refl, sym, ap, ◌∙◌, arith}
 use Rattle.std.specs.Prelude.{filter, take, if◌then◌else◌}
 use Rattle.std.proofs.lemmas.Bool.Decides.{nat_tests}
 use Rattle.std.proofs.lemmas.List.Elements.{All-head, All-tail, All-nil, All-cons, filter_more}
@@ -71,6 +71,11 @@ more_elsewhere step test points k d writes lt before other =
     before ∙ ap (latest_of_each step) (sym here)
 
 -- ---- the buckets
+
+pub moment_is_short : (time : ℕ) → is_moment time ≡ true → time < 2 ^ 32
+moment_is_short time moment =
+    let greatest : time ≤ 4000000000 = grind (arith, nat_tests) in
+    omega arith
 
 pub own_bucket : (step time : ℕ) → 1 ≤ step → step ≤ 31536000 → is_moment time ≡ true → IsOwn step (bucket_of step time)
 own_bucket step time some most moment =

@@ -2,3 +2,4 @@ pub mod Batch
 pub mod Laid
 pub mod Buckets
 pub mod Rolled
+pub mod Spans

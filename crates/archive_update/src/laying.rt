@@ -79,7 +79,7 @@ fn is_blank(patch: &Patch, archive: u32) -> bool
 fn has_cells(patch: &Patch, archive: u32) -> bool
     ensures { result ≡ list_any (λ cell. cell.0.0 == archive) patch.now.cells }
 {
-    patch.cells().any(|(place, _)| place.0 == archive)
+    patch.cells().iter().any(|cell| cell.0.0 == archive)
 }
 
 // Lays zero over each cell of an archive that is not zero.

@@ -1,8 +1,10 @@
 //! What points write into their own archive.
-ghost use Rattle.std.specs.Prelude.{◌≡◌, ◌<◌, ◌≤◌, ◌-◌, ◌%◌, true, All, IfOk, OnOk, length};
+ghost use Rattle.std.specs.Prelude.{◌≡◌, ◌<◌, ◌≤◌, ◌-◌, true, All, IfOk, OnOk, length};
 ghost use Rattle.fixed_num.specs.Moment.{is_moment};
-ghost use Rattle.archive_update.specs.Batch.{bucket_of, home_of, is_home, own_writes, step_of};
+ghost use Rattle.archive_update.specs.Batch.{bucket_of, own_writes, step_of};
 ghost use Rattle.archive_update.specs.Buckets.{IsOwn, with_latest};
+ghost use Rattle.archive_update.specs.Spans.{IsOldestOf};
+ghost use Rattle.ring_format.specs.Layout.{retention_of};
 
 use fixed_num::Milli;
 use ring_format::{Archive, Layout};
@@ -27,9 +29,10 @@ pub(crate) fn own_writes(
         (step_of layout.now.archives archive) write.0) writes.items) }
 {
     let step = layout.archive(archive).step;
+    let span = HomeSpan::new(layout.archives(), archive as usize, now);
     let mut writes = Vec::new(alloc);
     for point in points {
-        if is_home(layout.archives(), archive, now, point.0) {
+        if span.holds(point.0) {
             put_latest(&mut writes, step, point)?;
         }
     }
@@ -59,21 +62,52 @@ fn put_latest(
     Ok(())
 }
 
-// Whether the archive is the home of points of this time.
-fn is_home(archives: &[Archive], archive: u32, now: u32, time: u32) -> bool
-    ensures { result ≡ is_home archive (home_of archives.now now time) }
-{
-    match home_of(archives, now, time) {
-        Some(home) => home == archive as usize,
-        None => false,
+// The times whose points go to an archive: from a first one up to another, which is not among them.
+#[derive(Clone, Copy, Debug)]
+struct HomeSpan {
+    since: u64,
+    until: u64,
+}
+
+impl HomeSpan {
+    ghost use Rattle.std.specs.Prelude.{◌≡◌, ◌<◌, ◌^◌, ℕ, length};
+    ghost use Rattle.archive_update.specs.Batch.{home_of, is_home};
+    ghost use Rattle.archive_update.specs.Spans.{is_within};
+
+    // The times from the oldest that the archive reaches back to from `now`, to the oldest that a finer one does.
+    fn new(archives: &[Archive], archive: usize, now: u32) -> HomeSpan
+        requires { archive < length archives.now }
+        ensures { (time : ℕ) → time < 2 ^ 32
+            → is_within time result ≡ is_home archive (home_of archives.now now time) }
+    {
+        HomeSpan {
+            since: oldest_reached(archives[archive], now),
+            until: oldest_of_finer(archives, archive, now),
+        }
+    }
+
+    fn holds(self, time: u32) -> bool
+        ensures { result ≡ is_within time self }
+    {
+        self.since <= u64::from(time) && u64::from(time) < self.until
     }
 }
 
-// The first archive that reaches back far enough from `now`.
-fn home_of(archives: &[Archive], now: u32, time: u32) -> Option<usize>
-    ensures { result ≡ home_of archives.now now time }
+// The oldest time that an archive reaches back to.
+fn oldest_reached(archive: Archive, now: u32) -> u64
+    ensures { result ≡ now - retention_of archive }
 {
-    archives.iter().position(|archive| {
-        u64::from(now) <= u64::from(time) + u64::from(archive.step) * u64::from(archive.points)
-    })
+    u64::from(now).saturating_sub(archive.retention())
+}
+
+// The oldest time that one of the archives before this one reaches back to: none is later where there is none.
+fn oldest_of_finer(archives: &[Archive], archive: usize, now: u32) -> u64
+    requires { archive ≤ length archives.now }
+    ensures { IsOldestOf archives.now archive now result }
+{
+    let mut oldest = u64::MAX;
+    for finer in &archives[..archive] {
+        oldest = oldest.min(oldest_reached(*finer, now));
+    }
+    oldest
 }

@@ -5,15 +5,17 @@
 
 ghost use Rattle.std.specs.Prelude.{◌≡◌, IfOk, vec_len};
 
+mod arguments;
 mod host_net;
 
+use arguments::words;
 use carbon_run::run;
 use host_net::{HostNet, close_at_stop};
 use outside_io::{FolderDisk, StdSink, StdSource};
 use std::alloc::AllocError;
 use std::net::{IpAddr, Ipv4Addr};
 use std::process::ExitCode;
-use std::{env, io, thread};
+use std::{io, thread};
 use tcp_net::{SystemClock, TcpNet};
 
 /// How many classes there are, each with a disk of its own.
@@ -21,7 +23,7 @@ const CLASSES: usize = metric_path::CLASSES as usize;
 
 fn main(rt: HostRuntime) -> io::Result<ExitCode> {
     let alloc = rt.alloc();
-    let words = words(&rt)?;
+    let words = words(&rt, alloc)?;
     let disks = folders(&rt)?;
     let mut input = StdSource::new(&rt);
     let mut out = StdSink::new(rt.clone()?);
@@ -52,21 +54,6 @@ fn is_server(words: &[String]) -> bool {
     }
 }
 
-/// The words behind the program's name. Where one of them is no text they are none, which is no command.
-fn words(rt: &HostRuntime) -> io::Result<Vec<String>> {
-    let alloc = rt.alloc();
-    let mut words = Vec::new(alloc);
-    let args = match env::args(rt) {
-        Ok(args) => args,
-        Err(error) if error.kind() == io::ErrorKind::InvalidData => return Ok(words),
-        Err(error) => return Err(error),
-    };
-    for word in args.skip(1) {
-        words.push(word)?;
-    }
-    Ok(words)
-}
-
 /// A disk for each class, over the folders `data/00` to `data/15`.
 fn folders(rt: &HostRuntime) -> Result<Vec<FolderDisk<HostRuntime>>, AllocError>
     ensures { IfOk result (λ disks. vec_len disks ≡ 16) }
@@ -79,3 +66,6 @@ fn folders(rt: &HostRuntime) -> Result<Vec<FolderDisk<HostRuntime>>, AllocError>
     }
     Ok(disks)
 }
+
+#[cfg(test)]
+mod tests;

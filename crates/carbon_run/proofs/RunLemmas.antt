@@ -31,15 +31,14 @@ use Rattle.shared_store.specs.Starts.{AreFreshShards}
 use Rattle.shared_store.specs.Tallies.{capped, is_fault}
 use Rattle.shared_store.specs.declared.close.Closed.{Closed}
 use Rattle.carbon_script.specs.Alone.{IsOnly}
-use Rattle.carbon_script.specs.Script.{Machine}
-use Rattle.carbon_script.specs.Scripts.{EndsWith}
-use Rattle.carbon_script.specs.Sessions.{Ends, SessionValue}
+use Rattle.carbon_script.specs.Script.{Machine, opening}
+use Rattle.carbon_script.specs.Sessions.{EndsFrom, SessionValue}
 use Rattle.carbon_script.specs.declared.serve.ScriptEnd.{ScriptEnd}
 use Rattle.carbon_script.specs.declared.serve.ScriptEnd.TheVariants as end
 use Rattle.carbon_script.specs.declared.serve.Scripted.{Scripted as Served}
 use Rattle.carbon_script.proofs.AloneLemmas.{all_own}
 use Rattle.carbon_script.proofs.PendingLemmas.{none_pending}
-use Rattle.carbon_run.specs.Runs.{Answer, CameTo, EndsByDisk, IsDrained, NoStart, Scripted, Streams, TellsEnd}
+use Rattle.carbon_run.specs.Runs.{Answer, CameTo, EndsByDisk, EndsOver, EndsOverWith, IsDrained, NoStart, Scripted, Streams, TellsEnd}
 use Rattle.carbon_run.specs.Stores.{RunsShards}
 
 -- ---- the history
@@ -82,11 +81,11 @@ stands_each None P each = tt
 stands_each (Some disk) P each = each disk refl
 
 -- a script that is done leaves nothing pending, and no drain half written
-drained : {D : Type 0} (d : Ghosts D) (told : ℕ → Option Image) (start : State) (earlier : ℕ → ℕ) (session : SessionValue) (left before left' mid : Option (List ℕ)) (history : List Entry) (disks : List D)
-    → Ends told start end.Done left before left' session mid → history ≡ session.pass.seen → length disks ≡ 16
+drained : {D : Type 0} (d : Ghosts D) (told : ℕ → Option Image) (start : State) (from : Machine) (earlier : ℕ → ℕ) (session : SessionValue) (left before left' mid : Option (List ℕ)) (history : List Entry) (disks : List D)
+    → EndsFrom told start from end.Done left before left' session mid → history ≡ session.pass.seen → length disks ≡ 16
     → ((k : ℕ) (disk : D) → slice_get disks k ≡ Some disk → EndsAs d told start earlier (session.pass ∷ []) history k disk)
     → IsDrained d.image told disks (replay start history)
-drained d told start earlier session left before left' mid history disks ends same sixteen each =
+drained d told start from earlier session left before left' mid history disks ends same sixteen each =
     let whole = ends.ends.0 in
     let means = whole.means in
     let entries : history ≡ whole.last.entries = same ∙ means.seen in record {
@@ -100,6 +99,16 @@ drained d told start earlier session left before left' mid history disks ends sa
           subst (λ (es : List Entry). drains (about_class k es) ≤ settled_in k session.pass) (sym entries) (means.settled k (whole.run.drained.none k few)) in
           ends_alone d told start earlier session.pass history k disk settled (each k disk at));
     }
+
+drained_over : {D : Type 0} (d : Ghosts D) (told : ℕ → Option Image) (start : State) (earlier : ℕ → ℕ) (session : SessionValue) (front left before left' mid : Option (List ℕ)) (history : List Entry) (disks : List D)
+    → EndsOver told start end.Done front left before left' session mid → history ≡ session.pass.seen → length disks ≡ 16
+    → ((k : ℕ) (disk : D) → slice_get disks k ≡ Some disk → EndsAs d told start earlier (session.pass ∷ []) history k disk)
+    → IsDrained d.image told disks (replay start history)
+drained_over d told start earlier session None left before left' mid history disks ends same sixteen each =
+    drained d told start (opening start) earlier session left before left' mid history disks ends same sixteen each
+drained_over d told start earlier session (Some front) left before left' mid history disks (inl within) same sixteen each = absurd within.breaks
+drained_over d told start earlier session (Some front) left before left' mid history disks (inr after) same sixteen each =
+    drained d told start after.mid earlier session left before left' mid history disks after.ends same sixteen each
 
 -- ---- a disk that failed
 
@@ -138,11 +147,11 @@ there_below (x ∷ xs) zero few none = none-some x (sym none)
 there_below (x ∷ xs) (suc k) few none = there_below xs k (omega (arith, few)) none
 
 -- the drain at the end failed: the last entry tells so
-fault_last : {D : Type 0} (d : Ghosts D) (told : ℕ → Option Image) (start : State) (earlier : ℕ → ℕ) (session : SessionValue) (left before left' mid : Option (List ℕ)) (class : ℕ) (answer : Answer D)
-    → Ends told start (end.DiskFault class) left before left' session mid → answer.history ≡ session.pass.seen → length answer.disks ≡ 16
+fault_last : {D : Type 0} (d : Ghosts D) (told : ℕ → Option Image) (start : State) (from : Machine) (earlier : ℕ → ℕ) (session : SessionValue) (left before left' mid : Option (List ℕ)) (class : ℕ) (answer : Answer D)
+    → EndsFrom told start from (end.DiskFault class) left before left' session mid → answer.history ≡ session.pass.seen → length answer.disks ≡ 16
     → ((k : ℕ) (disk : D) → slice_get answer.disks k ≡ Some disk → EndsAs d told start earlier (session.pass ∷ []) answer.history k disk)
     → EndsByDisk d earlier class answer
-fault_last d told start earlier session left before left' mid class answer ends same sixteen each =
+fault_last d told start from earlier session left before left' mid class answer ends same sixteen each =
     let stops = ends.ends.0 in
     let fails = stops.cut.1.0 in
     let silent = stops.cut.1.1 in
@@ -157,6 +166,16 @@ fault_last d told start earlier session left before left' mid class answer ends 
           (stands_each (slice_get answer.disks class) _ (λ disk at. (each class disk at).faults))
           (there_below answer.disks class (omega (arith, sixteen, fails.within))) some;
     }
+
+fault_over : {D : Type 0} (d : Ghosts D) (told : ℕ → Option Image) (start : State) (earlier : ℕ → ℕ) (session : SessionValue) (front left before left' mid : Option (List ℕ)) (class : ℕ) (answer : Answer D)
+    → EndsOver told start (end.DiskFault class) front left before left' session mid → answer.history ≡ session.pass.seen → length answer.disks ≡ 16
+    → ((k : ℕ) (disk : D) → slice_get answer.disks k ≡ Some disk → EndsAs d told start earlier (session.pass ∷ []) answer.history k disk)
+    → EndsByDisk d earlier class answer
+fault_over d told start earlier session None left before left' mid class answer ends same sixteen each =
+    fault_last d told start (opening start) earlier session left before left' mid class answer ends same sixteen each
+fault_over d told start earlier session (Some front) left before left' mid class answer (inl within) same sixteen each = absurd within.breaks
+fault_over d told start earlier session (Some front) left before left' mid class answer (inr after) same sixteen each =
+    fault_last d told start after.mid earlier session left before left' mid class answer after.ends same sixteen each
 
 -- ---- the one pass
 
@@ -190,7 +209,7 @@ alone_of_table table passes pass one same = subst (λ (ps : List PassValue). Pas
 
 -- what a script over a store came to, once the store is closed
 pub came_to : {D : Type 0} (d : Ghosts D) (own : TableId) (told : ℕ → Option Image) (start : State) (earlier : ℕ → ℕ) (made : ℕ) (served : Served) (passes : List PassValue) (closed : Closed D) (streams : Streams) (mid : Option (List ℕ)) (answer : Answer D)
-    → made ≡ 1 → passes ≡ served.pass ∷ [] → EndsWith told start served streams.left streams.written streams.left' mid → IsOnly own start served.pass
+    → made ≡ 1 → passes ≡ served.pass ∷ [] → EndsOverWith told start served streams.front streams.left streams.written streams.left' mid → IsOnly own start served.pass
     → Closes d made told start earlier passes closed → TellsEnd served.end answer.status mid streams.written'
     → answer.history ≡ closed.history → answer.disks ≡ closed.disks.items → CameTo d told start earlier streams answer
 came_to {D = D} d own told start earlier made served passes closed streams mid answer alone one ends only closes tells history disks =
@@ -213,11 +232,11 @@ came_to {D = D} d own told start earlier made served passes closed streams mid a
       legal = subst (λ (es : List Entry). IsLegalHistory start es) (sym history) closes.legal;
       disks = each;
       done = λ is.
-          drained d told start earlier ends.code streams.left streams.written streams.left' mid answer.history answer.disks
-          (subst (λ (reason : ScriptEnd). Ends told start reason streams.left streams.written streams.left' ends.code mid) is ends.ends) seen sixteen each;
+          drained_over d told start earlier ends.code streams.front streams.left streams.written streams.left' mid answer.history answer.disks
+          (subst (λ (reason : ScriptEnd). EndsOver told start reason streams.front streams.left streams.written streams.left' ends.code mid) is ends.ends) seen sixteen each;
       fault = λ class is.
-          fault_last d told start earlier ends.code streams.left streams.written streams.left' mid class answer
-          (subst (λ (reason : ScriptEnd). Ends told start reason streams.left streams.written streams.left' ends.code mid) is ends.ends) seen sixteen each;
+          fault_over d told start earlier ends.code streams.front streams.left streams.written streams.left' mid class answer
+          (subst (λ (reason : ScriptEnd). EndsOver told start reason streams.front streams.left streams.written streams.left' ends.code mid) is ends.ends) seen sixteen each;
     }
 
 -- ---- from the shards to the disks that were given

@@ -1,5 +1,5 @@
 -- From shards that started to the end of a server.
-use Rattle.std.proofs.Common.{◌≡◌, ◌⊎◌, inl, inr, ◌∙◌, ℕ, ◌<◌, ◌≤◌, List, [], length, map, Option, Some, refl, sym, ap, subst, arith}
+use Rattle.std.proofs.Common.{◌≡◌, ◌⊎◌, inl, inr, ◌∙◌, ℕ, ◌<◌, ◌≤◌, List, [], length, map, Option, None, Some, refl, sym, ap, subst, arith}
 use Rattle.std.specs.Prelude.{count_by, slice_get}
 use mathlib.Core.Path.{fun_ext}
 use Rattle.outside_io.specs.Image.{Image}
@@ -108,7 +108,7 @@ served_over {d = d} net_faults net net' settings given shards moments passes str
 -- a server is told of no input, so whatever is left of one stays
 pub beside_input : {D E : Type 0} (d : Ghosts D) (net_faults : E → ℕ) (net net' : E) (settings : Settings) (moments : ℕ → Type 0) (passes : ℕ) (left : Option (List ℕ)) (before after : Option (List ℕ)) (given : List D) (answer : Answer D)
     → ServeRuns d net_faults net net' settings moments passes (unread before after) given answer
-    → ServeRuns d net_faults net net' settings moments passes (record { left = left; left' = left; written = before; written' = after }) given answer
+    → ServeRuns d net_faults net net' settings moments passes (record { front = None; left = left; left' = left; written = before; written' = after }) given answer
 beside_input d net_faults net net' settings moments passes left before after given answer (inl none) =
     inl (record { refusal = none.refusal; refuses = none.refuses; tells = none.tells; history = none.history; input = refl })
 beside_input d net_faults net net' settings moments passes left before after given answer (inr (inl none)) =

@@ -3,4 +3,5 @@ pub mod Texts
 pub mod Runs
 pub mod Stores
 pub mod Serves
+pub mod Samples
 pub mod Commands

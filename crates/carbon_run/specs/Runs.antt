@@ -1,5 +1,5 @@
 -- What a run of carbon comes to.
-use Rattle.std.specs.Prelude.{◌≡◌, ◌<◌, ◌⊎◌, ℕ, List, [], ◌∷◌, ◌++◌, Option, Some, IfSome, Ok, slice_get, string_bytes}
+use Rattle.std.specs.Prelude.{◌≡◌, ◌<◌, ◌⊎◌, ℕ, List, [], ◌∷◌, ◌++◌, Option, Some, None, IfSome, Ok, slice_get, string_bytes}
 use Rattle.std.specs.Io.KnownBytes.{Appends}
 use Rattle.outside_io.specs.Image.{Image}
 use Rattle.outside_io.specs.Faults.{Rose}
@@ -19,9 +19,11 @@ use Rattle.shard_set.specs.Opening.{AreSound, RefusesAll}
 use Rattle.shard_set.specs.declared.refused.Refusal.{Refusal}
 use Rattle.shared_store.specs.Closes.{EndsAs}
 pub use Rattle.carbon_serve.specs.Serves.{IsDrained}
+use Rattle.carbon_script.specs.Behind.{EndsBehind}
 use Rattle.carbon_script.specs.Sessions.{Ends, SessionValue}
 use Rattle.carbon_script.specs.declared.serve.ScriptEnd.{ScriptEnd}
 use Rattle.carbon_script.specs.declared.serve.ScriptEnd.TheVariants as end
+use Rattle.carbon_script.specs.declared.serve.Scripted.{Scripted as ServedScript}
 use Rattle.carbon_words.specs.declared.reading.WordsFault.{WordsFault}
 use Rattle.carbon_words.specs.declared.reading.WordsFault.TheVariants as words
 use Rattle.carbon_run.specs.Conf.{IsRefused}
@@ -29,8 +31,10 @@ use Rattle.carbon_run.specs.declared.conf.ConfFault.{ConfFault}
 use Rattle.carbon_run.specs.declared.conf.ConfFault.TheVariants as conf
 use Rattle.carbon_run.specs.Texts.{conf_fault_line, damaged_line, disk_fault_line, limit_line, no_memory_line, read_fault_line, rule_fault_line, usage_line}
 
--- the streams of a run: what is left of the input, and what was written, before it and after it
+-- The streams of a run: what is left of the input, and what was written, before it and after it. Before the input may stand a front, whose lines are
+-- served as those of the input are, and what they say is not written.
 pub record Streams : Type 0 where
+  pub front : Option (List ℕ)
   pub left : Option (List ℕ)
   pub left' : Option (List ℕ)
   pub written : Option (List ℕ)
@@ -45,7 +49,11 @@ pub record Answer (D : Type 0) : Type 0 where
 -- those of a source and a sink
 abbrev pub streams_of : {S K : Type 0} → SourceGhosts S → SinkGhosts K → S → S → K → K → Streams
 streams_of s k input input' out out' =
-    record { left = s.left input; left' = s.left input'; written = k.written out; written' = k.written out' }
+    record { front = None; left = s.left input; left' = s.left input'; written = k.written out; written' = k.written out' }
+
+-- the same behind a front
+abbrev pub behind : Option (List ℕ) → Streams → Streams
+behind front streams = record streams { front = front }
 
 abbrev pub answer_of : {D : Type 0} → ℕ → List Entry → List D → Answer D
 answer_of status history disks = record { status = status; history = history; disks = disks }
@@ -117,6 +125,17 @@ pub record NoStart {D : Type 0} (d : Ghosts D) (streams : Streams) (disks : List
 
 -- ---- runs of the script
 
+-- how a script ended: over its input alone, or behind a front
+abbrev pub EndsOver : (ℕ → Option Image) → State → ScriptEnd → Option (List ℕ) → Option (List ℕ) → Option (List ℕ) → Option (List ℕ) → SessionValue → Option (List ℕ) → Type 0
+EndsOver told start reason None left before left' session after = Ends told start reason left before left' session after
+EndsOver told start reason (Some front) left before left' session after = EndsBehind told start reason (Some front) left before left' session after
+
+-- the end that it had, and its pass, with some clock and counts
+pub record EndsOverWith (told : ℕ → Option Image) (start : State) (served : ServedScript) (front left before left' after : Option (List ℕ)) : Type 0 where
+  pub code : SessionValue
+  pub pass : code.pass ≡ served.pass
+  pub ends : EndsOver told start served.end front left before left' code after
+
 -- How the end of a script is told behind what it wrote: by a fault line, but where it is done, or a write failed.
 abbrev pub TellsEnd : ScriptEnd → ℕ → Option (List ℕ) → Option (List ℕ) → Type 0
 TellsEnd end.Done answer before after = (answer ≡ 0) × (after ≡ before)
@@ -150,7 +169,7 @@ pub record CameTo {D : Type 0} (d : Ghosts D) (told : ℕ → Option Image) (sta
   pub reason : ScriptEnd
   pub session : SessionValue
   pub mid : Option (List ℕ)
-  pub ends : Ends told start reason streams.left streams.written streams.left' session mid
+  pub ends : EndsOver told start reason streams.front streams.left streams.written streams.left' session mid
   pub tells : TellsEnd reason answer.status mid streams.written'
   pub history : answer.history ≡ session.pass.seen
   pub legal : IsLegalHistory start answer.history

@@ -63,7 +63,7 @@ ServeRuns d net_faults net net' settings moments passes streams given answer =
 
 -- the streams of what has no input
 abbrev pub unread : Option (List ℕ) → Option (List ℕ) → Streams
-unread before after = record { left = None; left' = None; written = before; written' = after }
+unread before after = record { front = None; left = None; left' = None; written = before; written' = after }
 
 -- there is no port for them, and the disks of the shards are handed back
 pub record LacksPort {D : Type 0} {E : Type 0} {d : Ghosts D} (net_faults : E → ℕ) (net net' : E) (shards : List (Shard D d)) (streams : Streams) (answer : Answer D) : Type 0 where

@@ -5,6 +5,7 @@ mod conf;
 mod line;
 mod report;
 mod rule_line;
+mod samples;
 mod scripts;
 mod serving;
 mod tally_line;

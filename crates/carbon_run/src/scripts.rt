@@ -1,20 +1,23 @@
 //! The command `script`, once the rule files are read.
-ghost use Rattle.std.specs.Prelude.{◌≡◌, ◌⊎◌, ◌<◌, ◌≤◌, ◌∷◌, ◌++◌, [], map, vec_capacity, vec_len};
+ghost use Rattle.std.specs.Prelude.{◌≡◌, ◌⊎◌, ◌<◌, ◌≤◌, ◌∷◌, ◌++◌, [], map, option_map, vec_capacity, vec_len};
 ghost use Rattle.outside_io.specs.Frames.{CountsReads, CountsWrites};
 ghost use Rattle.shard_set.specs.Disks.{faults_at, told_at};
 ghost use Rattle.shard_set.specs.Opening.{settings_of};
 ghost use Rattle.shard_set.specs.OpeningState.{AreReadyShards, opening_of};
-ghost use Rattle.shared_history.specs.Parts.{AreNewPasses};
+ghost use Rattle.sample_text.specs.Sources.{left_of};
+ghost use Rattle.shared_history.specs.Parts.{AreNewPasses, IsNewPass};
+ghost use Rattle.carbon_script.specs.Alone.{IsOnly};
 ghost use Rattle.shared_store.specs.Starts.{IsFresh};
-ghost use Rattle.carbon_run.specs.Runs.{CameTo, FailsToTell, NoStart, Scripted, TellsAlone, TellsEnd, TellsStart, answer_of, streams_of};
+ghost use Rattle.carbon_run.specs.Runs.{CameTo, EndsOverWith, FailsToTell, NoStart, Scripted, TellsAlone, TellsEnd, TellsStart, answer_of, behind, streams_of};
 ghost use Rattle.carbon_run.specs.Texts.{no_memory_line};
 ghost use Rattle.carbon_run.specs.Stores.{RunsShards};
 
 use crate::Report;
 use crate::telling::{tell_damaged, tell_disk_fault, tell_limit, tell_no_memory, tell_read_fault};
-use carbon_script::{ScriptEnd, script};
+use carbon_script::{ScriptEnd, Scripted as ServedScript, script, script_behind};
 use metric_path::CLASSES;
 use outside_io::{Disk, Sink, Source};
+use sample_text::SampleSource;
 use shard_core::{Shard, StartFault};
 use shard_set::{Refusal, Setup, Started, hand_back, start_all};
 use shared_history::{Pass, make};
@@ -23,28 +26,31 @@ use std::alloc::Global;
 use std::marker::Brand;
 use std::sync::Wait;
 
-/// Runs the script of the input over the disks, so set up. All shards start before the input is read.
+/// Runs the script of the input over the disks, so set up, behind a front if there is one. All shards start before the input is read.
 pub(crate) fn run_script<R: Wait, D: Disk + Drop, S: Source, K: Sink>(
     rt: &R,
     alloc: Global,
     disks: Vec<D>,
     setup: &Setup,
+    front: Option<SampleSource>,
     input: &mut S,
     out: &mut K,
 ) -> Report<D>
     requires { vec_len disks ≡ 16 }
     ensures comes { NoStart D.Disk
-        (streams_of S.Source K.Sink input.old input.new out.old out.new) disks.items
+        (behind (option_map left_of front)
+        (streams_of S.Source K.Sink input.old input.new out.old out.new)) disks.items
         (answer_of result.status result.history result.disks.items)
         ⊎ Scripted D.Disk (settings_of setup.now)
-        (streams_of S.Source K.Sink input.old input.new out.old out.new) disks.items
+        (behind (option_map left_of front)
+        (streams_of S.Source K.Sink input.old input.new out.old out.new)) disks.items
         (answer_of result.status result.history result.disks.items) }
     ensures reads { CountsReads S.Source input.old input.new (result.status ≡ 6) }
     ensures writes { CountsWrites K.Sink out.old out.new (result.status ≡ 7) }
     ensures all { vec_len result.disks ≡ 16 }
 {
     match start_all(alloc, disks, setup) {
-        Ok(started) => run_shards(rt, alloc, started, input, out),
+        Ok(started) => run_shards(rt, alloc, started, front, input, out),
         Err(refused) => {
             let status = tell_refusal(&refused.refusal, out);
             Report::without_command(status, refused.disks)
@@ -57,6 +63,7 @@ fn run_shards<R: Wait, D: Disk + Drop, S: Source, K: Sink>(
     rt: &R,
     alloc: Global,
     started: Started<D>,
+    front: Option<SampleSource>,
     input: &mut S,
     out: &mut K,
 ) -> Report<D>
@@ -64,7 +71,8 @@ fn run_shards<R: Wait, D: Disk + Drop, S: Source, K: Sink>(
         (faults_at started.shards.items) started.shards.items }
     ensures runs { RunsShards (told_at started.shards.items) (opening_of started.shards.items)
         (faults_at started.shards.items) started.shards.items
-        (streams_of S.Source K.Sink input.old input.new out.old out.new)
+        (behind (option_map left_of front)
+        (streams_of S.Source K.Sink input.old input.new out.old out.new))
         (answer_of result.status result.history result.disks.items) }
     ensures reads { CountsReads S.Source input.old input.new (result.status ≡ 6) }
     ensures writes { CountsWrites K.Sink out.old out.new (result.status ≡ 7) }
@@ -78,7 +86,7 @@ fn run_shards<R: Wait, D: Disk + Drop, S: Source, K: Sink>(
                 tails,
                 shards,
             };
-            run_parts::<Brand, R, D, S, K>(rt, alloc, parts, passes, room, input, out)
+            run_parts::<Brand, R, D, S, K>(rt, alloc, parts, passes, room, front, input, out)
         }
         Err(_) => report_no_memory(shards, room, out),
     }
@@ -91,6 +99,7 @@ fn run_parts<N: Named, R: Wait, D: Disk + Drop, S: Source, K: Sink>(
     parts: Parts<D>,
     passes: Vec<Pass>,
     room: Vec<D>,
+    front: Option<SampleSource>,
     input: &mut S,
     out: &mut K,
 ) -> Report<D>
@@ -99,14 +108,15 @@ fn run_parts<N: Named, R: Wait, D: Disk + Drop, S: Source, K: Sink>(
     requires new { AreNewPasses N.table passes.items }
     requires room { (vec_len room ≡ 0) × (16 ≤ vec_capacity room) }
     ensures runs { RunsShards N.told N.start N.faults parts.shards.items
-        (streams_of S.Source K.Sink input.old input.new out.old out.new)
+        (behind (option_map left_of front)
+        (streams_of S.Source K.Sink input.old input.new out.old out.new))
         (answer_of result.status result.history result.disks.items) }
     ensures reads { CountsReads S.Source input.old input.new (result.status ≡ 6) }
     ensures writes { CountsWrites K.Sink out.old out.new (result.status ≡ 7) }
     ensures all { vec_len result.disks ≡ 16 }
 {
     match Store::<D, N>::start(alloc, parts) {
-        Ok(store) => run_store(rt, alloc, store, passes, input, out),
+        Ok(store) => run_store(rt, alloc, store, passes, front, input, out),
         Err(parts) => report_no_memory(parts.shards, room, out),
     }
 }
@@ -117,13 +127,15 @@ fn run_store<N: Named, R: Wait, D: Disk + Drop, S: Source, K: Sink>(
     alloc: Global,
     store: Store<D, N>,
     passes: Vec<Pass>,
+    front: Option<SampleSource>,
     input: &mut S,
     out: &mut K,
 ) -> Report<D>
     requires one { (N.passes ≡ 1) × (vec_len passes ≡ 1) }
     requires new { AreNewPasses N.table passes.items }
     ensures came { CameTo D.Disk N.told N.start N.faults
-        (streams_of S.Source K.Sink input.old input.new out.old out.new)
+        (behind (option_map left_of front)
+        (streams_of S.Source K.Sink input.old input.new out.old out.new))
         (answer_of result.status result.history result.disks.items) }
     ensures reads { CountsReads S.Source input.old input.new (result.status ≡ 6) }
     ensures writes { CountsWrites K.Sink out.old out.new (result.status ≡ 7) }
@@ -133,7 +145,7 @@ fn run_store<N: Named, R: Wait, D: Disk + Drop, S: Source, K: Sink>(
     let Some(pass) = passes.pop() else {
         unreachable!()
     };
-    let served = script(rt, alloc, &store, pass, input, out);
+    let served = serve_script(rt, alloc, &store, pass, front, input, out);
     let status = tell_end(served.end, out);
     put_back(&mut passes, served.pass);
     let Closed {
@@ -145,6 +157,30 @@ fn run_store<N: Named, R: Wait, D: Disk + Drop, S: Source, K: Sink>(
         status,
         history,
         disks,
+    }
+}
+
+// Serves the script of the input by the one pass of a store. What the lines of a front say is not written.
+fn serve_script<N: Named, R: Wait, D: Disk, S: Source, K: Sink>(
+    rt: &R,
+    alloc: Global,
+    store: &Store<D, N>,
+    pass: Pass,
+    front: Option<SampleSource>,
+    input: &mut S,
+    out: &mut K,
+) -> ServedScript
+    requires alone { N.passes ≡ 1 }
+    requires new { IsNewPass N.table 0 pass }
+    ensures ends { EndsOverWith N.told N.start result (option_map left_of front)
+        (S.left input.old) (K.written out.old) (S.left input.new) (K.written out.new) }
+    ensures only { IsOnly N.table N.start result.pass }
+    ensures reads { CountsReads S.Source input.old input.new (result.end ≡ ScriptEnd.ReadFault) }
+    ensures writes { CountsWrites K.Sink out.old out.new (result.end ≡ ScriptEnd.WriteFault) }
+{
+    match front {
+        Some(mut front) => script_behind(rt, alloc, store, pass, &mut front, input, out),
+        None => script(rt, alloc, store, pass, input, out),
     }
 }
 

@@ -16,6 +16,9 @@ const NOW: u64 = 1_700_000_030;
 
 const NO_ROUTE: &[u8] = b"GET /x HTTP/1.1\r\nHost: localhost\r\n\r\n";
 
+// The whole reply to it.
+const NOT_FOUND: &[u8] = b"HTTP/1.1 404 Not Found\r\nContent-Length: 0\r\n\r\n";
+
 fn sixteen_disks<R: Clock + Drop>(alloc: Global) -> Result<Vec<GateDisk<R>>, AllocError>
     ensures { IfOk result (λ disks. vec_len disks ≡ 16) }
 {
@@ -149,8 +152,8 @@ fn one_worker_of_each_kind_serves_all_links(rt: HostRuntime) -> Result<(), Fail>
         0,
         b"stored 3 replaced 0 full 0 drains 3\n",
     )?;
-    assert!(rt; first.begin_with(&rt, b"HTTP/1.1 404 "));
-    assert!(rt; second.begin_with(&rt, b"HTTP/1.1 404 "));
+    assert!(rt; first.are(&rt, NOT_FOUND));
+    assert!(rt; second.are(&rt, NOT_FOUND));
     Ok(())
 }
 
@@ -204,8 +207,8 @@ fn two_renderers_write_at_once(rt: HostRuntime) -> Result<(), Fail> {
         0,
         b"stored 0 replaced 0 full 0 drains 0\n",
     )?;
-    assert!(rt; first.begin_with(&rt, b"HTTP/1.1 404 "));
-    assert!(rt; second.begin_with(&rt, b"HTTP/1.1 404 "));
+    assert!(rt; first.are(&rt, NOT_FOUND));
+    assert!(rt; second.are(&rt, NOT_FOUND));
     Ok(())
 }
 
@@ -241,6 +244,35 @@ fn the_drainer_writes_while_links_are_served(rt: HostRuntime) -> Result<(), Fail
     let status = run_server(&rt, alloc, "serve", disks, &mut net, &mut out)?;
     assert!(rt; status == 0);
     assert!(rt; out.bytes() == b"stored 1 replaced 0 full 0 drains 1\n".as_slice());
-    assert!(rt; sent.begin_with(&rt, b"HTTP/1.1 404 "));
+    assert!(rt; sent.are(&rt, NOT_FOUND));
+    Ok(())
+}
+
+// What a dashboard browses and then draws, on one link: nodes, paths, all names, a request without a query, the values of a metric in two forms.
+const BROWSED: &[u8] =
+    b"GET /metrics/find?query=* HTTP/1.1\r\nHost: x\r\n\r\nGET /metrics/expand?query=* HTTP/1.1\r\n\r\nGET /metrics/index.json HTTP/1.1\r\n\r\nGET /metrics/find HTTP/1.1\r\n\r\nGET /render?target=a.b&from=1699999930&until=1700000030&format=csv HTTP/1.1\r\n\r\nGET /render?target=a.b&from=1699999930&until=1700000030 HTTP/1.1\r\nConnection: close\r\n\r\n";
+
+const BROWSED_REPLIES: &[u8] =
+    b"HTTP/1.1 200 OK\r\nContent-Type: application/json\r\nContent-Length: 89\r\n\r\n[{\"allowChildren\": 1, \"expandable\": 1, \"leaf\": 0, \"id\": \"a\", \"text\": \"a\", \"context\": {}}]HTTP/1.1 200 OK\r\nContent-Type: application/json\r\nContent-Length: 18\r\n\r\n{\"results\": [\"a\"]}HTTP/1.1 200 OK\r\nContent-Type: application/json\r\nContent-Length: 7\r\n\r\n[\"a.b\"]HTTP/1.1 400 Bad Request\r\nContent-Type: text/plain\r\nContent-Length: 9\r\n\r\nno query\nHTTP/1.1 200 OK\r\nContent-Type: text/csv\r\nContent-Length: 29\r\n\r\na.b,2023-11-14 22:13:00,1.5\r\nHTTP/1.1 200 OK\r\nContent-Type: application/json\r\nContent-Length: 54\r\nConnection: close\r\n\r\n[{\"target\": \"a.b\", \"datapoints\": [[1.5, 1699999980]]}]";
+
+// A link whose requests are read once the one line of another link is being drained.
+#[test]
+fn names_and_values_are_told_over_one_link(rt: HostRuntime) -> Result<(), Fail> {
+    let alloc = rt.alloc();
+    let draining = Flag::new(alloc)?;
+    let opened = Flag::new(alloc)?;
+    opened.raise();
+    let disks = waiting_disks(alloc, Gate::new(rt, draining.share()?, opened))?;
+    let gate = Gate::new(rt, Flag::new(alloc)?, draining);
+    let sent = Sent::new(alloc)?;
+    let mut http = Vec::new(alloc);
+    http.push(link(rt, alloc, BROWSED, &sent)?.reading_at(gate))?;
+    let lines = line_links(rt, alloc, &[b"a.b 1.5 1700000000\n".as_slice()])?;
+    let mut net = MemNet::new(rt, lines, http);
+    let mut out = MemSink::new(alloc);
+    let status = run_server(&rt, alloc, "serve", disks, &mut net, &mut out)?;
+    assert!(rt; status == 0);
+    assert!(rt; out.bytes() == b"stored 1 replaced 0 full 0 drains 1\n".as_slice());
+    assert!(rt; sent.are(&rt, BROWSED_REPLIES));
     Ok(())
 }

@@ -7,6 +7,7 @@ ghost use Rattle.carbon_run.specs.Runs.{NoCommand, NoWords, TellsConf, TellsWord
 
 use crate::Report;
 use crate::conf::{ConfFault, read_rules};
+use crate::samples::run_sample;
 use crate::scripts::run_script;
 use crate::serving::run_server;
 use crate::telling::{tell_conf_fault, tell_no_memory, tell_rule_fault, tell_usage};
@@ -27,6 +28,7 @@ use std::thread::Threads;
 /// |---|---|
 /// | `script` | runs the script that stands on the input over the ring files of the disks, and drains all at its end |
 /// | `serve` | binds the ports of the net, puts the metric lines and answers the requests that its links bring, and drains what is pending all the while; once the net is closed it drains all |
+/// | `sample START COUNT` | runs, as `script` does, the script of so many metric lines that a generator makes from a start of 0 to 9,999,999,999, and writes what it says from its question on. COUNT is 1 to 1,000,000 |
 ///
 /// Behind the command options may stand, in any order and each once, as two words or as `--x=v`:
 ///
@@ -40,7 +42,7 @@ use std::thread::Threads;
 ///
 /// | Status | Comes |
 /// |---|---|
-/// | 0 | `script`: the input was read to its end, and all that the script says was written. `serve`: the net was closed, and `stored S replaced R full F drains D` was written. All points are in the ring files |
+/// | 0 | `script` and `sample`: the input was read to its end, and all that the script says was written. `serve`: the net was closed, and `stored S replaced R full F drains D` was written. All points are in the ring files |
 /// | 2 | the words are no command |
 /// | 3 | a rule file is refused: its first fault, and those of the schema file before those of the aggregation file |
 /// | 4 | a ring file is damaged: the first of the least class, in byte order of its name |
@@ -54,7 +56,7 @@ use std::thread::Threads;
 /// At each status but 0 and 7 the last line that is written says the fault. All sixteen shards have started before the first byte of
 /// the input is taken or a port is bound. A disk that fails at a command of the script is told in the reply, and the script goes on; one that fails
 /// at a request is told in the reply, and the drainer of `serve` tries again. A run that 6, 7, 8 or 10 ends before its last drain makes none.
-/// A script looks at neither clock nor net, and `serve` not at the input.
+/// A script looks at neither clock nor net, and neither `serve` nor `sample` at the input.
 pub fn run<
     R: Threads + Wait + Sync,
     S: Source,
@@ -143,7 +145,10 @@ where
 {
     match command {
         Command::Script(options) => {
-            run_script(rt, alloc, disks, &setup(rules, options), input, out)
+            run_script(rt, alloc, disks, &setup(rules, options), None, input, out)
+        }
+        Command::Sample(options, more) => {
+            run_sample(rt, alloc, disks, &setup(rules, options), more, out)
         }
         Command::Serve(options, more) => {
             run_server(

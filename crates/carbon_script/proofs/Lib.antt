@@ -6,3 +6,4 @@ pub mod DrainLemmas
 pub mod SessionLemmas
 pub mod PendingLemmas
 pub mod ScriptLemmas
+pub mod BehindLemmas

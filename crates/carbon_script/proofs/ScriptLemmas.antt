@@ -12,8 +12,8 @@ use Rattle.line_service.specs.declared.ends.Stop.TheVariants as stop
 use Rattle.line_service.specs.declared.ends.ServiceEnd.TheVariants as service
 use Rattle.carbon_model.specs.State.{State}
 use Rattle.carbon_script.specs.Ends.{end_of}
-use Rattle.carbon_script.specs.Script.{Machine, Steps, opening, summary_text}
-use Rattle.carbon_script.specs.Sessions.{AppendsSome, Ends, EndsAs, Finishes, IsReadOut, Means, Serves, ServesAll, SessionValue, Stops, StopsAtEnd, StopsAtLine}
+use Rattle.carbon_script.specs.Script.{Machine, Steps, summary_text}
+use Rattle.carbon_script.specs.Sessions.{AppendsSome, EndsAs, EndsFrom, Finishes, IsReadOut, Means, Serves, ServesAll, SessionValue, Stops, StopsAtEnd, StopsAtLine}
 use Rattle.carbon_script.specs.declared.serve.ScriptEnd.{ScriptEnd}
 use Rattle.carbon_script.specs.declared.serve.ScriptEnd.TheVariants as end
 use Rattle.carbon_script.proofs.SessionLemmas.{appends_some_none, appends_some_more}
@@ -49,10 +49,10 @@ follow told start (line ∷ others) from to m chain means =
     }
 
 -- all lines of some bytes
-all_served : (told : ℕ → Option Image) (start : State) (bytes : List ℕ) (from to : At SessionValue) → Chain (StepOf (Serves told start)) from (lines bytes) to → Means start from.server (opening start)
-    → ServesAll told start bytes from.written to.server to.written
-all_served told start bytes from to chain means =
-    let followed = follow told start (lines bytes) from to (opening start) chain means in record {
+pub all_served : (told : ℕ → Option Image) (start : State) (m : Machine) (bytes : List ℕ) (from to : At SessionValue) → Chain (StepOf (Serves told start)) from (lines bytes) to → Means start from.server m
+    → ServesAll told start m bytes from.written to.server to.written
+all_served told start m bytes from to chain means =
+    let followed = follow told start (lines bytes) from to m chain means in record {
       last = followed.last;
       said = followed.said;
       runs = followed.runs;
@@ -69,78 +69,83 @@ some_later told start (line ∷ others) from to chain =
 -- ---- the ends
 
 -- a script that was stopped at a line
-line_ends : (told : ℕ → Option Image) (start : State) (reason : Stop) (taken : List ℕ) (left before : Option (List ℕ)) (new : SessionValue) (after : Option (List ℕ)) → StopsAtLine told start reason (lines taken) before new after
-    → EndsAs told start (end_of reason) taken left before new after
-line_ends told start stop.WriteFault taken left before new after stops = inl stops
-line_ends told start (stop.DiskFault class) taken left before new after stops = absurd stops.cut
-line_ends told start stop.Spent taken left before new after stops = inl stops
-line_ends told start stop.NoMemory taken left before new after stops = inr (inl stops)
+line_ends : (told : ℕ → Option Image) (start : State) (m : Machine) (reason : Stop) (taken : List ℕ) (left before : Option (List ℕ)) (new : SessionValue) (after : Option (List ℕ)) → StopsAtLine told start m reason (lines taken) before new after
+    → EndsAs told start m (end_of reason) taken left before new after
+line_ends told start m stop.WriteFault taken left before new after stops = inl stops
+line_ends told start m (stop.DiskFault class) taken left before new after stops = absurd stops.cut
+line_ends told start m stop.Spent taken left before new after stops = inl stops
+line_ends told start m stop.NoMemory taken left before new after stops = inr (inl stops)
 
 -- or at the end of the input
-finish_ends : (told : ℕ → Option Image) (start : State) (reason : Stop) (taken : List ℕ) (left before : Option (List ℕ)) (new : SessionValue) (after : Option (List ℕ)) → StopsAtEnd told start reason (lines taken) before new after
-    → IsReadOut taken left → EndsAs told start (end_of reason) taken left before new after
-finish_ends told start stop.WriteFault taken left before new after stops read = inr (stops, read)
-finish_ends told start (stop.DiskFault class) taken left before new after stops read = (stops, read)
-finish_ends told start stop.Spent taken left before new after stops read = inr (stops, read)
-finish_ends told start stop.NoMemory taken left before new after stops read = inr (inr (stops, read))
+finish_ends : (told : ℕ → Option Image) (start : State) (m : Machine) (reason : Stop) (taken : List ℕ) (left before : Option (List ℕ)) (new : SessionValue) (after : Option (List ℕ)) → StopsAtEnd told start m reason (lines taken) before new after
+    → IsReadOut taken left → EndsAs told start m (end_of reason) taken left before new after
+finish_ends told start m stop.WriteFault taken left before new after stops read = inr (stops, read)
+finish_ends told start m (stop.DiskFault class) taken left before new after stops read = (stops, read)
+finish_ends told start m stop.Spent taken left before new after stops read = inr (stops, read)
+finish_ends told start m stop.NoMemory taken left before new after stops read = inr (inr (stops, read))
 
 -- the service stopped at a line
-pub ends_stopped : (told : ℕ → Option Image) (start : State) (reason : Stop) (left left' : Option (List ℕ)) (from to : At SessionValue) → Means start from.server (opening start)
-    → Service (Serves told start) (Stops told start) (service.Stopped reason) left from left' to → Ends told start (end_of reason) left from.written left' to.server to.written
-ends_stopped told start reason left left' from to means service =
-    let at = service.1.1 in
-    let followed = follow told start at.handed from at.mid (opening start) at.chain means in record {
-      taken = service.0;
-      consumed = service.1.0;
-      ends = line_ends told start reason service.0 left' from.written to.server to.written (record {
-        last = followed.last;
-        line = at.line;
-        said = followed.said;
-        served = record { handed = at.handed; others = at.rest; runs = followed.runs; split = at.split };
-        mid = at.mid.written;
-        wrote = followed.wrote;
-        cut = at.stopped.cut followed.last followed.means;
-      });
+pub stopped_line : (told : ℕ → Option Image) (start : State) (m : Machine) (reason : Stop) (left left' : Option (List ℕ)) (from to : At SessionValue) → Means start from.server m
+    → (served : Service (Serves told start) (Stops told start) (service.Stopped reason) left from left' to) → StopsAtLine told start m reason (lines served.0) from.written to.server to.written
+stopped_line told start m reason left left' from to means served =
+    let at = served.1.1 in
+    let followed = follow told start at.handed from at.mid m at.chain means in record {
+      last = followed.last;
+      line = at.line;
+      said = followed.said;
+      served = record { handed = at.handed; others = at.rest; runs = followed.runs; split = at.split };
+      mid = at.mid.written;
+      wrote = followed.wrote;
+      cut = at.stopped.cut followed.last followed.means;
+    }
+
+pub ends_stopped : (told : ℕ → Option Image) (start : State) (m : Machine) (reason : Stop) (left left' : Option (List ℕ)) (from to : At SessionValue) → Means start from.server m
+    → Service (Serves told start) (Stops told start) (service.Stopped reason) left from left' to → EndsFrom told start m (end_of reason) left from.written left' to.server to.written
+ends_stopped told start m reason left left' from to means served =
+    let at = served.1.1 in record {
+      taken = served.0;
+      consumed = served.1.0;
+      ends = line_ends told start m reason served.0 left' from.written to.server to.written (stopped_line told start m reason left left' from to means served);
       some = appends_some_more from.written at.mid.written to.written (some_later told start at.handed from at.mid at.chain) at.stopped.some;
     }
 
 -- memory ran out between two reads
-pub ends_short : (told : ℕ → Option Image) (start : State) (left left' : Option (List ℕ)) (from to : At SessionValue) → Means start from.server (opening start)
-    → Service (Serves told start) (Stops told start) service.NoMemory left from left' to → Ends told start end.NoMemory left from.written left' to.server to.written
-ends_short told start left left' from to means service =
+pub ends_short : (told : ℕ → Option Image) (start : State) (m : Machine) (left left' : Option (List ℕ)) (from to : At SessionValue) → Means start from.server m
+    → Service (Serves told start) (Stops told start) service.NoMemory left from left' to → EndsFrom told start m end.NoMemory left from.written left' to.server to.written
+ends_short told start m left left' from to means service =
     let front = service.1.1.0 in record {
       taken = service.0;
       consumed = service.1.0;
-      ends = inl (front, (service.1.1.1.0, all_served told start front from to service.1.1.1.1 means));
+      ends = inl (front, (service.1.1.1.0, all_served told start m front from to service.1.1.1.1 means));
       some = some_later told start (lines front) from to service.1.1.1.1;
     }
 
 -- a read failed
-pub ends_unread : (told : ℕ → Option Image) (start : State) (left left' : Option (List ℕ)) (from to : At SessionValue) → Means start from.server (opening start)
-    → Service (Serves told start) (Stops told start) service.ReadFault left from left' to → Ends told start end.ReadFault left from.written left' to.server to.written
-ends_unread told start left left' from to means service = record {
+pub ends_unread : (told : ℕ → Option Image) (start : State) (m : Machine) (left left' : Option (List ℕ)) (from to : At SessionValue) → Means start from.server m
+    → Service (Serves told start) (Stops told start) service.ReadFault left from left' to → EndsFrom told start m end.ReadFault left from.written left' to.server to.written
+ends_unread told start m left left' from to means service = record {
   taken = service.0;
   consumed = service.1.0;
-  ends = all_served told start service.0 from to service.1.1 means;
+  ends = all_served told start m service.0 from to service.1.1 means;
   some = some_later told start (lines service.0) from to service.1.1;
 }
 
 -- the most bytes were taken
-pub ends_limit : (told : ℕ → Option Image) (start : State) (left left' : Option (List ℕ)) (from to : At SessionValue) → Means start from.server (opening start)
-    → Service (Serves told start) (Stops told start) service.Limit left from left' to → Ends told start end.InputLimit left from.written left' to.server to.written
-ends_limit told start left left' from to means service = record {
+pub ends_limit : (told : ℕ → Option Image) (start : State) (m : Machine) (left left' : Option (List ℕ)) (from to : At SessionValue) → Means start from.server m
+    → Service (Serves told start) (Stops told start) service.Limit left from left' to → EndsFrom told start m end.InputLimit left from.written left' to.server to.written
+ends_limit told start m left left' from to means service = record {
   taken = service.0;
   consumed = service.1.0;
-  ends = (all_served told start service.0 from to service.1.1.0 means, service.1.1.1);
+  ends = (all_served told start m service.0 from to service.1.1.0 means, service.1.1.1);
   some = some_later told start (lines service.0) from to service.1.1.0;
 }
 
 -- the input came to its end, and the script was finished
-pub ends_done : {T : Type 0} (told : ℕ → Option Image) (start : State) (x : T) (left left' : Option (List ℕ)) (from mid to : At SessionValue) → Means start from.server (opening start)
+pub ends_done : {T : Type 0} (told : ℕ → Option Image) (start : State) (m : Machine) (x : T) (left left' : Option (List ℕ)) (from mid to : At SessionValue) → Means start from.server m
     → Service (Serves told start) (Stops told start) service.Closed left from left' mid → Finishes start (Ok x) mid.server mid.written to.server to.written → AppendsSome mid.written to.written
-    → Ends told start end.Done left from.written left' to.server to.written
-ends_done told start x left left' from mid to means service finishes some =
-    let followed = follow told start (lines service.0) from mid (opening start) service.1.1.0 means in
+    → EndsFrom told start m end.Done left from.written left' to.server to.written
+ends_done told start m x left left' from mid to means service finishes some =
+    let followed = follow told start (lines service.0) from mid m service.1.1.0 means in
     let summed = finishes followed.last followed.means in record {
       taken = service.0;
       consumed = service.1.0;
@@ -165,14 +170,14 @@ ends_done told start x left left' from mid to means service finishes some =
     }
 
 -- or could not be
-pub ends_cut : (T : Type 0) (told : ℕ → Option Image) (start : State) (reason : Stop) (left left' : Option (List ℕ)) (from mid to : At SessionValue) → Means start from.server (opening start)
+pub ends_cut : (T : Type 0) (told : ℕ → Option Image) (start : State) (m : Machine) (reason : Stop) (left left' : Option (List ℕ)) (from mid to : At SessionValue) → Means start from.server m
     → Service (Serves told start) (Stops told start) service.Closed left from left' mid → Finishes {T = T} start (Err reason) mid.server mid.written to.server to.written → AppendsSome mid.written to.written
-    → Ends told start (end_of reason) left from.written left' to.server to.written
-ends_cut T told start reason left left' from mid to means service finishes some =
-    let followed = follow told start (lines service.0) from mid (opening start) service.1.1.0 means in record {
+    → EndsFrom told start m (end_of reason) left from.written left' to.server to.written
+ends_cut T told start m reason left left' from mid to means service finishes some =
+    let followed = follow told start (lines service.0) from mid m service.1.1.0 means in record {
       taken = service.0;
       consumed = service.1.0;
-      ends = finish_ends told start reason service.0 left' from.written to.server to.written
+      ends = finish_ends told start m reason service.0 left' from.written to.server to.written
           (record {
             last = followed.last;
             said = followed.said;
@@ -186,6 +191,6 @@ ends_cut T told start reason left left' from mid to means service finishes some 
     }
 
 -- the same end by another name
-pub ends_as : (told : ℕ → Option Image) (start : State) (reason same : ScriptEnd) (left left' : Option (List ℕ)) (new : SessionValue) (before after : Option (List ℕ)) → reason ≡ same
-    → Ends told start same left before left' new after → Ends told start reason left before left' new after
-ends_as told start reason same left left' new before after is ends = subst (λ (r : ScriptEnd). Ends told start r left before left' new after) (sym is) ends
+pub ends_as : (told : ℕ → Option Image) (start : State) (m : Machine) (reason same : ScriptEnd) (left left' : Option (List ℕ)) (new : SessionValue) (before after : Option (List ℕ)) → reason ≡ same
+    → EndsFrom told start m same left before left' new after → EndsFrom told start m reason left before left' new after
+ends_as told start m reason same left left' new before after is ends = subst (λ (r : ScriptEnd). EndsFrom told start m r left before left' new after) (sym is) ends

@@ -9,3 +9,4 @@ pub mod Sessions
 pub mod Replies
 pub mod Ends
 pub mod Scripts
+pub mod Behind

@@ -173,36 +173,36 @@ pub record Stops (told : ℕ → Option Image) (start : State) (old : SessionVal
 
 -- ---- whole scripts
 
--- all lines of these bytes were served, and what they say was written
-pub record ServesAll (told : ℕ → Option Image) (start : State) (bytes : List ℕ) (before : Option (List ℕ)) (new : SessionValue) (after : Option (List ℕ)) : Type 0 where
+-- all lines of these bytes were served, from this machine on, and what they say was written
+pub record ServesAll (told : ℕ → Option Image) (start : State) (from : Machine) (bytes : List ℕ) (before : Option (List ℕ)) (new : SessionValue) (after : Option (List ℕ)) : Type 0 where
   pub last : Machine
   pub said : List ℕ
-  pub runs : Runs (Steps told) (opening start) (lines bytes) last said
+  pub runs : Runs (Steps told) from (lines bytes) last said
   pub means : Means start new last
   pub wrote : Appends before after said
 
 -- the first of these lines were served, and the script came to the machine `last` and said this; then comes another line
-pub record ServesUpTo (told : ℕ → Option Image) (start : State) (all : List Line) (last : Machine) (line : Line) (said : List ℕ) : Type 0 where
+pub record ServesUpTo (told : ℕ → Option Image) (from : Machine) (all : List Line) (last : Machine) (line : Line) (said : List ℕ) : Type 0 where
   pub handed : List Line
   pub others : List Line
-  pub runs : Runs (Steps told) (opening start) handed last said
+  pub runs : Runs (Steps told) from handed last said
   pub split : all ≡ handed ++ line ∷ others
 
 -- the script stopped at one of these lines, behind what those before it said
-pub record StopsAtLine (told : ℕ → Option Image) (start : State) (reason : Stop) (all : List Line) (before : Option (List ℕ)) (new : SessionValue) (after : Option (List ℕ)) : Type 0 where
+pub record StopsAtLine (told : ℕ → Option Image) (start : State) (from : Machine) (reason : Stop) (all : List Line) (before : Option (List ℕ)) (new : SessionValue) (after : Option (List ℕ)) : Type 0 where
   pub last : Machine
   pub line : Line
   pub said : List ℕ
-  pub served : ServesUpTo told start all last line said
+  pub served : ServesUpTo told from all last line said
   pub mid : Option (List ℕ)
   pub wrote : Appends before mid said
   pub cut : CutShort reason told start last (command_of line last.clock) mid new after
 
 -- or behind the last of them, at the end of the input, in the drain of all that is pending or the summary
-pub record StopsAtEnd (told : ℕ → Option Image) (start : State) (reason : Stop) (all : List Line) (before : Option (List ℕ)) (new : SessionValue) (after : Option (List ℕ)) : Type 0 where
+pub record StopsAtEnd (told : ℕ → Option Image) (start : State) (from : Machine) (reason : Stop) (all : List Line) (before : Option (List ℕ)) (new : SessionValue) (after : Option (List ℕ)) : Type 0 where
   pub last : Machine
   pub said : List ℕ
-  pub served : Runs (Steps told) (opening start) all last said
+  pub served : Runs (Steps told) from all last said
   pub mid : Option (List ℕ)
   pub wrote : Appends before mid said
   pub cut : FinishShort reason start last mid new after
@@ -213,37 +213,41 @@ pub record IsReadOut (taken : List ℕ) (left : Option (List ℕ)) : Type 0 wher
   pub short : length taken < 2 ^ 40
 
 -- a script that was stopped, at a line or at the end
-abbrev pub StopsWith : (ℕ → Option Image) → State → Stop → List ℕ → Option (List ℕ) → Option (List ℕ) → SessionValue → Option (List ℕ) → Type 0
-StopsWith told start reason taken left before new after =
-    StopsAtLine told start reason (lines taken) before new after
-    ⊎ (StopsAtEnd told start reason (lines taken) before new after × IsReadOut taken left)
+abbrev pub StopsWith : (ℕ → Option Image) → State → Machine → Stop → List ℕ → Option (List ℕ) → Option (List ℕ) → SessionValue → Option (List ℕ) → Type 0
+StopsWith told start from reason taken left before new after =
+    StopsAtLine told start from reason (lines taken) before new after
+    ⊎ (StopsAtEnd told start from reason (lines taken) before new after × IsReadOut taken left)
 
 -- all of it was run, and its text was written
-pub record RunsWhole (told : ℕ → Option Image) (start : State) (taken : List ℕ) (before : Option (List ℕ)) (new : SessionValue) (after : Option (List ℕ)) : Type 0 where
+pub record RunsWhole (told : ℕ → Option Image) (start : State) (from : Machine) (taken : List ℕ) (before : Option (List ℕ)) (new : SessionValue) (after : Option (List ℕ)) : Type 0 where
   pub last : Machine
   pub text : List ℕ
-  pub run : ScriptRun told (opening start) taken last text
+  pub run : ScriptRun told from taken last text
   pub means : Means start new last
   pub wrote : Appends before after text
 
 -- Where a script stands at each of its ends, of which the bytes `taken` were read. At the end of the input it is that of the whole script. At a failed
 -- read and at the input's limit it is that of all lines that were taken, and nothing is drained besides; so too where memory ran out between two reads,
 -- of what was taken before the last one. Else it was stopped, at a line or at the end.
-abbrev pub EndsAs : (ℕ → Option Image) → State → ScriptEnd → List ℕ → Option (List ℕ) → Option (List ℕ) → SessionValue → Option (List ℕ) → Type 0
-EndsAs told start end.Done taken left before new after = RunsWhole told start taken before new after × IsReadOut taken left
-EndsAs told start end.ReadFault taken left before new after = ServesAll told start taken before new after
-EndsAs told start end.InputLimit taken left before new after = ServesAll told start taken before new after × (length taken ≡ 2 ^ 40)
-EndsAs told start end.WriteFault taken left before new after = StopsWith told start stop.WriteFault taken left before new after
-EndsAs told start (end.DiskFault class) taken left before new after =
-    StopsAtEnd told start (stop.DiskFault class) (lines taken) before new after × IsReadOut taken left
-EndsAs told start end.Spent taken left before new after = StopsWith told start stop.Spent taken left before new after
-EndsAs told start end.NoMemory taken left before new after =
-    ((front : List ℕ) × (RunsOut front taken × ServesAll told start front before new after))
-    ⊎ StopsWith told start stop.NoMemory taken left before new after
+abbrev pub EndsAs : (ℕ → Option Image) → State → Machine → ScriptEnd → List ℕ → Option (List ℕ) → Option (List ℕ) → SessionValue → Option (List ℕ) → Type 0
+EndsAs told start from end.Done taken left before new after = RunsWhole told start from taken before new after × IsReadOut taken left
+EndsAs told start from end.ReadFault taken left before new after = ServesAll told start from taken before new after
+EndsAs told start from end.InputLimit taken left before new after = ServesAll told start from taken before new after × (length taken ≡ 2 ^ 40)
+EndsAs told start from end.WriteFault taken left before new after = StopsWith told start from stop.WriteFault taken left before new after
+EndsAs told start from (end.DiskFault class) taken left before new after =
+    StopsAtEnd told start from (stop.DiskFault class) (lines taken) before new after × IsReadOut taken left
+EndsAs told start from end.Spent taken left before new after = StopsWith told start from stop.Spent taken left before new after
+EndsAs told start from end.NoMemory taken left before new after =
+    ((front : List ℕ) × (RunsOut front taken × ServesAll told start from front before new after))
+    ⊎ StopsWith told start from stop.NoMemory taken left before new after
 
--- What a script came to.
-pub record Ends (told : ℕ → Option Image) (start : State) (reason : ScriptEnd) (left : Option (List ℕ)) (before : Option (List ℕ)) (left' : Option (List ℕ)) (new : SessionValue) (after : Option (List ℕ)) : Type 0 where
+-- What a script came to that goes on from this machine.
+pub record EndsFrom (told : ℕ → Option Image) (start : State) (from : Machine) (reason : ScriptEnd) (left : Option (List ℕ)) (before : Option (List ℕ)) (left' : Option (List ℕ)) (new : SessionValue) (after : Option (List ℕ)) : Type 0 where
   pub taken : List ℕ
   pub consumed : Consumes left left' taken
-  pub ends : EndsAs told start reason taken left' before new after
+  pub ends : EndsAs told start from reason taken left' before new after
   pub some : AppendsSome before after
+
+-- What a script came to.
+abbrev pub Ends : (ℕ → Option Image) → State → ScriptEnd → Option (List ℕ) → Option (List ℕ) → Option (List ℕ) → SessionValue → Option (List ℕ) → Type 0
+Ends told start = EndsFrom told start (opening start)

@@ -4,8 +4,8 @@ ghost use Rattle.outside_io.specs.Frames.{CountsReads, CountsWrites};
 ghost use Rattle.shared_history.specs.Parts.{IsNewPass};
 ghost use Rattle.carbon_script.specs.Alone.{IsOnly};
 ghost use Rattle.carbon_script.specs.Ends.{end_of};
-ghost use Rattle.carbon_script.specs.Script.{opening};
-ghost use Rattle.carbon_script.specs.Sessions.{Ends, Means};
+ghost use Rattle.carbon_script.specs.Script.{Machine};
+ghost use Rattle.carbon_script.specs.Sessions.{EndsFrom, Means};
 ghost use Rattle.carbon_script.specs.Scripts.{EndsWith};
 
 use crate::session::Session;
@@ -70,14 +70,15 @@ pub fn script<R: Wait, D: Disk, N: Named, S: Source, K: Sink>(
     }
 }
 
-fn serve<R: Wait, D: Disk, N: Named, S: Source, K: Sink>(
+// Serves the lines of the input and finishes the script, from whatever machine the session stands for.
+pub(crate) fn serve<R: Wait, D: Disk, N: Named, S: Source, K: Sink>(
     session: &mut Session<'_, R, D, N>,
     alloc: Global,
     input: &mut S,
     out: &mut K,
 ) -> ScriptEnd
-    requires { Means N.start session.old (opening N.start) }
-    ensures ends { Ends N.told N.start result (S.left input.old) (K.written out.old)
+    ensures ends { (from : Machine) → Means N.start session.old from
+        → EndsFrom N.told N.start from result (S.left input.old) (K.written out.old)
         (S.left input.new) session.new (K.written out.new) }
     ensures reads { CountsReads S.Source input.old input.new (result ≡ ScriptEnd.ReadFault) }
     ensures writes { CountsWrites K.Sink out.old out.new (result ≡ ScriptEnd.WriteFault) }
@@ -95,7 +96,7 @@ fn serve<R: Wait, D: Disk, N: Named, S: Source, K: Sink>(
 }
 
 /// The end that a stop is.
-fn end_of(stop: Stop) -> ScriptEnd
+pub(crate) fn end_of(stop: Stop) -> ScriptEnd
     ensures { result ≡ end_of stop }
 {
     match stop {

@@ -11,7 +11,8 @@ use crate::round::{begin_drain, write_run};
 use crate::say::{refuse, say};
 use crate::summary::summary;
 use carbon_history::PutEnd;
-use line_service::{LineServer, Stop};
+use line_frame::Framer;
+use line_service::{LineServer, Stop, WaitingServer, serve_each};
 use metric_line::Datum;
 use outside_io::{Disk, Sink};
 use point_cache::Put;
@@ -246,5 +247,11 @@ impl<'a, R: Wait, D: Disk, N: Named> LineServer for Session<'a, R, D, N> {
 
     fn serve_long<K: Sink>(&mut self, out: &mut K) -> Result<(), Stop> {
         self.obey(Command::Long, out)
+    }
+}
+
+impl<'a, R: Wait, D: Disk, N: Named> WaitingServer for Session<'a, R, D, N> {
+    fn serve_waiting<K: Sink>(&mut self, framer: &mut Framer, out: &mut K) -> Result<(), Stop> {
+        serve_each(self, framer, out)
     }
 }

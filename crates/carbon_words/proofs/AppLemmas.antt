@@ -4,12 +4,17 @@ use Rattle.clap.specs.Words.{AddsArg, AddsSubcommand, App, Rule, Shape, Text, ap
 use Rattle.clap.specs.declared.builder.Arg.{Arg}
 use Rattle.clap.specs.declared.builder.Command.{Command}
 use Rattle.clap.proofs.SimpleLemmas.{plain_fields}
-use Rattle.carbon_words.specs.CommandLine.{option_rule, with_option}
+use Rattle.carbon_words.specs.CommandLine.{number_rule, option_rule, with_number, with_option}
 
 -- a command with an option more
 pub option_added : (name : Text) (arg : Arg) (old new : Command) (app : App) → AddsArg old arg new → arg.global ≡ false
     → rule_of arg ≡ option_rule name → app_of old ≡ app → app_of new ≡ with_option name app
 option_added name arg old new app added local rule before = added.shape local ∙ ap₂ with_rule before rule
+
+-- a command with a number more
+pub number_added : (name : Text) (arg : Arg) (old new : Command) (app : App) → AddsArg old arg new → arg.global ≡ false
+    → rule_of arg ≡ number_rule name → app_of old ≡ app → app_of new ≡ with_number name app
+number_added name arg old new app added local rule before = added.shape local ∙ ap₂ with_rule before rule
 
 -- a command with a subcommand more, which has no global argument
 pub subcommand_added : (old sub new : Command) (app below : App) → AddsSubcommand old sub new → below.top.is_plain ≡ true

@@ -5,15 +5,15 @@ use Rattle.clap.specs.Words.{FailsBy, HasMatchesOf, Kinds, Row, Text, fault_of, 
 use Rattle.clap.specs.declared.ArgMatches.{ArgMatches}
 use Rattle.clap.specs.declared.Error.{Error}
 use Rattle.clap.specs.declared.error.ErrorKind.TheVariants.{OutOfMemory}
-use Rattle.carbon_words.specs.CommandLine.{FindsWords, carbon, command_app, command_met, command_of, serve_app, unless_refused}
+use Rattle.carbon_words.specs.CommandLine.{FindsWords, carbon, command_app, command_met, command_of, sample_app, serve_app, unless_refused}
 
 -- `clap` tells exactly which words it refuses, and what it finds in the others
 pub simple_and_free : is_simple_and_free carbon ≡ true
-unfolding carbon command_app serve_app
+unfolding carbon command_app sample_app serve_app
 simple_and_free = refl
 
 pub simple : is_simple carbon ≡ true
-unfolding carbon command_app serve_app
+unfolding carbon command_app sample_app serve_app
 simple = refl
 
 pub found : (words : List Text) (r : Result ArgMatches Error) → FailsBy (fault_of carbon words) r → IfOk r (HasMatchesOf carbon words)

@@ -11,8 +11,9 @@ use Rattle.clap.specs.Simple.{App, Shape, new_app, new_rule, on_top, subcommand_
 use Rattle.clap.specs.Walk.{Row, Rule, Text, first_of}
 use Rattle.clap.specs.declared.parser.matches.ArgMatches.{ArgMatches}
 use Rattle.carbon_words.specs.declared.command.Command.{Command}
-use Rattle.carbon_words.specs.declared.command.Command.TheVariants.{Script, Serve}
+use Rattle.carbon_words.specs.declared.command.Command.TheVariants.{Sample, Script, Serve}
 use Rattle.carbon_words.specs.declared.command.Options.{Options}
+use Rattle.carbon_words.specs.declared.command.SampleOptions.{SampleOptions}
 use Rattle.carbon_words.specs.declared.command.ServeOptions.{ServeOptions}
 use Rattle.carbon_words.specs.declared.reading.Choice.{Choice}
 
@@ -24,6 +25,13 @@ option_rule name = record (new_rule name) { long = Some name }
 
 abbrev pub with_option : Text → App → App
 with_option name app = with_rule app (option_rule name)
+
+-- a number that has to stand
+abbrev pub number_rule : Text → Rule
+number_rule name = record (new_rule name) { required = true }
+
+abbrev pub with_number : Text → App → App
+with_number name app = with_rule app (number_rule name)
 
 abbrev pub without_help : App → App
 without_help = on_top (λ s. record s { disable_help_flag = true })
@@ -45,6 +53,10 @@ serve_app =
     (with_option (codes "http-port")
     (with_option (codes "line-port") (command_app (codes "serve"))))))
 
+-- the words behind `sample`: its start, and how many metric lines it has
+unfoldable pub sample_app : App
+sample_app = with_number (codes "count") (with_number (codes "start") (command_app (codes "sample")))
+
 -- The program has no word before its command, and none of clap's own commands and flags.
 abbrev pub commands_alone : Shape → Shape
 commands_alone s = record s {
@@ -57,18 +69,25 @@ commands_alone s = record s {
 
 -- all words
 unfoldable pub carbon : App
-carbon = with_subcommand (with_subcommand (on_top commands_alone (new_app (codes "carbon"))) script_app.top) serve_app.top
+carbon =
+    with_subcommand
+    (with_subcommand (with_subcommand (on_top commands_alone (new_app (codes "carbon"))) script_app.top) serve_app.top)
+    sample_app.top
 
 -- ---- what they say
 
 -- the number of a text, in a range
-unfoldable pub between : Choice → Text → Option ℕ
-between choice text =
-    option_and_then (λ n. if nat_le choice.least n && nat_le n choice.most then Some n else None) (whole_number text)
+unfoldable pub between : ℕ → ℕ → Text → Option ℕ
+between least most text =
+    option_and_then (λ n. if nat_le least n && nat_le n most then Some n else None) (whole_number text)
+
+-- the number that stands under a name
+unfoldable pub number_given : ℕ → ℕ → Text → List Row → Option ℕ
+number_given least most name rows = option_and_then (between least most) (first_of name rows)
 
 -- the number that an option says, or would say
 unfoldable pub number_in : Choice → Text → List Row → Option ℕ
-number_in choice name rows = option_map_or (between choice) (first_of name rows) (Some choice.other)
+number_in choice name rows = option_map_or (between choice.least choice.most) (first_of name rows) (Some choice.other)
 
 abbrev pub choice : ℕ → ℕ → ℕ → Choice
 choice least most other = record { least = least; most = most; other = other }
@@ -101,11 +120,20 @@ serve_options_in rows =
     (number_in (choice 0 65535 8080) (codes "http-port") rows))
     (number_in (choice 0 65535 2003) (codes "line-port") rows)
 
--- the command of a name, with what stands behind it; there is no third one
+-- what `sample` may say besides
+unfoldable pub sample_options_in : List Row → Option SampleOptions
+sample_options_in rows =
+    option_and_then (λ start. option_map (λ count. record { start = start; count = count })
+    (number_given 1 1000000 (codes "count") rows))
+    (number_given 0 9999999999 (codes "start") rows)
+
+-- the command of a name, with what stands behind it; there is no fourth one
 unfoldable pub command_in : Text → List Row → Option Command
 command_in name rows =
     option_and_then (λ options.
-    if bytes_eq name (codes "script") then Some (Script options) else option_map (Serve options) (serve_options_in rows))
+    if bytes_eq name (codes "script") then Some (Script options) else
+    (if bytes_eq name (codes "serve") then option_map (Serve options) (serve_options_in rows)
+    else option_map (Sample options) (sample_options_in rows)))
     (options_in rows)
 
 -- what clap finds, where it refuses nothing
@@ -138,6 +166,12 @@ pub record HasWorkers (options : ServeOptions) : Type 0 where
   pub some_renderers : 1 ≤ options.renderers
   pub few_renderers : options.renderers ≤ 256
 
+-- there are metric lines, and no more than 1,000,000
+pub record HasCount (options : SampleOptions) : Type 0 where
+  pub some : 1 ≤ options.count
+  pub few : options.count ≤ 1000000
+
 abbrev pub IsSound : Command → Type 0
 IsSound (Script options) = HasLimit options
 IsSound (Serve options more) = HasLimit options × HasWorkers more
+IsSound (Sample options more) = HasLimit options × HasCount more

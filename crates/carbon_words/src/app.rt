@@ -1,7 +1,7 @@
 //! What `clap` is told of the command line.
 ghost use Rattle.std.specs.Prelude.{◌≡◌, false, IfOk};
 ghost use Rattle.clap.specs.Words.{app_of, rule_of};
-ghost use Rattle.carbon_words.specs.CommandLine.{carbon, command_app, option_rule, serve_app};
+ghost use Rattle.carbon_words.specs.CommandLine.{carbon, command_app, number_rule, option_rule, sample_app, serve_app};
 
 use clap::{Arg, Command};
 use std::alloc::{AllocError, Global};
@@ -12,6 +12,14 @@ fn option<'a>(alloc: Global, name: &'a str) -> Arg<'a>
     ensures local { result.global ≡ false }
 {
     Arg::new(alloc, name).long(name)
+}
+
+// A number that has to stand behind a command, under this name.
+fn number<'a>(alloc: Global, name: &'a str) -> Arg<'a>
+    ensures rule { rule_of result ≡ number_rule name.entry.now }
+    ensures local { result.global ≡ false }
+{
+    Arg::new(alloc, name).required(true)
 }
 
 // A command of this name. Each says the limit and the order.
@@ -36,6 +44,15 @@ fn serve<'a>(alloc: Global) -> Result<Command<'a>, AllocError>
         .arg(option(alloc, "links"))
 }
 
+// The words behind `sample`.
+fn sample<'a>(alloc: Global) -> Result<Command<'a>, AllocError>
+    ensures { IfOk result (λ c. app_of c ≡ sample_app) }
+{
+    command(alloc, "sample")?
+        .arg(number(alloc, "start"))?
+        .arg(number(alloc, "count"))
+}
+
 /// All words behind the program's name. Nothing but the commands is understood: no help is asked for, and no version.
 pub(crate) fn carbon<'a>(alloc: Global) -> Result<Command<'a>, AllocError>
     ensures { IfOk result (λ c. app_of c ≡ carbon) }
@@ -47,5 +64,6 @@ pub(crate) fn carbon<'a>(alloc: Global) -> Result<Command<'a>, AllocError>
         .disable_version_flag(true)
         .subcommand_required(true)
         .subcommand(command(alloc, "script")?)?
-        .subcommand(serve(alloc)?)
+        .subcommand(serve(alloc)?)?
+        .subcommand(sample(alloc)?)
 }

@@ -25,6 +25,15 @@ pub struct ServeOptions {
     pub links: u64,
 }
 
+/// What `sample` says besides.
+#[derive(Clone, Copy, Debug, PartialEq, Eq)]
+pub struct SampleOptions {
+    /// Where the generator of the sample starts.
+    pub start: u64,
+    /// How many metric lines the sample has.
+    pub count: u32,
+}
+
 /// A command.
 #[derive(Clone, Copy, Debug, PartialEq, Eq)]
 pub enum Command {
@@ -32,4 +41,6 @@ pub enum Command {
     Script(Options),
     /// The ports are served.
     Serve(Options, ServeOptions),
+    /// The script of a sample runs.
+    Sample(Options, SampleOptions),
 }

@@ -5,7 +5,7 @@ mod app;
 mod command;
 mod reading;
 
-pub use command::{Command, Options, ServeOptions};
+pub use command::{Command, Options, SampleOptions, ServeOptions};
 pub use reading::{WordsFault, read_words};
 
 #[cfg(test)]

@@ -2,10 +2,10 @@
 ghost use Rattle.std.specs.Prelude.{◌≡◌, ◌≢◌, ◌≤◌, [], IfOk, IfErr, IfSome, map, string_bytes};
 ghost use Rattle.clap.specs.Faults.{fault_of};
 ghost use Rattle.clap.specs.Words.{found_of, kind_of, rows_of, subcommand_rows_of};
-ghost use Rattle.carbon_words.specs.CommandLine.{FindsWords, HasLimit, HasWorkers, IsSound, between, carbon, command_in, command_met, command_of, number_in, options_in, order_in, order_of, serve_options_in};
+ghost use Rattle.carbon_words.specs.CommandLine.{FindsWords, HasCount, HasLimit, HasWorkers, IsSound, between, carbon, command_in, command_met, command_of, number_given, number_in, options_in, order_in, order_of, sample_options_in, serve_options_in};
 
 use crate::app::carbon;
-use crate::command::{Command, Options, ServeOptions};
+use crate::command::{Command, Options, SampleOptions, ServeOptions};
 use clap::error::ErrorKind;
 use clap::{ArgMatches, Error};
 use drain_order::Strategy;
@@ -116,8 +116,12 @@ fn command_in(name: &str, values: &ArgMatches<'_>) -> Option<Command>
     if name == "script" {
         return Some(Command::Script(options));
     }
-    let more = serve_options_in(values)?;
-    Some(Command::Serve(options, more))
+    if name == "serve" {
+        let more = serve_options_in(values)?;
+        return Some(Command::Serve(options, more));
+    }
+    let more = sample_options_in(values)?;
+    Some(Command::Sample(options, more))
 }
 
 #[tactic(auto, unfolding(crate::specs::CommandLine::options_in))]
@@ -149,6 +153,19 @@ fn serve_options_in(values: &ArgMatches<'_>) -> Option<ServeOptions>
     })
 }
 
+#[tactic(auto, unfolding(crate::specs::CommandLine::sample_options_in))]
+fn sample_options_in(values: &ArgMatches<'_>) -> Option<SampleOptions>
+    ensures said { result ≡ sample_options_in (rows_of (found_of values.now)) }
+    ensures count { IfSome result HasCount }
+{
+    let start = number_given(values, "start", 0, 9_999_999_999)?;
+    let count = number_given(values, "count", 1, 1_000_000)?;
+    Some(SampleOptions {
+        start,
+        count: count as u32,
+    })
+}
+
 // The number of an option.
 #[tactic(auto, unfolding(crate::specs::CommandLine::number_in))]
 fn number_in(values: &ArgMatches<'_>, name: &str, choice: Choice) -> Option<u64>
@@ -157,18 +174,30 @@ fn number_in(values: &ArgMatches<'_>, name: &str, choice: Choice) -> Option<u64>
     ensures within { IfSome result (λ n. (choice.least ≤ n) × (n ≤ choice.most)) }
 {
     match values.get_str(name) {
-        Some(text) => between(choice, text),
+        Some(text) => between(choice.least, choice.most, text),
         None => Some(choice.other),
     }
 }
 
+// The number that stands under a name.
+#[tactic(auto, unfolding(crate::specs::CommandLine::number_given))]
+fn number_given(values: &ArgMatches<'_>, name: &str, least: u64, most: u64) -> Option<u64>
+    ensures number { result ≡ number_given least most name.now (rows_of (found_of values.now)) }
+    ensures within { IfSome result (λ n. (least ≤ n) × (n ≤ most)) }
+{
+    match values.get_str(name) {
+        Some(text) => between(least, most, text),
+        None => None,
+    }
+}
+
 #[tactic(auto, unfolding(crate::specs::CommandLine::between))]
-fn between(choice: Choice, text: &str) -> Option<u64>
-    ensures number { result ≡ between choice text.now }
-    ensures within { IfSome result (λ n. (choice.least ≤ n) × (n ≤ choice.most)) }
+fn between(least: u64, most: u64, text: &str) -> Option<u64>
+    ensures number { result ≡ between least most text.now }
+    ensures within { IfSome result (λ n. (least ≤ n) × (n ≤ most)) }
 {
     let number = read_whole(text.as_bytes())?;
-    if choice.least <= number && number <= choice.most {
+    if least <= number && number <= most {
         Some(number)
     } else {
         None

@@ -98,6 +98,43 @@ fn options_of_a_server_are_read(rt: HostRuntime) -> Result<(), Fail> {
     Ok(())
 }
 
+fn assert_sample(
+    rt: &impl Abort,
+    alloc: Global,
+    text: &str,
+    limit: u64,
+    more: SampleOptions,
+) -> Result<(), Fail> {
+    let said = read(alloc, text)?;
+    let options = Options {
+        limit,
+        order: Strategy::Sorted,
+    };
+    assert!(rt; said == Ok(Command::Sample(options, more)), "{text}");
+    Ok(())
+}
+
+#[test]
+fn numbers_of_a_sample_are_read(rt: HostRuntime) -> Result<(), Fail> {
+    let table: [(&str, u64, u64, u32); 6] = [
+        ("sample 1 1", 262_144, 1, 1),
+        (
+            "sample 9999999999 1000000",
+            262_144,
+            9_999_999_999,
+            1_000_000,
+        ),
+        ("sample --limit 9 0 5", 9, 0, 5),
+        ("sample 7 --order=sorted 100000 --limit=3", 3, 7, 100_000),
+        ("sample --limit=2 -- 1 2", 2, 1, 2),
+        ("sample 0000000000000000001 -- 2", 262_144, 1, 2),
+    ];
+    for (text, limit, start, count) in table {
+        assert_sample(&rt, rt.alloc(), text, limit, SampleOptions { start, count })?;
+    }
+    Ok(())
+}
+
 fn assert_refused(rt: &impl Abort, alloc: Global, text: &str) -> Result<(), Fail> {
     let said = read(alloc, text)?;
     assert!(rt; said == Err(WordsFault::Usage), "{text}");
@@ -143,6 +180,19 @@ fn all_other_words_are_refused(rt: HostRuntime) -> Result<(), Fail> {
         "serve --links 1000000001",
         "serve --http-port 80 --http-port 80",
         "serve 2003",
+        "sample",
+        "sample 1",
+        "sample 1 0",
+        "sample 1 1000001",
+        "sample 10000000000 1",
+        "sample 00000000000000000001 1",
+        "sample 1 2 3",
+        "sample -1 1",
+        "sample +1 1",
+        "sample 1 1 --links 5",
+        "sample --limit -- 1 1",
+        "sample 1 -- 2 --limit 5",
+        "sample -- -- 1 2",
     ];
     for text in table {
         assert_refused(&rt, rt.alloc(), text)?;

@@ -1,11 +1,13 @@
 -- Where the service of a link stands in the middle of it.
 use Rattle.std.specs.Prelude.{◌≡◌, ◌≢◌, ℕ, Bool, true, false, List, ◌++◌, Option, Some, None, length, ◌+◌, map, ⊤}
+use Rattle.std.specs.Option.{ForSome}
 use Rattle.std.specs.Io.KnownBytes.{Appends, Consumes}
 use Rattle.outside_io.specs.Sink.{AppendsFront}
 use Rattle.shared_store.specs.Passes.{IsSpent}
 use Rattle.http_wire.specs.Answers.{KeepLink, ends_link_with}
 use Rattle.http_wire.specs.Codes.{code_of}
-use Rattle.http_wire.specs.Reading.{HandsOut, Reading}
+use Rattle.http_wire.specs.Cuts.{Awaits}
+use Rattle.http_wire.specs.Reading.{HandsOut, HasRoom, Reading}
 use Rattle.http_wire.specs.Requests.{Asked, Item, Request, Refused}
 use Rattle.http_wire.specs.declared.reader.Handed.{Handed}
 use Rattle.http_wire.specs.declared.reader.Handed.TheVariants as handed
@@ -17,6 +19,11 @@ use Rattle.http_front.specs.declared.ends.HttpEnd.{HttpEnd}
 use Rattle.http_front.specs.declared.ends.HttpEnd.TheVariants as end
 use Rattle.http_front.specs.declared.outcome.Outcome.{Outcome}
 use Rattle.http_front.specs.declared.outcome.Outcome.TheVariants as outcome
+
+-- a reader has room for more, and what it holds awaits more
+pub record IsOpen (left : Option (List ℕ)) : Type 0 where
+  pub room : HasRoom left
+  pub waits : ForSome left Awaits
 
 -- ---- one item
 

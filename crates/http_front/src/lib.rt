@@ -17,4 +17,10 @@ pub use outcome::Outcome;
 pub use serve::serve_http;
 
 #[cfg(test)]
+mod cut_tests;
+#[cfg(test)]
+mod name_tests;
+#[cfg(test)]
+mod reason_tests;
+#[cfg(test)]
 mod tests;

@@ -66,7 +66,7 @@ impl<'a, R: Wait, D: Disk, N: Named, C: Clock> Renderer<'a, R, D, N, C> {
     ghost use Rattle.http_wire.specs.Reading.{HasRoom as HasSpace, end_of, seen};
     ghost use Rattle.http_front.specs.Links.{Ends, EndsAs, TellsShort};
     ghost use Rattle.http_front.specs.Origin.{SamePass, WritesOnly, origin_of, standing};
-    ghost use Rattle.http_front.specs.Standing.{BreaksHere, BreaksOff, EndsThere, IsHandedOut, IsSilent, Proceeds, ServesHanded, ServesRequest, StopsHanded, StopsRefused, StopsRequest, TakesPiece};
+    ghost use Rattle.http_front.specs.Standing.{BreaksHere, BreaksOff, EndsThere, IsHandedOut, IsOpen, IsSilent, Proceeds, ServesHanded, ServesRequest, StopsHanded, StopsRefused, StopsRequest, TakesPiece};
 
     // Serves a link, and tells it where memory runs out.
     fn serve<L: Link>(&self, pass: &mut Pass, buffers: &mut Buffers, link: &mut L) -> HttpEnd
@@ -139,13 +139,11 @@ impl<'a, R: Wait, D: Disk, N: Named, C: Clock> Renderer<'a, R, D, N, C> {
         out: &mut K,
     ) -> Result<(), HttpEnd>
         requires one { pass.old.table ≡ N.table }
-        requires room { HasSpace reader.old.left }
-        requires waits { ForSome reader.old.left Awaits }
+        requires open { IsOpen reader.old.left }
         ensures takes { OnOk result (TakesPiece (origin_of C.Clock N.Named self.now.clock.now)
             reader.old.left (standing K.Sink pass.old out.old) piece.now reader.new.left
             (standing K.Sink pass.new out.new)) }
-        ensures waits { OnOk result (ForSome reader.new.left Awaits) }
-        ensures room { OnOk result (HasSpace reader.new.left) }
+        ensures open { OnOk result (IsOpen reader.new.left) }
         ensures breaks { IfErr result
             (λ end. BreaksOff (origin_of C.Clock N.Named self.now.clock.now) end reader.old.left
             (standing K.Sink pass.old out.old) piece.now (standing K.Sink pass.new out.new)) }

@@ -2,3 +2,8 @@ pub mod LinkLemmas
 mod ServiceLemmas
 mod SessionLemmas
 mod StoreLemmas
+mod SplitLemmas
+mod CountLemmas
+mod PutLemmas
+mod BatchLemmas
+mod WaitingLemmas

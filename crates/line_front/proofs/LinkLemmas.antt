@@ -59,7 +59,7 @@ makes_of_line moments start passes TooLong old new handles = record {
 
 -- ---- lines one after the other
 
-all_append : (moments : ℕ → Type 0) (start : State) (passes : ℕ) (first : List Line) (second : List Line) (old mid new : SessionValue)
+pub all_append : (moments : ℕ → Type 0) (start : State) (passes : ℕ) (first : List Line) (second : List Line) (old mid new : SessionValue)
     → HandlesAll moments start passes old first mid → HandlesAll moments start passes mid second new → HandlesAll moments start passes old (first ++ second) new
 all_append moments start passes [] second old mid new handled more =
     subst (λ (s : SessionValue). HandlesAll moments start passes s second new) handled more

@@ -1,9 +1,10 @@
 -- How many lines a link or a script had of each kind.
-use Rattle.std.specs.Prelude.{ℕ, ◌+◌, ◌-◌, ◌^◌, min}
+use Rattle.std.specs.Prelude.{ℕ, zero, suc, ◌+◌, ◌-◌, ◌^◌, min}
 use Rattle.carbon_history.specs.declared.entry.PutEnd.{PutEnd}
 use Rattle.metric_line.specs.declared.fault.LineFault.{LineFault}
 use Rattle.metric_line.specs.declared.fault.LineFault.TheVariants.{Fields, Path, Value, Time, NoMemory}
 use Rattle.line_front.specs.declared.counts.Counts.{Counts}
+use Rattle.shared_store.specs.declared.put_counts.PutCounts.{PutCounts}
 use Rattle.carbon_history.specs.declared.entry.PutEnd.TheVariants.{Stored, Replaced, Full}
 
 abbrev pub no_counts : Counts
@@ -30,3 +31,13 @@ refused c NoMemory = c
 -- the counts after a line that was too long
 abbrev pub overlong : Counts → Counts
 overlong c = record c { long = raised c.long }
+
+-- a count that rises by one so often
+abbrev pub added : ℕ → ℕ → ℕ
+added count zero = count
+added count (suc n) = added (raised count) n
+
+-- the counts after so many puts of each end
+abbrev pub counted_puts : Counts → PutCounts → Counts
+counted_puts c puts =
+    record c { stored = added c.stored puts.stored; replaced = added c.replaced puts.replaced; full = added c.full puts.full }

@@ -2,6 +2,7 @@ ghost use Rattle.std.specs.Prelude.{◌≡◌};
 
 use carbon_history::PutEnd;
 use metric_line::LineFault;
+use shared_store::PutCounts;
 
 /// How many metric lines there were of each kind: those that were put by how that ended, and those that were refused by the
 /// reason. A count that has come to 2^64 - 1 stays there.
@@ -26,7 +27,7 @@ pub struct Counts {
 }
 
 impl Counts {
-    ghost use Rattle.line_front.specs.Counts.{no_counts, counted, refused, overlong};
+    ghost use Rattle.line_front.specs.Counts.{no_counts, counted, counted_puts, refused, overlong};
 
     /// No lines.
     pub const fn none() -> Counts
@@ -73,5 +74,15 @@ impl Counts {
             PutEnd::Replaced => self.replaced = self.replaced.saturating_add(1),
             PutEnd::Full => self.full = self.full.saturating_add(1),
         }
+    }
+
+    // Counts puts by how they ended.
+    #[tactic(auto, using(crate::proofs::CountLemmas::added_is))]
+    pub(crate) fn count_puts(&mut self, puts: &PutCounts)
+        ensures { self.new ≡ counted_puts self.old puts.now }
+    {
+        self.stored = self.stored.saturating_add(puts.stored);
+        self.replaced = self.replaced.saturating_add(puts.replaced);
+        self.full = self.full.saturating_add(puts.full);
     }
 }

@@ -2,11 +2,13 @@
 //! other one is counted by the reason.
 #![tactic(auto)]
 
+mod batch;
 mod counts;
 mod ends;
 mod serve;
 mod session;
 mod sink;
+mod waiting;
 
 pub use counts::Counts;
 pub use ends::LineCause;

@@ -54,6 +54,7 @@ pub fn serve_lines<R: Wait, D: Disk, N: Named, L: Link, C: Clock>(
         pass,
         counts: Counts::none(),
         alloc,
+        points: Vec::new(alloc),
     };
     let cause = serve_link(&mut session, alloc, link);
     let LineSession { pass, counts, .. } = session;

@@ -16,7 +16,7 @@ use std::marker::Model;
 use std::sync::Wait;
 
 /// The most entries that a call of a store makes.
-const MOST_CALL_ENTRIES: u64 = 4;
+pub(crate) const MOST_CALL_ENTRIES: u64 = 4;
 
 /// Puts the lines of a link into a store by a pass, at the moments of a clock, and counts them.
 #[derive(Drop)]
@@ -27,6 +27,8 @@ pub(crate) struct LineSession<'a, R: Wait, D: Disk, N: Named, C: Clock> {
     pub(crate) pass: Pass,
     pub(crate) counts: Counts,
     pub(crate) alloc: Global,
+    // The buffer for the points of a batch.
+    pub(crate) points: Vec<Datum>,
 }
 
 impl<'a, R: Wait, D: Disk, N: Named, C: Clock> Model for LineSession<'a, R, D, N, C> {
@@ -64,7 +66,7 @@ impl<'a, R: Wait, D: Disk, N: Named, C: Clock> LineSession<'a, R, D, N, C> {
 
     // Puts the point of a line, and counts how that ended.
     #[tactic(auto, using(crate::proofs::SessionLemmas::puts_point, crate::proofs::SessionLemmas::puts_none))]
-    fn put(&mut self, datum: &Datum) -> Result<(), Stop>
+    pub(crate) fn put(&mut self, datum: &Datum) -> Result<(), Stop>
         requires { HasRoom self.old.session.pass }
         ensures puts { OnOk result
             (Puts N.start N.passes (seen datum.now) self.old.session self.new.session) }
@@ -81,7 +83,7 @@ impl<'a, R: Wait, D: Disk, N: Named, C: Clock> LineSession<'a, R, D, N, C> {
     }
 
     // Counts a line that was refused. Want of memory is no refusal.
-    fn refuse(&mut self, fault: LineFault) -> Result<(), Stop>
+    pub(crate) fn refuse(&mut self, fault: LineFault) -> Result<(), Stop>
         ensures { Refuses fault result self.old self.new }
     {
         if fault == LineFault::NoMemory {
@@ -123,7 +125,7 @@ impl<'a, R: Wait, D: Disk, N: Named, C: Clock> LineServer for LineSession<'a, R,
 
 // The moment that a clock tells.
 #[tactic(auto, using(crate::proofs::SessionLemmas::moment_fits))]
-fn moment<C: Clock>(clock: &C) -> u32
+pub(crate) fn moment<C: Clock>(clock: &C) -> u32
     ensures told { C.moments clock.now result }
     ensures legal { is_moment result ≡ true }
 {

@@ -273,6 +273,64 @@ fn a_point_that_finds_its_class_full_is_counted(rt: HostRuntime) -> Result<(), F
     Ok(())
 }
 
+// Serves so many copies of some lines, of which at most so many bytes come at once, with a line that has not three fields
+// behind the second copy.
+fn run_copies<R: Wait>(
+    rt: &R,
+    alloc: Global,
+    limit: u64,
+    lines: &[u8],
+    copies: usize,
+    most: usize,
+) -> Result<Came, Fail>
+    requires limit { 0 < limit }
+    requires most { 0 < most }
+{
+    let mut text = Vec::new(alloc);
+    for k in 0..copies {
+        if k == 2 {
+            text.extend_from_slice(b"a b\n")?;
+        }
+        text.extend_from_slice(lines)?;
+    }
+    run_one(rt, alloc, limit, MemSource::new(alloc, text).at_most(most))
+}
+
+// Ten points of ten metrics.
+const TEN: &[u8] = b"a.a 1 1700000000\na.b 1 1700000000\na.c 1 1700000000\na.d 1 1700000000\n\
+    a.e 1 1700000000\na.f 1 1700000000\na.g 1 1700000000\na.h 1 1700000000\n\
+    a.i 1 1700000000\na.j 1 1700000000\n";
+
+#[test]
+fn many_lines_of_a_piece_are_handled_as_if_one_by_one(rt: HostRuntime) -> Result<(), Fail> {
+    let cases = [
+        (4, 65_536, 30),
+        (30, 65_536, 290),
+        (30, 700, 290),
+        (30, 64, 290),
+    ];
+    for (copies, most, replaced) in cases {
+        let came = run_copies(&rt, rt.alloc(), 1_000, TEN, copies, most)?;
+        let mut counts = stored(10);
+        counts.replaced = replaced;
+        counts.fields = 1;
+        assert_came(&rt, &came, LineCause::Closed, counts, most);
+    }
+    Ok(())
+}
+
+#[test]
+fn points_of_a_piece_that_find_their_class_full_are_counted(rt: HostRuntime) -> Result<(), Fail> {
+    let lines = b"a 1 1700000000\na 2 1700000060\n";
+    let came = run_copies(&rt, rt.alloc(), 1, lines, 40, 65_536)?;
+    let mut counts = stored(1);
+    counts.replaced = 39;
+    counts.full = 40;
+    counts.fields = 1;
+    assert_came(&rt, &came, LineCause::Closed, counts, 0);
+    Ok(())
+}
+
 // Two links one after the other.
 fn run_two<R: Wait>(rt: &R, alloc: Global, first: &[u8], second: &[u8]) -> Result<Came, Fail> {
     let mut links = Vec::new(alloc);

@@ -7,10 +7,12 @@
 mod ends;
 mod serve;
 mod server;
+mod waiting;
 
 pub use ends::{ServiceEnd, Stop};
 pub use serve::{MOST_INPUT_BYTES, serve_lines};
-pub use server::LineServer;
+pub use server::{LineServer, WaitingServer};
+pub use waiting::serve_each;
 
 #[cfg(test)]
 mod tests;

@@ -1,12 +1,12 @@
 // The loop that reads, frames and serves.
 ghost use Rattle.std.specs.Prelude.{◌≡◌, ◌<◌, length, [], OnOk, IfOk, IfErr, Err};
 ghost use Rattle.outside_io.specs.Frames.{CountsReads, CountsWrites};
-ghost use Rattle.line_service.specs.Service.{Service, StepOf, StopsAt, standing};
-ghost use Rattle.line_service.specs.Standing.{BreaksOff, IsHandedOut, ServesFramed, ServesTo, StopsFramed, TakesPiece};
+ghost use Rattle.line_service.specs.Service.{Service, StepOf, standing};
+ghost use Rattle.line_service.specs.Standing.{BreaksOff, TakesPiece};
 
 use crate::ends::{ServiceEnd, Stop};
-use crate::server::LineServer;
-use line_frame::{Framed, Framer};
+use crate::server::WaitingServer;
+use line_frame::Framer;
 use outside_io::{ReadEnd, Sink, Source};
 use std::alloc::{AllocError, Global};
 
@@ -26,7 +26,7 @@ enum PieceFault {
 /// Reads the input to its end, or as much of it as is taken at most, and serves its lines in order. What follows the last
 /// line feed is no line.
 #[tactic(auto, using(crate::proofs::StandingLemmas::ends_at_once))]
-pub fn serve_lines<L: LineServer, S: Source, K: Sink>(
+pub fn serve_lines<L: WaitingServer, S: Source, K: Sink>(
     server: &mut L,
     alloc: Global,
     input: &mut S,
@@ -55,7 +55,7 @@ fn zeros(alloc: Global, count: usize) -> Result<Vec<u8>, AllocError>
 
 // Serves the lines of the input, which is read into the buffer.
 #[tactic(auto, using(crate::proofs::StandingLemmas::ends_closed, crate::proofs::StandingLemmas::ends_failed))]
-fn serve_input<L: LineServer, S: Source, K: Sink>(
+fn serve_input<L: WaitingServer, S: Source, K: Sink>(
     server: &mut L,
     alloc: Global,
     input: &mut S,
@@ -91,7 +91,7 @@ fn serve_input<L: LineServer, S: Source, K: Sink>(
 
 // Serves the lines that a piece of the input ends.
 #[tactic(auto, using(crate::proofs::StandingLemmas::breaks_stop))]
-fn serve_piece<L: LineServer, K: Sink>(
+fn serve_piece<L: WaitingServer, K: Sink>(
     server: &mut L,
     framer: &mut Framer,
     piece: &[u8],
@@ -108,57 +108,10 @@ fn serve_piece<L: LineServer, K: Sink>(
         (result ≡ Err (PieceFault.Stopped Stop.WriteFault)) }
 {
     match framer.feed(piece) {
-        Ok(()) => match serve_waiting(server, framer, out) {
+        Ok(()) => match server.serve_waiting(framer, out) {
             Ok(()) => Ok(()),
             Err(stop) => Err(PieceFault::Stopped(stop)),
         },
         Err(_) => Err(PieceFault::NoMemory),
-    }
-}
-
-// Serves the lines that wait.
-fn serve_waiting<L: LineServer, K: Sink>(
-    server: &mut L,
-    framer: &mut Framer,
-    out: &mut K,
-) -> Result<(), Stop>
-    ensures serves { OnOk result
-        (ServesTo (StepOf L.serves) framer.old (standing K.Sink server.old out.old) framer.new
-        (standing K.Sink server.new out.new)) }
-    ensures all { OnOk result (framer.new.waiting ≡ []) }
-    ensures stops { IfErr result
-        (λ stop. StopsAt L.serves L.stops stop
-        (standing K.Sink server.old out.old) framer.old.waiting
-        (standing K.Sink server.new out.new)) }
-    ensures writes { CountsWrites K.Sink out.old out.new (result ≡ Err Stop.WriteFault) }
-{
-    while let Some(framed) = framer.next_line() {
-        match serve_framed(server, framer, framed, out) {
-            Ok(()) => {}
-            Err(stop) => return Err(stop),
-        }
-    }
-    Ok(())
-}
-
-// Serves the line that was handed out.
-fn serve_framed<L: LineServer, K: Sink>(
-    server: &mut L,
-    framer: &Framer,
-    framed: Framed,
-    out: &mut K,
-) -> Result<(), Stop>
-    requires { IsHandedOut framed framer.now }
-    ensures serves { OnOk result
-        (ServesFramed L.serves framed framer.now (standing K.Sink server.old out.old)
-        (standing K.Sink server.new out.new)) }
-    ensures stops { IfErr result
-        (λ stop. StopsFramed L.stops stop framed framer.now (standing K.Sink server.old out.old)
-        (standing K.Sink server.new out.new)) }
-    ensures writes { CountsWrites K.Sink out.old out.new (result ≡ Err Stop.WriteFault) }
-{
-    match framed {
-        Framed::Line => server.serve_line(framer.line(), out),
-        Framed::TooLong => server.serve_long(out),
     }
 }

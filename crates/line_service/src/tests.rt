@@ -1,6 +1,7 @@
 ghost use Rattle.std.specs.Prelude.{◌<◌, ⊤};
 
 use super::*;
+use line_frame::Framer;
 use outside_io::{MemSink, MemSource, Sink, write_all};
 use std::alloc::{AllocError, Global};
 use std::process::Abort;
@@ -34,6 +35,12 @@ impl LineServer for Echo {
             Ok(()) => Ok(()),
             Err(_) => Err(Stop::WriteFault),
         }
+    }
+}
+
+impl WaitingServer for Echo {
+    fn serve_waiting<K: Sink>(&mut self, framer: &mut Framer, out: &mut K) -> Result<(), Stop> {
+        serve_each(self, framer, out)
     }
 }
 

@@ -1,3 +1,4 @@
 pub mod PatternLemmas
 pub mod SubstitutionLemmas
 pub mod Cross
+mod WalkLemmas

@@ -1,7 +1,9 @@
 //! Regular expressions that are searched in names, and whose matches are replaced there.
 #![tactic(auto)]
 
+mod name_test;
 mod pattern;
 mod substitution;
 
+pub use name_test::NameTest;
 pub use pattern::{Pattern, Search};

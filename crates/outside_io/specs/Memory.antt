@@ -1,6 +1,6 @@
 -- What the streams in memory hold, and the pieces that they give and take.
-use Rattle.std.specs.Prelude.{◌≡◌, ℕ, ◌+◌, ◌-◌, ◌^◌, ◌<◌, ◌≤◌, List, [], ◌++◌, take, min, slice_index, EachIndex, ⊤}
-use Rattle.outside_io.specs.Calls.{Calls, after_call, listed_calls}
+use Rattle.std.specs.Prelude.{◌≡◌, ℕ, ◌+◌, ◌-◌, ◌^◌, ◌<◌, ◌≤◌, List, [], ◌++◌, take, min, slice_index, EachIndex, IsTrue, ⊤}
+use Rattle.outside_io.specs.Calls.{Calls, after_call, fails_next, listed_calls}
 use Rattle.outside_io.specs.Faults.{raised}
 use Rattle.outside_io.specs.declared.source.ReadEnd.{ReadEnd}
 use Rattle.outside_io.specs.declared.source.ReadEnd.TheVariants as read
@@ -27,6 +27,12 @@ GivesPiece source (read.Got count) = IsPiece source count
 GivesPiece source read.End = ⊤
 GivesPiece source read.Failed = ⊤
 
+-- A read gave a piece, and left as they are the pieces in which the source comes.
+pub record ReadsPiece (old new : SourceState) (end : ReadEnd) : Type 0 where
+  pub piece : GivesPiece old end
+  pub most : new.most ≡ old.most
+  pub cuts : new.cuts ≡ old.cuts
+
 -- the bytes that were written, for how many more there is memory, how many are taken at once at most, which writes
 -- fail, and how many have failed
 pub record SinkState : Type 0 where
@@ -48,6 +54,11 @@ TakesPiece sink len write.Failed = ⊤
 -- there is memory for as much of a piece as is taken at once
 abbrev pub HasRoom : SinkState → ℕ → Type 0
 HasRoom sink len = min len sink.most ≤ sink.room
+
+-- A write of so many bytes fails where it is listed to fail, and else only where there is no memory for them.
+pub record FailsWhere (old : SinkState) (len : ℕ) (end : WriteEnd) : Type 0 where
+  pub listed : IsTrue (fails_next old.calls) → end ≡ write.Failed
+  pub within : HasRoom old len → end ≡ write.Failed → IsTrue (fails_next old.calls)
 
 -- how many bytes were taken
 abbrev pub taken : WriteEnd → ℕ

@@ -1,8 +1,8 @@
 // A sink in memory.
-ghost use Rattle.std.specs.Prelude.{◌≡◌, ℕ, ◌+◌, ◌<◌, ◌≤◌, [], length, Some, IfOk, IsTrue};
-ghost use Rattle.outside_io.specs.Calls.{fails_next, listed_calls};
+ghost use Rattle.std.specs.Prelude.{◌≡◌, ℕ, ◌+◌, ◌<◌, ◌≤◌, [], length, Some, IfOk};
+ghost use Rattle.outside_io.specs.Calls.{listed_calls};
 ghost use Rattle.outside_io.specs.Frames.{CountsWrites};
-ghost use Rattle.outside_io.specs.Memory.{HasRoom, TakesPiece, after_write, new_sink, taken};
+ghost use Rattle.outside_io.specs.Memory.{FailsWhere, TakesPiece, after_write, new_sink, taken};
 ghost use Rattle.outside_io.specs.Sink.{WritesSome, WriteGives};
 
 use crate::calls::FailingCalls;
@@ -112,9 +112,7 @@ impl Sink for MemSink {
         ensures state { self.new ≡ after_write self.old piece.now self.new.room result }
         ensures room { self.old.room ≤ self.new.room + taken result }
         ensures piece { TakesPiece self.old (length piece.now) result }
-        ensures listed { IsTrue (fails_next self.old.calls) → result ≡ WriteEnd.Failed }
-        ensures within { HasRoom self.old (length piece.now) → result ≡ WriteEnd.Failed
-            → IsTrue (fails_next self.old.calls) }
+        ensures fails { FailsWhere self.old (length piece.now) result }
     {
         if self.calls.fails_now() {
             self.faults = raised(self.faults);

@@ -2,7 +2,7 @@
 ghost use Rattle.std.specs.Prelude.{◌≡◌, ◌↔◌, ℕ, ◌+◌, ◌<◌, ◌≤◌, [], length, slice_index, EachIndex, Some, IsTrue};
 ghost use Rattle.outside_io.specs.Calls.{fails_next, after_call};
 ghost use Rattle.outside_io.specs.Faults.{Rose};
-ghost use Rattle.outside_io.specs.Memory.{GivesPiece};
+ghost use Rattle.outside_io.specs.Memory.{ReadsPiece};
 ghost use Rattle.outside_io.specs.Source.{ReadsSome, ReadTakes};
 
 use crate::calls::FailingCalls;
@@ -101,8 +101,7 @@ impl Source for MemSource {
         ensures bytes { ReadTakes (Some self.old.left) (Some self.new.left) result buf.new }
         ensures later { self.old.faults ≤ self.new.faults }
         ensures cause { result ≡ ReadEnd.Failed → Rose self.old.faults self.new.faults }
-        ensures piece { GivesPiece self.old result }
-        ensures same_pieces { (self.new.most ≡ self.old.most) × (self.new.cuts ≡ self.old.cuts) }
+        ensures piece { ReadsPiece self.old self.new result }
         ensures counted { self.new.calls ≡ after_call self.old.calls }
         ensures listed { result ≡ ReadEnd.Failed ↔ IsTrue (fails_next self.old.calls) }
     {

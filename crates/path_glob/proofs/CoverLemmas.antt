@@ -41,11 +41,11 @@ pub pieces_of_plain : (text : List ℕ) → IsPlain text → pieces_of text ≡ 
 pieces_of_plain text plain =
     opened_nowhere [] text (λ k d within. (ordinary_of _ (plain k d within)).no_braces) ∙ ap (map Plain) (row_of_plain text plain)
 
-exactly : (text bytes : List ℕ) → NodeCovers (map Plain (map Exact text)) bytes → bytes ≡ text
+pub exactly : (text bytes : List ℕ) → NodeCovers (map Plain (map Exact text)) bytes → bytes ≡ text
 exactly [] bytes is = is
 exactly (b ∷ text) bytes (front, rest, is, one, others) = is ∙ ap (λ (l : List ℕ). l ++ rest) one ∙ ap (λ (l : List ℕ). b ∷ l) (exactly text rest others)
 
-itself : (text : List ℕ) → NodeCovers (map Plain (map Exact text)) text
+pub itself : (text : List ℕ) → NodeCovers (map Plain (map Exact text)) text
 itself [] = refl
 itself (b ∷ text) = (b ∷ [], text, refl, refl, itself text)
 

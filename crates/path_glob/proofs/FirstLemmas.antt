@@ -3,15 +3,16 @@ use Rattle.std.proofs.Common.{◌≡◌, ℕ, ◌<◌, ◌==◌, inl, inr, Bool,
 use Rattle.std.proofs.lemmas.Bool.{eqb-true}
 use Rattle.std.proofs.lemmas.List.Elements.{All-append, All-cons, All-from_get_or, All-head, All-nil, All-push, All-tail}
 use Rattle.std.proofs.lemmas.List.Splits.{slice_split-cons_no, slice_split-cons_yes}
+use Rattle.std.proofs.Math.Seq.{take-append_seam}
 use Rattle.std.specs.List.{onto_first, position_or_len, slice_split}
-use Rattle.std.proofs.lemmas.List.{get_or-take, length-take, take-append-drop}
+use Rattle.std.proofs.lemmas.List.{get_or-take, length-take, take-append-drop, append_cancel_left}
 use Rattle.std.proofs.lemmas.List.Sums.{fails_before_first}
 use Rattle.metric_path.specs.Path.{is_dot, nodes_of}
 use Rattle.path_glob.specs.Glob.{Braces, Exact, OneOf, NodeCovers, Piece, PieceCovers, Plain, Simple, SomeCovers}
 use Rattle.path_glob.specs.Laws.{BeginsWith, DotThen, FirstThen, FitsPath, FitsSome, IsByte, IsClosed, IsMember, literal_front}
 use Rattle.path_glob.specs.Parts.{HasNone}
 use Rattle.path_glob.specs.Reading.{is_comma, is_special, pieces_from, pieces_of, pieces_within, members_of, row_after, row_of, simple_of, values_of}
-use Rattle.path_glob.proofs.CoverLemmas.{IsPlain, fits_none, moved, nodes_never_none, none_fits, ordinary_of}
+use Rattle.path_glob.proofs.CoverLemmas.{IsPlain, exactly, fits_none, itself, Tells, moved, nodes_never_none, none_fits, ordinary_of, tells_no}
 use Rattle.path_glob.proofs.PositionLemmas.{alone_row, row_alone}
 use Rattle.path_glob.proofs.PartLemmas.{braces_at, first_differs, list_at, others_differ}
 
@@ -146,6 +147,49 @@ byte_reads b no_dot no_list no_braces =
 
 exact_said : (b : ℕ) → is_special b ≡ false → simple_of b ≡ Exact b
 exact_said b plain = let o = ordinary_of b plain in rw (o.no_row, o.no_any) refl
+
+-- bytes that stand for themselves, and the pieces of what follows them
+plain_row : (front : List ℕ) → IsPlain front → RowReads front (map Exact front)
+plain_row [] plain more = refl
+plain_row (b ∷ front) plain more =
+    let o = ordinary_of b (All-head (λ x. is_special x ≡ false) b front plain) in
+    let others = plain_row front (All-tail (λ x. is_special x ≡ false) b front plain) more in
+    rw (o.no_list, o.no_row, o.no_any, others) refl
+
+plain_pieces : (front more : List ℕ) → IsPlain front → pieces_of (front ++ more) ≡ map Plain (map Exact front) ++ pieces_of more
+plain_pieces front more plain =
+    passed_on [] front more (λ k d within. (ordinary_of _ (plain k d within)).no_braces)
+    ∙ ap (λ (l : List ℕ). pieces_from l more) (sym (append-nil front)) ∙ row_first front (map Exact front) (plain_row front plain) [] more
+
+-- what such bytes and pieces behind them cover begins with the bytes
+pub plain_first : (front more bytes : List ℕ) → IsPlain front → NodeCovers (pieces_of (front ++ more)) bytes
+    → (rest : List ℕ) × (bytes ≡ front ++ rest) × NodeCovers (pieces_of more) rest
+plain_first front more bytes plain covers =
+    let w = then_pieces (map Plain (map Exact front)) (pieces_of more) bytes (subst (λ (p : List Piece). NodeCovers p bytes) (plain_pieces front more plain) covers) in
+    (w.1, w.2 ∙ ap (λ (l : List ℕ). l ++ w.1) (exactly front w.0 w.3), w.4)
+
+pub plain_onto : (front more rest : List ℕ) → IsPlain front → NodeCovers (pieces_of more) rest → NodeCovers (pieces_of (front ++ more)) (front ++ rest)
+plain_onto front more rest plain covers =
+    subst (λ (p : List Piece). NodeCovers p (front ++ rest)) (sym (plain_pieces front more plain))
+    (pieces_then (map Plain (map Exact front)) (pieces_of more) front rest (itself front) covers)
+
+-- a node that begins with such bytes, and one that does not
+pub plain_then : (front more node rest : List ℕ) (answer : Bool) → IsPlain front → node ≡ front ++ rest → Tells answer (NodeCovers (pieces_of more) rest)
+    → Tells answer (NodeCovers (pieces_of (front ++ more)) node)
+plain_then front more node rest answer plain is tells = (
+  λ yes. subst (λ (l : List ℕ). NodeCovers (pieces_of (front ++ more)) l) (sym is) (plain_onto front more rest plain (tells.0 yes)),
+  λ covers.
+      let w = plain_first front more node plain covers in
+      tells.1 (subst (λ (l : List ℕ). NodeCovers (pieces_of more) l) (append_cancel_left front w.0 rest (sym w.1 ∙ is)) w.2),
+)
+
+pub plain_apart : (front more node : List ℕ) → IsPlain front → (take (length front) node ≡ front → ⊥) → Tells false (NodeCovers (pieces_of (front ++ more)) node)
+plain_apart front more node plain apart =
+    tells_no (λ covers. let w = plain_first front more node plain covers in apart (ap (take (length front)) w.1 ∙ take-append_seam front w.0))
+
+-- a single star covers all
+pub star_covers : (bytes : List ℕ) → NodeCovers (pieces_of (42 ∷ [])) bytes
+star_covers bytes = (bytes, [], sym (append-nil bytes), tt, refl)
 
 -- a list is a piece
 pub list_reads : (members : List ℕ) → HasNone 46 members → HasNone 93 members → HasNone 123 members → Reads (91 ∷ (members ++ 93 ∷ [])) (Plain (OneOf (members_of members)) ∷ [])

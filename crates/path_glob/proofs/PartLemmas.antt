@@ -42,6 +42,13 @@ cut_where_found mark text at h =
           rw (get_or-take at text k 0 near) (fails_before_first (λ b. b == mark) text k 0 (omega (arith, f.1, near)))),
     )
 
+pub none_before : (test : ℕ → Bool) (text : List ℕ) (at : ℕ) → position test text ≡ Some at → All (λ b. test b ≡ false) (take at text)
+none_before test text at h =
+    let f = found test text at (cases_lt _ _) h in
+    All-from_get_or (λ b. test b ≡ false) (take at text) 0 (λ k within.
+    let near : k < at = omega (arith, length-take-le at text (omega (arith, f.0))) in
+    rw (get_or-take at text k 0 near) (fails_before_first test text k 0 (omega (arith, f.1, near))))
+
 pub none_where_nowhere : (test : ℕ → Bool) (text : List ℕ) → position test text ≡ None → All (λ b. test b ≡ false) text
 none_where_nowhere test text h =
     let past = nowhere_of test text (cases_lt _ _) h in

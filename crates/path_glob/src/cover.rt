@@ -46,10 +46,24 @@ fn node_fits(pieces: &[u8], node: &[u8]) -> bool
     requires { length node.now ≤ 240 }
     ensures { IsTrue result ↔ NodeCovers (pieces_of pieces.now) node.now }
 {
-    match special_in(pieces) {
-        Some(_) => return after_node(pieces, node, Positions::start()).has(node.len()),
-        None => return pieces == node,
+    let Some(at) = special_in(pieces) else {
+        return pieces == node;
+    };
+    match node.strip_prefix(&pieces[..at]) {
+        Some(rest) => pieces_fit(&pieces[at..], rest),
+        None => false,
     }
+}
+
+// Whether the pieces of a glob's node cover the bytes of a node or of its end. A single `*` covers all.
+fn pieces_fit(pieces: &[u8], bytes: &[u8]) -> bool
+    requires { length bytes.now ≤ 240 }
+    ensures { IsTrue result ↔ NodeCovers (pieces_of pieces.now) bytes.now }
+{
+    if pieces == b"*".as_slice() {
+        return true;
+    }
+    after_node(pieces, bytes, Positions::start()).has(bytes.len())
 }
 
 /// What stands before the first wildcard, bracket or brace.

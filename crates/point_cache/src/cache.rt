@@ -60,6 +60,19 @@ impl PointCache {
         put
     }
 
+    /// Puts a point of the metric at a place, as [`PointCache::put`] does. Its path is not looked for again.
+    pub fn put_at(&mut self, place: usize, path: &MetricPath, time: u32, value: Milli) -> Put
+        requires { position (bytes_eq path.now) self.old.places ≡ Some place }
+        ensures { Puts self.old self.new path.now time value result }
+    {
+        if self.is_full() {
+            return self.metrics.replace_at(path, place, time, value);
+        }
+        let put = self.metrics.put_next(path, place, time, value);
+        self.count += count_of(put);
+        put
+    }
+
     /// How many points are pending.
     pub fn count(&self) -> u64
         ensures points { result ≡ points_count self.now.metrics }

@@ -107,8 +107,14 @@ impl MetricMap {
         }
     }
 
-    // Puts one more point of the metric at a place.
-    fn put_next(&mut self, path: &MetricPath, place: usize, time: u32, value: Milli) -> Put
+    /// Puts one more point of the metric at a place.
+    pub(crate) fn put_next(
+        &mut self,
+        path: &MetricPath,
+        place: usize,
+        time: u32,
+        value: Milli,
+    ) -> Put
         requires { position (bytes_eq path.now) self.old.places ≡ Some place }
         ensures put { PutsMetric self.old self.new path.now time value result }
         ensures counts { Counts self.old.metrics self.new.metrics result }
@@ -157,8 +163,14 @@ impl MetricMap {
         }
     }
 
-    // Replaces a point of the metric at a place.
-    fn replace_at(&mut self, path: &MetricPath, place: usize, time: u32, value: Milli) -> Put
+    /// Replaces a point of the metric at a place, where no new one has room.
+    pub(crate) fn replace_at(
+        &mut self,
+        path: &MetricPath,
+        place: usize,
+        time: u32,
+        value: Milli,
+    ) -> Put
         requires { position (bytes_eq path.now) self.old.places ≡ Some place }
         ensures put { ReplacesMetric self.old self.new path.now time value result }
         ensures counts { Counts self.old.metrics self.new.metrics result }

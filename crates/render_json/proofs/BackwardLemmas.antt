@@ -1,11 +1,13 @@
 -- Texts that are written from their end to their front.
 use Rattle.std.proofs.Common.{◌≡◌, ◌≢◌, ℕ, zero, suc, ◌+◌, ◌-◌, ◌*◌, ◌/◌, ◌%◌, ◌^◌, ◌<◌, ◌≤◌, Bool, true, ◌&&◌, T, eqb, List, [], ◌∷◌, ◌++◌, length, take, drop, get_or, refl, ap, sym, ◌∙◌, inl, inr, arith, eq-zero-or-pos, eqb→eq, append_assoc, length-append, decimal, codes, take_at, drop_at}
 use Rattle.std.proofs.lemmas.List.{drop-drop, drop-take, length-drop, length-take-le, take-append-drop, take-take}
+use Rattle.std.proofs.Math.Seq.{take-append-add}
 use Rattle.std.proofs.lemmas.Fmt.{length-decimal-le}
 use lib.Ieee.Fits.{and_l, and_r}
 use Rattle.itoa.proofs.Decimal.{decimal_four, pair}
 use Rattle.fixed_num.specs.Print.{decimals_text, unsigned_milli_text}
 use Rattle.fixed_num.proofs.PrintLemmas as print
+use Rattle.render_json.specs.Json.{no_text, time_tail}
 use Rattle.render_json.specs.declared.backward.TheConstants.{PAIRS}
 
 -- ---- two digits
@@ -72,21 +74,49 @@ new_end xs ys head tail last at end same written is long =
 -- ---- the time of a point
 
 -- the last four digits and what stands behind them
-abbrev pub last_of : ℕ → List ℕ
-last_of digits = pair (digits / 100) ++ (pair (digits % 100) ++ codes "]")
+abbrev pub last_of : ℕ → List ℕ → List ℕ
+last_of digits behind = pair (digits / 100) ++ (pair (digits % 100) ++ (codes "]" ++ behind))
 
-time_of : (n : ℕ) → 10000 ≤ n → n < 2 ^ 64 → codes ", " ++ (decimal n ++ codes "]") ≡ (codes ", " ++ decimal (n / 10000)) ++ last_of (n % 10000)
-time_of n lo hi =
-    ap (λ l. codes ", " ++ (l ++ codes "]")) (decimal_four n lo hi)
-    ∙ (ap (λ l. codes ", " ++ l) (append_assoc (decimal (n / 10000)) (pair (n % 10000 / 100) ++ pair (n % 10000 % 100)) (codes "]"))
-    ∙ sym (append_assoc (codes ", ") (decimal (n / 10000)) (last_of (n % 10000))))
+time_of : (n : ℕ) (behind : List ℕ) → 10000 ≤ n → n < 2 ^ 64 → time_tail n behind ≡ (codes ", " ++ decimal (n / 10000)) ++ last_of (n % 10000) behind
+time_of n behind lo hi =
+    ap (λ l. codes ", " ++ (l ++ (codes "]" ++ behind))) (decimal_four n lo hi)
+    ∙ (ap (λ l. codes ", " ++ l) (append_assoc (decimal (n / 10000)) (pair (n % 10000 / 100) ++ pair (n % 10000 % 100)) (codes "]" ++ behind))
+    ∙ sym (append_assoc (codes ", ") (decimal (n / 10000)) (last_of (n % 10000) behind)))
 
-pub next_time : (xs ys : List ℕ) (at time next : ℕ) → length xs ≡ 48 → at ≤ 48 → time < 2 ^ 64 → next < 2 ^ 64 → 10000 ≤ next → next / 10000 ≡ time / 10000
-    → take 43 ys ≡ take 43 xs → drop 43 ys ≡ last_of (next % 10000) → drop at xs ≡ codes ", " ++ (decimal time ++ codes "]") → drop at ys ≡ codes ", " ++ (decimal next ++ codes "]")
-next_time xs ys at time next long within small below some same before written is =
+pub next_time : (xs ys behind : List ℕ) (at time next : ℕ) → length xs ≡ 96 → length behind ≡ 48 → at ≤ 48 → time < 2 ^ 64 → next < 2 ^ 64 → 10000 ≤ next → next / 10000 ≡ time / 10000
+    → take 43 ys ≡ take 43 xs → drop 43 ys ≡ last_of (next % 10000) behind → drop at xs ≡ time_tail time behind → drop at ys ≡ time_tail next behind
+next_time xs ys behind at time next long far within small below some same before written is =
     let head = codes ", " ++ decimal (time / 10000) in
-    let old : drop at xs ≡ head ++ last_of (time % 10000) = is ∙ time_of time (omega (arith, some, same)) small in
-    let count : length (drop at xs) ≡ length head + 5 = ap length old ∙ length-append head (last_of (time % 10000)) in
-    let ends : at + length head ≡ 43 = omega (arith, count, length-drop at xs, long, within) in
-    new_end xs ys head (last_of (time % 10000)) (last_of (next % 10000)) at 43 before written old ends
-    ∙ (ap (λ n. (codes ", " ++ decimal n) ++ last_of (next % 10000)) (sym same) ∙ sym (time_of next some below))
+    let old : drop at xs ≡ head ++ last_of (time % 10000) behind = is ∙ time_of time behind (omega (arith, some, same)) small in
+    let count : length (drop at xs) ≡ length head + length (last_of (time % 10000) behind) = ap length old ∙ length-append head (last_of (time % 10000) behind) in
+    let ends : at + length head ≡ 43 = omega (arith, count, length-drop at xs, long, far, within) in
+    new_end xs ys head (last_of (time % 10000) behind) (last_of (next % 10000) behind) at 43 before written old ends
+    ∙ (ap (λ n. (codes ", " ++ decimal n) ++ last_of (next % 10000) behind) (sym same) ∙ sym (time_of next behind some below))
+
+pub no_text_long : length no_text ≡ 48
+unfolding no_text
+no_text_long = refl
+
+-- bytes that are appended and in part taken back
+pub cut_back : (out xs : List ℕ) (n k len : ℕ) → len ≡ length out → n ≤ k → take (len + n) (out ++ take k xs) ≡ out ++ take n xs
+cut_back out xs n k len long few = rw long (take-append-add out (take k xs) n ∙ ap (λ l. out ++ l) (take-take n k xs few))
+
+-- what stands behind a point
+pub behind_time : (xs behind : List ℕ) (at time : ℕ) → length xs ≡ 96 → length behind ≡ 48 → at ≤ 48 → drop at xs ≡ time_tail time behind → drop 48 xs ≡ behind
+behind_time xs behind at time long far within is =
+    let piece = codes ", " ++ (decimal time ++ codes "]") in
+    let whole : drop at xs ≡ piece ++ behind = is ∙ ap (λ l. codes ", " ++ l) (sym (append_assoc (decimal time) (codes "]") behind)) in
+    let count : length (drop at xs) ≡ length piece + length behind = ap length whole ∙ length-append piece behind in
+    kept_behind xs behind piece at 48 whole (omega (arith, count, length-drop at xs, long, far, within))
+
+-- a point is what stands before the middle
+pub point_before : (xs sep value behind : List ℕ) (time from : ℕ) → length xs ≡ 96 → length behind ≡ 48 → from ≤ 48 → drop from xs ≡ sep ++ (codes "[" ++ (value ++ time_tail time behind))
+    → take (48 - from) (drop from xs) ≡ sep ++ (codes "[" ++ (value ++ (codes ", " ++ (decimal time ++ codes "]"))))
+point_before xs sep value behind time from long far within is =
+    let point = sep ++ (codes "[" ++ (value ++ (codes ", " ++ (decimal time ++ codes "]")))) in
+    let whole : drop from xs ≡ point ++ behind =
+    is ∙ sym (append_assoc sep (codes "[" ++ (value ++ (codes ", " ++ (decimal time ++ codes "]")))) behind
+    ∙ (ap (λ l. sep ++ (codes "[" ++ l)) (append_assoc value (codes ", " ++ (decimal time ++ codes "]")) behind)
+    ∙ ap (λ l. sep ++ (codes "[" ++ (value ++ (codes ", " ++ l)))) (append_assoc (decimal time) (codes "]") behind))) in
+    let count : length (drop from xs) ≡ length point + length behind = ap length whole ∙ length-append point behind in
+    ap (take (48 - from)) whole ∙ take_at point behind (48 - from) (omega (arith, count, length-drop from xs, long, far, within))

@@ -1,5 +1,5 @@
 -- Series in the JSON of Graphite's render API.
-use Rattle.std.specs.Prelude.{ℕ, ℤ, List, ◌++◌, map, codes, decimal, Option}
+use Rattle.std.specs.Prelude.{ℕ, ℤ, List, ◌++◌, map, codes, decimal, replicate, Option}
 use Rattle.json.specs.Print.{quoted}
 use Rattle.series_set.specs.Series.{SeriesValue}
 use Rattle.render_json.specs.Values.{joined, points_of, value_or}
@@ -16,6 +16,14 @@ datapoints_text = codes ", \"datapoints\": ["
 -- `[value, time]`, `null` where the value is missing
 abbrev pub point_text : ℕ × Option ℤ → List ℕ
 point_text point = codes "[" ++ (value_or null_text point.1 ++ (codes ", " ++ (decimal point.0 ++ codes "]")))
+
+-- what a point has behind its value, and what stands behind the point
+abbrev pub time_tail : ℕ → List ℕ → List ℕ
+time_tail time behind = codes ", " ++ (decimal time ++ (codes "]" ++ behind))
+
+-- what stands in memory behind a point that is written there
+unfoldable pub no_text : List ℕ
+no_text = replicate 48 0
 
 abbrev pub points_text : SeriesValue → List ℕ
 points_text s = joined (codes ", ") (map point_text (points_of s))

@@ -108,9 +108,9 @@ fn put_first(text: &mut [u8], end: usize, n: u64) -> usize
     put_pair(text, end, n)
 }
 
-// Writes two digits so that they end at `end`, and answers where they start.
+/// Writes two digits so that they end at `end`, and answers where they start.
 #[inline(always)]
-fn put_pair(text: &mut [u8], end: usize, pair: u64) -> usize
+pub(crate) fn put_pair(text: &mut [u8], end: usize, pair: u64) -> usize
     requires short { pair < 100 }
     requires room { 2 ≤ end }
     requires within { end ≤ length text.old }

@@ -1,12 +1,13 @@
 //! The comma-separated values of series.
-ghost use Rattle.std.specs.Prelude.{◌≡◌, ◌++◌, ◌≤◌, ◌<◌, All, IfOk, OnOk, flat_map};
-ghost use Rattle.render_json.specs.Csv.{clock_text, csv_of, date_number, date_text, doubled, field_text, in_quotes, latest_csv_end, line_text, point_fields, series_csv, time_text, two_digits};
+ghost use Rattle.std.specs.Prelude.{◌≡◌, ◌+◌, ◌*◌, ◌/◌, ◌++◌, ◌≤◌, ◌<◌, All, IfOk, OnOk, drop, flat_map, length};
+ghost use Rattle.render_json.specs.Csv.{clock_text, csv_of, date_number, date_text, doubled, field_text, in_quotes, latest_csv_end, line_text, point_fields, series_csv};
 ghost use Rattle.std.specs.List.{list_any};
 ghost use Rattle.render_json.specs.Csv.{needs_quotes};
 ghost use Rattle.render_json.specs.Values.{points_of};
 ghost use Rattle.series_set.specs.Series.{end_of};
 
-use crate::parts::{VALUE_ROOM, push_value};
+use crate::backward::{put, put_pair};
+use crate::parts::{VALUE_ROOM, put_value_or};
 use fixed_num::Milli;
 use jiff_core::civil::Date;
 use series_set::{Series, SeriesSet};
@@ -14,6 +15,9 @@ use std::alloc::{AllocError, Global};
 
 /// The latest end of series that have a text of comma-separated values, in seconds since the Unix epoch.
 pub const LATEST_CSV_END: u64 = 253_402_207_200;
+
+// The most bytes of a line behind the name.
+const FIELDS_ROOM: usize = 44;
 
 /// Series as comma-separated values: for each value a line `name,YYYY-MM-DD HH:MM:SS,value`, ended by CR and LF,
 /// with the time at UTC and nothing for a missing value. A name with a comma, a double quote, a CR
@@ -114,48 +118,79 @@ fn push_lines(out: &mut Vec<u8>, field: &[u8], series: &Series) -> Result<(), Al
     ensures { OnOk result (out.new.items ≡ out.old.items
         ++ flat_map (line_text field.now) (points_of series.now)) }
 {
+    let mut text = [0; FIELDS_ROOM];
     let mut time = series.start();
+    let mut date = DayDate {
+        day: 0,
+        number: date_number(0),
+    };
     for value in series.values() {
-        push_line(out, field, time, *value)?;
+        date = date_of(date, (time / 86_400) as u32);
+        push_line(out, &mut text, field, date.number, time, *value)?;
         time += series.step();
     }
     Ok(())
 }
 
+// Appends a line for a time whose date is this number.
 fn push_line(
     out: &mut Vec<u8>,
+    text: &mut [u8; FIELDS_ROOM],
     field: &[u8],
+    date: u32,
     time: u64,
     value: Option<Milli>,
 ) -> Result<(), AllocError>
-    requires { time ≤ latest_csv_end }
+    requires date { date ≡ date_number (time / 86400) }
+    requires short { date < 100000000 }
     ensures { OnOk result (out.new.items ≡ out.old.items ++ line_text field.now (time, value)) }
 {
+    let from = put_fields(text, date, time, value);
     out.extend_from_slice(field)?;
-    push_fields(out, time, value)
+    out.extend_from_slice(&text[from..])
 }
 
-// What a line has behind the name.
-#[tactic(auto, unfolding(crate::specs::Csv::point_fields))]
-fn push_fields(out: &mut Vec<u8>, time: u64, value: Option<Milli>) -> Result<(), AllocError>
-    requires { time ≤ latest_csv_end }
-    ensures { OnOk result (out.new.items ≡ out.old.items ++ point_fields (time, value)) }
+// Writes what a line has behind the name so that the text ends with it, and answers where it starts.
+#[inline(always)]
+#[tactic(auto, unfolding(crate::specs::Csv::point_fields, crate::specs::Csv::time_text))]
+fn put_fields(text: &mut [u8; FIELDS_ROOM], date: u32, time: u64, value: Option<Milli>) -> usize
+    requires date { date ≡ date_number (time / 86400) }
+    requires short { date < 100000000 }
+    ensures within { result ≤ FIELDS_ROOM }
+    ensures written { drop result text.new ≡ point_fields (time, value) }
 {
-    out.push(b',')?;
-    push_time(out, time)?;
-    out.push(b',')?;
-    push_value(out, b"", value)?;
-    out.extend_from_slice(b"\r\n")
+    let at = put(text, FIELDS_ROOM, b"\r\n");
+    let at = put_value_or(text, at, b"", value);
+    let at = put(text, at, b",");
+    let at = put_clock(text, at, time % 86_400);
+    let at = put(text, at, b" ");
+    let at = put_date(text, at, date);
+    put(text, at, b",")
 }
 
-#[tactic(auto, unfolding(crate::specs::Csv::time_text))]
-fn push_time(out: &mut Vec<u8>, time: u64) -> Result<(), AllocError>
-    requires { time ≤ latest_csv_end }
-    ensures { OnOk result (out.new.items ≡ out.old.items ++ time_text time) }
+// A day, counted from 1 January 1970 on, and its date as the number YYYYMMDD.
+#[derive(Clone, Copy)]
+struct DayDate {
+    day: u32,
+    number: u32,
+}
+
+// The date of a day, which mostly is that of the point before.
+#[inline(always)]
+fn date_of(known: DayDate, day: u32) -> DayDate
+    requires known { known.number ≡ date_number known.day }
+    requires early { (known.number < 100000000) × (day ≤ 2932896) }
+    ensures known { result.number ≡ date_number result.day }
+    ensures value { result.number ≡ date_number day }
+    ensures short { result.number < 100000000 }
 {
-    push_date(out, date_number((time / 86_400) as u32))?;
-    out.push(b' ')?;
-    push_clock(out, (time % 86_400) as u32)
+    if day == known.day {
+        return known;
+    }
+    DayDate {
+        day,
+        number: date_number(day),
+    }
 }
 
 // The date so many days behind 1 January 1970, as the number YYYYMMDD.
@@ -170,35 +205,35 @@ fn date_number(days: u32) -> u32
     u32::from(date.year.unsigned_abs()) * 10_000 + u32::from(date.month) * 100 + u32::from(date.day)
 }
 
-fn push_date(out: &mut Vec<u8>, number: u32) -> Result<(), AllocError>
-    requires { number < 100000000 }
-    ensures { OnOk result (out.new.items ≡ out.old.items ++ date_text number) }
+// Writes a date so that it ends at `end`, and answers where it starts.
+#[inline(always)]
+fn put_date(text: &mut [u8], end: usize, number: u32) -> usize
+    requires number { number < 100000000 }
+    requires room { 10 ≤ end }
+    requires within { end ≤ length text.old }
+    ensures start { result + 10 ≡ end }
+    ensures written { drop result text.new ≡ date_text number ++ drop end text.old }
 {
-    push_two(out, number / 1_000_000)?;
-    push_two(out, number / 10_000 % 100)?;
-    out.push(b'-')?;
-    push_two(out, number / 100 % 100)?;
-    out.push(b'-')?;
-    push_two(out, number % 100)
+    let at = put_pair(text, end, u64::from(number % 100));
+    let at = put(text, at, b"-");
+    let at = put_pair(text, at, u64::from(number / 100 % 100));
+    let at = put(text, at, b"-");
+    let at = put_pair(text, at, u64::from(number / 10_000 % 100));
+    put_pair(text, at, u64::from(number / 1_000_000))
 }
 
-// The time of a second of a day.
-fn push_clock(out: &mut Vec<u8>, second: u32) -> Result<(), AllocError>
-    requires { second < 86400 }
-    ensures { OnOk result (out.new.items ≡ out.old.items ++ clock_text second) }
+// Writes the time of a second of a day so that it ends at `end`, and answers where it starts.
+#[inline(always)]
+fn put_clock(text: &mut [u8], end: usize, second: u64) -> usize
+    requires second { second < 86400 }
+    requires room { 8 ≤ end }
+    requires within { end ≤ length text.old }
+    ensures start { result + 8 ≡ end }
+    ensures written { drop result text.new ≡ clock_text second ++ drop end text.old }
 {
-    push_two(out, second / 3_600)?;
-    out.push(b':')?;
-    push_two(out, second / 60 % 60)?;
-    out.push(b':')?;
-    push_two(out, second % 60)
-}
-
-fn push_two(out: &mut Vec<u8>, number: u32) -> Result<(), AllocError>
-    requires { number < 100 }
-    ensures { OnOk result (out.new.items ≡ out.old.items ++ two_digits number) }
-{
-    let tens = (number / 10) as u8;
-    let ones = (number % 10) as u8;
-    out.extend_from_slice(&[b'0' + tens, b'0' + ones])
+    let at = put_pair(text, end, second % 60);
+    let at = put(text, at, b":");
+    let at = put_pair(text, at, second / 60 % 60);
+    let at = put(text, at, b":");
+    put_pair(text, at, second / 3_600)
 }

@@ -1,11 +1,11 @@
 //! The JSON of series.
-ghost use Rattle.std.specs.Prelude.{◌≡◌, ◌+◌, ◌/◌, ◌%◌, ◌<◌, ◌≤◌, ◌∷◌, ◌++◌, IfOk, OnOk, codes, decimal, drop, length, map, take};
+ghost use Rattle.std.specs.Prelude.{◌≡◌, ◌+◌, ◌-◌, ◌/◌, ◌%◌, ◌<◌, ◌≤◌, ◌∷◌, ◌++◌, IfOk, OnOk, codes, drop, length, map, take};
 ghost use Rattle.json.specs.Print.{quoted};
-ghost use Rattle.render_json.specs.Json.{datapoints_text, json_of, null_text, point_text, points_text, series_json, target_text};
+ghost use Rattle.render_json.specs.Json.{datapoints_text, json_of, null_text, point_text, points_text, no_text, series_json, target_text, time_tail};
 ghost use Rattle.render_json.specs.Values.{joined, separator, value_or};
 
-use crate::backward::{put, put_number, put_value, set_pair};
-use crate::parts::{NUMBER_ROOM, VALUE_ROOM, push_separator};
+use crate::backward::{put, put_number, set_pair};
+use crate::parts::{NUMBER_ROOM, VALUE_ROOM, push_separator, put_value_or};
 use fixed_num::Milli;
 use serde_json::Value;
 use series_set::{Series, SeriesSet};
@@ -13,6 +13,9 @@ use std::alloc::{AllocError, Global};
 
 // The most bytes of a point with the separator before it.
 const POINT_ROOM: usize = 48;
+
+// A point's text ends in the middle, so that as many bytes can be copied from wherever it starts.
+const TEXT_ROOM: usize = 96;
 
 /// Series as JSON: a list of objects with the `target`, which is the series' name, and the `datapoints`,
 /// each `[value, time]` with `null` for a missing value and the time in seconds since the Unix epoch.
@@ -40,7 +43,7 @@ fn room_of(set: &[Series]) -> usize {
 fn series_room(series: &Series) -> usize {
     let name = series.name().len().saturating_mul(6);
     let points = series.values().len() * (VALUE_ROOM + NUMBER_ROOM + 6);
-    name.saturating_add(points + 33)
+    name.saturating_add(points + 33 + POINT_ROOM)
 }
 
 // The series with `, ` between each two.
@@ -93,7 +96,7 @@ fn push_datapoints(out: &mut Vec<u8>) -> Result<(), AllocError>
 fn push_points(out: &mut Vec<u8>, series: &Series) -> Result<(), AllocError>
     ensures { OnOk result (out.new.items ≡ out.old.items ++ points_text series.now) }
 {
-    let mut text = [0; POINT_ROOM];
+    let mut text = empty_text();
     let mut is_first = true;
     let mut time = series.start();
     let mut end = put_time(&mut text, time);
@@ -111,43 +114,64 @@ fn push_points(out: &mut Vec<u8>, series: &Series) -> Result<(), AllocError>
 #[inline(always)]
 fn push_point(
     out: &mut Vec<u8>,
-    text: &mut [u8; POINT_ROOM],
+    text: &mut [u8; TEXT_ROOM],
     end: usize,
     time: u64,
     value: Option<Milli>,
     is_first: bool,
 ) -> Result<(), AllocError>
     requires room { (25 ≤ end) × (end ≤ POINT_ROOM) }
-    requires is { drop end text.old ≡ codes ", " ++ (decimal time ++ codes "]") }
+    requires is { drop end text.old ≡ time_tail time no_text }
     ensures pushed { OnOk result
         (out.new.items ≡ out.old.items ++ (separator (codes ", ") is_first ++ point_text (time, value))) }
-    ensures kept { drop end text.new ≡ codes ", " ++ (decimal time ++ codes "]") }
+    ensures kept { drop end text.new ≡ drop end text.old }
 {
     // The time is an argument for the contract alone.
     let _ = time;
     let at = put_known(text, end, value);
     let at = put(text, at, b"[");
     let from = put_separator(text, at, is_first);
-    out.extend_from_slice(&text[from..])
+    push_from(out, text, from)
+}
+
+// A text without a point.
+#[inline(always)]
+#[tactic(auto, unfolding(crate::specs::Json::no_text))]
+fn empty_text() -> [u8; TEXT_ROOM]
+    ensures { drop POINT_ROOM result ≡ no_text }
+{
+    [0; TEXT_ROOM]
+}
+
+// Appends what stands from a place on and before the middle. It is cheaper to copy always as many bytes and to take
+// back those behind the middle.
+#[inline(always)]
+#[tactic(auto, using(crate::proofs::BackwardLemmas::cut_back))]
+fn push_from(out: &mut Vec<u8>, text: &[u8; TEXT_ROOM], from: usize) -> Result<(), AllocError>
+    requires { from ≤ POINT_ROOM }
+    ensures { OnOk result (out.new.items
+        ≡ out.old.items ++ take (POINT_ROOM - from) (drop from text.now)) }
+{
+    let end = out.len() + (POINT_ROOM - from);
+    out.extend_from_slice(&text[from..from + POINT_ROOM])?;
+    out.truncate(end);
+    Ok(())
 }
 
 #[inline(always)]
 #[tactic(auto, unfolding(crate::specs::Json::null_text))]
-fn put_known(text: &mut [u8; POINT_ROOM], end: usize, value: Option<Milli>) -> usize
+fn put_known(text: &mut [u8; TEXT_ROOM], end: usize, value: Option<Milli>) -> usize
     requires room { (25 ≤ end) × (end ≤ POINT_ROOM) }
     ensures start { result + length (value_or null_text value) ≡ end }
     ensures short { length (value_or null_text value) ≤ 21 }
     ensures written { drop result text.new ≡ value_or null_text value ++ drop end text.old }
 {
-    let Some(value) = value else {
-        return put(text, end, b"null");
-    };
-    put_value(text, end, value)
+    put_value_or(text, end, b"null", value)
 }
 
 // Writes the separator, but not before the first point.
 #[inline(always)]
-fn put_separator(text: &mut [u8; POINT_ROOM], end: usize, is_first: bool) -> usize
+fn put_separator(text: &mut [u8; TEXT_ROOM], end: usize, is_first: bool) -> usize
     requires room { (2 ≤ end) × (end ≤ POINT_ROOM) }
     ensures start { result + length (separator (codes ", ") is_first) ≡ end }
     ensures written { drop result text.new ≡ separator (codes ", ") is_first ++ drop end text.old }
@@ -160,9 +184,10 @@ fn put_separator(text: &mut [u8; POINT_ROOM], end: usize, is_first: bool) -> usi
 
 // Writes what a point has behind its value, and answers where it starts.
 #[tactic(auto, using(crate::proofs::BackwardLemmas::number_short))]
-fn put_time(text: &mut [u8; POINT_ROOM], time: u64) -> usize
+fn put_time(text: &mut [u8; TEXT_ROOM], time: u64) -> usize
+    requires { drop POINT_ROOM text.old ≡ no_text }
     ensures room { (25 ≤ result) × (result ≤ POINT_ROOM) }
-    ensures written { drop result text.new ≡ codes ", " ++ (decimal time ++ codes "]") }
+    ensures written { drop result text.new ≡ time_tail time no_text }
 {
     let at = put(text, POINT_ROOM, b"]");
     let at = put_number(text, at, time);
@@ -171,11 +196,11 @@ fn put_time(text: &mut [u8; POINT_ROOM], time: u64) -> usize
 
 // The same where the text has it for another time, of which mostly the last four digits alone are other.
 #[inline(always)]
-fn put_next_time(text: &mut [u8; POINT_ROOM], end: usize, time: u64, next: u64) -> usize
+fn put_next_time(text: &mut [u8; TEXT_ROOM], end: usize, time: u64, next: u64) -> usize
     requires room { (25 ≤ end) × (end ≤ POINT_ROOM) }
-    requires is { drop end text.old ≡ codes ", " ++ (decimal time ++ codes "]") }
+    requires is { drop end text.old ≡ time_tail time no_text }
     ensures room { (25 ≤ result) × (result ≤ POINT_ROOM) }
-    ensures written { drop result text.new ≡ codes ", " ++ (decimal next ++ codes "]") }
+    ensures written { drop result text.new ≡ time_tail next no_text }
 {
     if next < 10_000 {
         return put_time(text, next);
@@ -189,11 +214,11 @@ fn put_next_time(text: &mut [u8; POINT_ROOM], end: usize, time: u64, next: u64) 
 
 // Writes the last four digits of a time and what stands behind them.
 #[inline(always)]
-fn put_last_digits(text: &mut [u8; POINT_ROOM], digits: u64)
+fn put_last_digits(text: &mut [u8; TEXT_ROOM], digits: u64)
     requires { digits < 10000 }
     ensures before { take 43 text.new ≡ take 43 text.old }
     ensures written { drop 43 text.new ≡ (48 + digits / 100 / 10) ∷ (48 + digits / 100 % 10)
-        ∷ (48 + digits % 100 / 10) ∷ (48 + digits % 100 % 10) ∷ codes "]" }
+        ∷ (48 + digits % 100 / 10) ∷ (48 + digits % 100 % 10) ∷ 93 ∷ drop POINT_ROOM text.old }
 {
     text[47] = b']';
     set_pair(text, 45, digits % 100);

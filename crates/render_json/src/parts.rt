@@ -1,8 +1,9 @@
 //! What the texts are made of.
-ghost use Rattle.std.specs.Prelude.{◌≡◌, ◌++◌, OnOk, decimal};
+ghost use Rattle.std.specs.Prelude.{◌≡◌, ◌+◌, ◌≤◌, ◌++◌, OnOk, decimal, drop, length};
 ghost use Rattle.render_json.specs.Values.{separator, value_or};
 
-use fixed_num::{MILLI_TEXT, Milli, print_milli};
+use crate::backward::{put, put_value};
+use fixed_num::Milli;
 use itoa::Buffer;
 use std::alloc::AllocError;
 
@@ -11,20 +12,20 @@ pub(crate) const VALUE_ROOM: usize = 21;
 
 pub(crate) const NUMBER_ROOM: usize = 20;
 
-/// Appends a value, or the word for a missing one.
-pub(crate) fn push_value(
-    out: &mut Vec<u8>,
-    word: &[u8],
-    value: Option<Milli>,
-) -> Result<(), AllocError>
-    ensures { OnOk result (out.new.items ≡ out.old.items ++ value_or word.now value) }
+/// Writes a value, or the word for a missing one, so that it ends at `end`, and answers where it starts.
+#[inline(always)]
+pub(crate) fn put_value_or(text: &mut [u8], end: usize, word: &[u8], value: Option<Milli>) -> usize
+    requires room { 21 ≤ end }
+    requires within { end ≤ length text.old }
+    requires word { length word.now ≤ 21 }
+    ensures start { result + length (value_or word.now value) ≡ end }
+    ensures short { length (value_or word.now value) ≤ 21 }
+    ensures written { drop result text.new ≡ value_or word.now value ++ drop end text.old }
 {
     let Some(value) = value else {
-        return out.extend_from_slice(word);
+        return put(text, end, word);
     };
-    let mut text = [0; MILLI_TEXT];
-    let length = print_milli(value, &mut text);
-    out.extend_from_slice(&text[..length])
+    put_value(text, end, value)
 }
 
 /// Appends a number.

@@ -1,12 +1,16 @@
 //! The raw text of series.
-ghost use Rattle.std.specs.Prelude.{◌≡◌, ◌++◌, IfOk, OnOk, flat_map};
-ghost use Rattle.render_json.specs.Values.{value_or};
+ghost use Rattle.std.specs.Prelude.{◌≡◌, ◌+◌, ◌≤◌, ◌++◌, IfOk, OnOk, codes, drop, flat_map, length};
+ghost use Rattle.render_json.specs.Values.{separator, value_or};
 ghost use Rattle.render_json.specs.Raw.{head_text, none_text, number_text, raw_of, series_raw, values_text};
 
-use crate::parts::{NUMBER_ROOM, VALUE_ROOM, push_number, push_separator, push_value};
+use crate::backward::put;
+use crate::parts::{NUMBER_ROOM, VALUE_ROOM, push_number, put_value_or};
 use fixed_num::Milli;
 use series_set::{Series, SeriesSet};
 use std::alloc::{AllocError, Global};
+
+// The most bytes of a value with the separator before it.
+const ITEM_ROOM: usize = 22;
 
 /// Series in the raw form: for each a line `name,start,end,step|value,value`, ended by LF, with `None`
 /// for a missing value. The start and the end are seconds since the Unix epoch, the end a step behind
@@ -71,18 +75,51 @@ fn push_next(out: &mut Vec<u8>, number: u64) -> Result<(), AllocError>
 fn push_values(out: &mut Vec<u8>, series: &Series) -> Result<(), AllocError>
     ensures { OnOk result (out.new.items ≡ out.old.items ++ values_text series.now) }
 {
+    let mut text = [0; ITEM_ROOM];
     let mut is_first = true;
     for value in series.values() {
-        push_separator(out, b",", is_first)?;
+        push_item(out, &mut text, *value, is_first)?;
         is_first = false;
-        push_known(out, *value)?;
     }
     Ok(())
 }
 
-#[tactic(auto, unfolding(crate::specs::Raw::none_text))]
-fn push_known(out: &mut Vec<u8>, value: Option<Milli>) -> Result<(), AllocError>
-    ensures { OnOk result (out.new.items ≡ out.old.items ++ value_or none_text value) }
+// Appends a value with the separator before it, but not before the first.
+#[inline(always)]
+fn push_item(
+    out: &mut Vec<u8>,
+    text: &mut [u8; ITEM_ROOM],
+    value: Option<Milli>,
+    is_first: bool,
+) -> Result<(), AllocError>
+    ensures { OnOk result (out.new.items ≡ out.old.items
+        ++ (separator (codes ",") is_first ++ value_or none_text value)) }
 {
-    push_value(out, b"None", value)
+    let at = put_known(text, value);
+    let from = put_separator(text, at, is_first);
+    out.extend_from_slice(&text[from..])
+}
+
+// Writes the separator, but not before the first value.
+#[inline(always)]
+fn put_separator(text: &mut [u8; ITEM_ROOM], end: usize, is_first: bool) -> usize
+    requires room { (1 ≤ end) × (end ≤ ITEM_ROOM) }
+    ensures start { result + length (separator (codes ",") is_first) ≡ end }
+    ensures written { drop result text.new ≡ separator (codes ",") is_first ++ drop end text.old }
+{
+    if is_first {
+        return end;
+    }
+    put(text, end, b",")
+}
+
+// Writes a value so that the text ends with it, and answers where it starts.
+#[inline(always)]
+#[tactic(auto, unfolding(crate::specs::Raw::none_text))]
+fn put_known(text: &mut [u8; ITEM_ROOM], value: Option<Milli>) -> usize
+    ensures start { result + length (value_or none_text value) ≡ ITEM_ROOM }
+    ensures short { length (value_or none_text value) ≤ 21 }
+    ensures written { drop result text.new ≡ value_or none_text value }
+{
+    put_value_or(text, ITEM_ROOM, b"None", value)
 }

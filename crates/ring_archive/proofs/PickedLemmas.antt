@@ -1,5 +1,5 @@
 -- The values of many buckets, from the cells of their ring in memory.
-use Rattle.std.proofs.Common.{◌≡◌, ◌∙◌, ℕ, ℤ, ◌+◌, ◌*◌, ◌%◌, ◌<◌, ◌≤◌, ◌==◌, Bool, true, false, cond, List, length, map, min, Option, Some, None, refl, sym, ap, arith}
+use Rattle.std.proofs.Common.{◌≡◌, ◌∙◌, ℕ, ℤ, ◌+◌, ◌*◌, ◌%◌, ◌<◌, ◌≤◌, ◌==◌, Bool, true, false, cond, List, [], ◌∷◌, length, map, min, Option, Some, None, refl, sym, ap, arith}
 use Rattle.std.specs.Prelude.{slice_get, filter}
 use Rattle.std.specs.List.{range_with_len}
 use Rattle.std.proofs.Math.ListN.{replicate}
@@ -7,11 +7,11 @@ use Rattle.std.proofs.lemmas.Bool.Decides.{nat_tests}
 use Rattle.std.proofs.lemmas.Nat.{mod_below}
 use Rattle.std.proofs.Math.Nat.{add-mul-mod_self_right, add-mod-mod, mod-eq_of_lt, mod-le}
 use Rattle.ring_format.specs.declared.archive.Archive.{Archive}
-use Rattle.ring_format.specs.Patch.{PatchValue}
+use Rattle.ring_format.specs.Patch.{Cells, PatchValue}
 use Rattle.ring_format.specs.Slot.{slot_of}
 use Rattle.ring_archive.specs.declared.round.Round.{Round}
 use Rattle.ring_archive.specs.Ring.{is_bucket, is_laid, ring_cell, stale_slots, value_for, value_of, values_from}
-use Rattle.ring_archive.specs.Held.{HoldsSlots, cell_behind, picked_value, slot_behind}
+use Rattle.ring_archive.specs.Held.{HoldsSlots, cell_behind, held_value, picked_value, slot_behind}
 use Rattle.ring_archive.proofs.HeldLemmas.{cell_of_ring}
 use Rattle.ring_archive.proofs.RangeLists.{map_agrees, map_alike, filter_agrees}
 use Rattle.ring_archive.proofs.SlotLemmas.{slot_steps_on}
@@ -91,6 +91,16 @@ picked_all patch file i first count base archive round bytes values e step point
     let few : k % archive.points ≤ k = mod-le k archive.points in
     ap (λ (n : ℕ). cond (first + k * archive.step == 0) None (value_for (first + k * archive.step) (cell_behind patch.cells round bytes (k % n)))) same
     ∙ (picked_there patch file i first k base archive round bytes _ refl e step points whole some at is holds (omega arith))))
+
+-- without cells of a patch they are those in memory
+pub held_picked : (cells : Cells) (round : Round) (bytes : List ℕ) (first step count : ℕ) → length cells ≡ 0 → count ≤ round.points
+    → map (λ k. held_value bytes first step k) (range_with_len 0 count) ≡ map (λ k. picked_value cells round bytes first step k) (range_with_len 0 count)
+unfolding held_value picked_value cell_behind
+held_picked [] round bytes first step count none few =
+    map_agrees _ (λ k. picked_value [] round bytes first step k) 0 count (λ k _ below.
+    let straight : k % round.points ≡ k = mod-eq_of_lt (let less : k < round.points = omega arith in less) in
+    rw straight refl)
+held_picked (cell ∷ cells) round bytes first step count none few = absurd (omega (arith, none))
 
 -- the slots whose cell is not zero
 pub stale_there : (patch : PatchValue) (file : List ℕ) (i : ℕ) (archive : Archive) (round : Round) (bytes : List ℕ) (slots : List ℕ) → slice_get patch.layout.archives i ≡ Some archive

@@ -1,5 +1,5 @@
 -- The cells of a ring as they are held in memory: those of neighbouring slots, from one on and round the ring's end.
-use Rattle.std.specs.Prelude.{◌≡◌, ℕ, ℤ, pos, ◌+◌, ◌*◌, ◌%◌, ◌==◌, ◌≤◌, Bool, List, length, take, drop, filter, slice_get, unwrap_or, Option, None, IfSome, if◌then◌else◌}
+use Rattle.std.specs.Prelude.{◌≡◌, ℕ, ℤ, pos, ◌+◌, ◌*◌, ◌%◌, ◌==◌, ◌<◌, ◌≤◌, Bool, List, length, take, drop, filter, slice_get, unwrap_or, Option, None, IfSome, if◌then◌else◌}
 use Rattle.std.specs.List.{range_with_len}
 use Rattle.ring_format.specs.declared.archive.Archive.{Archive}
 use Rattle.ring_format.specs.Cell.{cell_of}
@@ -10,6 +10,12 @@ use Rattle.ring_archive.specs.Ring.{is_laid, stored_cell, value_for}
 -- the ring is that of an archive among these, and has the first slot
 abbrev pub IsRoundOf : List Archive → Round → Type 0
 IsRoundOf archives round = IfSome (slice_get archives round.archive) (λ archive. round.points ≡ archive.points)
+
+-- So many cells from the first slot on go round the ring of one of these archives, once at most.
+pub record GoesRound (archives : List Archive) (round : Round) (count : ℕ) : Type 0 where
+  pub ring : IsRoundOf archives round
+  pub slot : round.slot < round.points
+  pub once : count ≤ round.points
 
 -- the slot so many slots behind the first one, of a number that is less than the points
 abbrev pub slot_behind : Round → ℕ → ℕ
@@ -39,3 +45,8 @@ cell_behind cells round bytes place = unwrap_or (cell_at cells (round.archive, s
 unfoldable pub picked_value : Cells → Round → List ℕ → ℕ → ℕ → ℕ → Option ℤ
 picked_value cells round bytes first step k =
     if first + k * step == 0 then None else value_for (first + k * step) (cell_behind cells round bytes (k % round.points))
+
+-- the same where no cell of a patch is laid over those in memory and the ring is not gone round
+unfoldable pub held_value : List ℕ → ℕ → ℕ → ℕ → Option ℤ
+held_value bytes first step k =
+    if first + k * step == 0 then None else value_for (first + k * step) (held_cell bytes k)

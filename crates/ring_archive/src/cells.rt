@@ -4,10 +4,10 @@ ghost use Rattle.std.specs.List.{range_with_len};
 ghost use Rattle.outside_io.specs.Frames.{ReadsOnly};
 ghost use Rattle.ring_archive.specs.Ring.{FitsFrom, value_for, values_from};
 ghost use Rattle.ring_archive.specs.View.{IsThere, OnRing};
-ghost use Rattle.ring_archive.specs.Held.{cell_behind, picked_value};
+ghost use Rattle.ring_archive.specs.Held.{cell_behind, held_cell, held_value, picked_value};
 
 use crate::fault::RingFault;
-use crate::round::Round;
+use crate::round::{Round, held_cell};
 use crate::view::{RingView, value_for};
 use fixed_num::Milli;
 use outside_io::Disk;
@@ -64,8 +64,65 @@ fn no_values(alloc: Global, count: u32) -> Result<Vec<Option<Milli>>, AllocError
 }
 
 // The values of buckets from the first one on, of the cells in memory with the patch's laid over them.
-#[tactic(auto, unfolding(crate::specs::Held::picked_value), using(crate::proofs::RangeLists::map_more))]
 fn picked_values(
+    alloc: Global,
+    patch: &Patch,
+    round: Round,
+    bytes: &[u8],
+    first: u32,
+    step: u32,
+    count: u32,
+) -> Result<Vec<Option<Milli>>, AllocError>
+    requires slot { round.slot < round.points }
+    requires fits { first + count * step < 2 ^ 32 }
+    requires held { length bytes.now ≡ 12 * min count round.points }
+    ensures { IfOk result
+        (λ values. values.items ≡ map
+        (λ k. picked_value patch.now.cells round bytes.now first step k) (range_with_len 0 count)) }
+{
+    if patch.cell_count() == 0 && count <= round.points {
+        return held_values(alloc, bytes, first, step, count);
+    }
+    laid_values(alloc, patch, round, bytes, first, step, count)
+}
+
+// The same where the patch lays no cell and no more buckets are wanted than the ring has slots.
+#[tactic(auto, unfolding(crate::specs::Held::held_value), using(crate::proofs::RangeLists::map_more))]
+fn held_values(
+    alloc: Global,
+    bytes: &[u8],
+    first: u32,
+    step: u32,
+    count: u32,
+) -> Result<Vec<Option<Milli>>, AllocError>
+    requires fits { first + count * step < 2 ^ 32 }
+    requires held { length bytes.now ≡ 12 * count }
+    ensures { IfOk result (λ values. values.items
+        ≡ map (λ k. held_value bytes.now first step k) (range_with_len 0 count)) }
+{
+    let mut values = Vec::with_capacity(alloc, count as usize)?;
+    let mut bucket = first;
+    for k in 0..count {
+        values.push(held_value(bytes, bucket, k))?;
+        bucket += step;
+    }
+    Ok(values)
+}
+
+// The value of a bucket in the cell at a place of the memory.
+fn held_value(bytes: &[u8], bucket: u32, place: u32) -> Option<Milli>
+    requires held { 12 * place + 12 ≤ length bytes.now }
+    ensures { result ≡ (if bucket == 0 then None else value_for bucket (held_cell bytes.now place)) }
+{
+    if bucket == 0 {
+        return None;
+    }
+    value_for(bucket, held_cell(bytes, place as usize))
+}
+
+// The same where the patch lays cells over those in memory.
+#[tactic(auto, unfolding(crate::specs::Held::picked_value), using(crate::proofs::RangeLists::map_more))]
+fn laid_values(
     alloc: Global,
     patch: &Patch,
     round: Round,

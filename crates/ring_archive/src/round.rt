@@ -3,7 +3,7 @@ ghost use Rattle.std.specs.Prelude.{◌≡◌, ◌+◌, ◌*◌, ◌%◌, ◌<�
 ghost use Rattle.outside_io.specs.Frames.{ReadsOnly};
 ghost use Rattle.ring_archive.specs.Ring.{OnFile, cell_offset};
 ghost use Rattle.ring_archive.specs.View.{IsThere, OnRing};
-ghost use Rattle.ring_archive.specs.Held.{HoldsSlots, IsRoundOf, cell_behind, held_cell};
+ghost use Rattle.ring_archive.specs.Held.{GoesRound, HoldsSlots, IsRoundOf, cell_behind, held_cell};
 
 use crate::fault::RingFault;
 use crate::view::RingView;
@@ -35,9 +35,7 @@ impl RingView<'_> {
         count: u32,
     ) -> Result<Vec<u8>, RingFault>
         requires archive { round.archive < length self.now.layout.archives }
-        requires ring { IsRoundOf self.now.layout.archives round }
-        requires slot { round.slot < round.points }
-        requires count { count ≤ round.points }
+        requires round { GoesRound self.now.layout.archives round count }
         requires file { IsThere self.now fresh (D.image disk.old) }
         ensures length { IfOk result (λ bytes. length bytes.items ≡ 12 * count) }
         ensures cells { IfOk result

@@ -73,7 +73,7 @@ fn laid_slots(
 fn has_cells(patch: &Patch, archive: u32) -> bool
     ensures { result ≡ list_any (λ cell. cell.0.0 == archive) patch.now.cells }
 {
-    patch.cells().any(|(place, _)| place.0 == archive)
+    patch.cells().iter().any(|cell| cell.0.0 == archive)
 }
 
 // The same slots, each of which is looked up in the patch.

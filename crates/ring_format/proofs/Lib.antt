@@ -9,3 +9,4 @@ pub mod NumberLemmas
 pub mod WrittenHeads
 pub mod ReadHeads
 pub mod PatchLemmas
+pub mod CellOrder

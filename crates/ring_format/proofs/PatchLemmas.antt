@@ -1,6 +1,5 @@
 -- Lemmas on the cells of a patch.
-use Rattle.std.proofs.Common.{◌≡◌, ◌≢◌, ℕ, ℤ, Bool, true, false, ◌&&◌, cond, List, [], ◌∷◌, All, Some, None, refl, sym, ap, subst, ◌∙◌, is_le}
-use Rattle.std.specs.Prelude.{find, filter}
+use Rattle.std.proofs.Common.{◌≡◌, ◌≢◌, ℕ, ℤ, Bool, true, false, cond, [], ◌∷◌, All, Option, Some, None, IfSome, OnOk, OnErr, Result, Ok, Err, refl, sym, ap, subst, ◌∙◌, is_le}
 use Rattle.std.specs.BTreeMap.{is_at}
 use Rattle.std.specs.FinMap.{nat_cmp-IsAntisymmetric}
 use Rattle.std.specs.Map.{keys_of}
@@ -16,30 +15,6 @@ use Rattle.ring_format.specs.Patch.{Cells, IsPlace, first_cell_from, place_cmp, 
 pub keeps_places : (layout : LayoutValue) (cells later : Cells) (place : ℕ × ℕ) (cell : ℕ × ℤ) → later ≡ with_cell cells place cell → All (IsPlace layout) (keys_of cells) → IsPlace layout place
     → All (IsPlace layout) (keys_of later)
 keeps_places layout cells later place cell e all here = rw e (All-keys-insert_entry place_cmp place cell (IsPlace layout) cells all here)
-
--- the first that passes is the first of those that pass, also where the test has a second part that is true
-pub filtered_first : {X : Type 0} (test : X → Bool) (xs : List X) (y : X) (ys : List X) → filter (λ x. test x && true) xs ≡ y ∷ ys → find test xs ≡ Some y
-filtered_first test [] y ys e = absurd cc
-filtered_first {X = X} test (x ∷ xs) y ys e =
-    elim (test x) as (λ b. cond (b && true) (x ∷ filter (λ x. test x && true) xs) (filter (λ x. test x && true) xs) ≡ y ∷ ys → cond b (Some x) (find test xs) ≡ Some y) [
-      | true ↦ λ (f : x ∷ filter (λ x. test x && true) xs ≡ y ∷ ys). cc
-      | false ↦ λ f. filtered_first test xs y ys f
-    ] e
-
-pub filtered_none : {X : Type 0} (test : X → Bool) (xs : List X) → filter (λ x. test x && true) xs ≡ [] → find test xs ≡ None
-filtered_none test [] e = refl
-filtered_none test (x ∷ xs) e =
-    elim (test x) as (λ b. cond (b && true) (x ∷ filter (λ x. test x && true) xs) (filter (λ x. test x && true) xs) ≡ [] → cond b (Some x) (find test xs) ≡ None) [
-      | true ↦ λ (f : x ∷ filter (λ x. test x && true) xs ≡ []). absurd cc
-      | false ↦ λ f. filtered_none test xs f
-    ] e
-
--- the first cell from a place on, of the cells in a range that begins there
-pub first_in_range : (cells range rest : Cells) (place : ℕ × ℕ) (cell : (ℕ × ℕ) × (ℕ × ℤ)) → range ≡ filter (λ e. is_le (place_cmp place e.0) && true) cells → range ≡ cell ∷ rest → first_cell_from cells place ≡ Some cell
-first_in_range cells range rest place cell e f = filtered_first (λ (e : (ℕ × ℕ) × (ℕ × ℤ)). is_le (place_cmp place e.0)) cells cell rest (sym e ∙ f)
-
-pub none_in_range : (cells range : Cells) (place : ℕ × ℕ) → range ≡ filter (λ e. is_le (place_cmp place e.0) && true) cells → range ≡ [] → first_cell_from cells place ≡ None
-none_in_range cells range place e f = filtered_none (λ (e : (ℕ × ℕ) × (ℕ × ℤ)). is_le (place_cmp place e.0)) cells (sym e ∙ f)
 
 same_some : {X : Type 0} (x y : X) → Some x ≡ Some y → x ≡ y
 same_some x y e = cc
@@ -69,3 +44,13 @@ pub other_place : (place other : ℕ × ℕ) → other ≢ place → is_at (plac
 other_place place other differs = false_of (is_at (place_cmp place) other) (λ tied.
     let both = tied_then (nat_cmp place.0 other.0) (nat_cmp place.1 other.1) tied in
     differs (ap (λ (a : ℕ). (a, other.1)) (sym (nat_cmp-IsAntisymmetric place.0 other.0 both.0)) ∙ ap (λ (b : ℕ). (place.0, b)) (sym (nat_cmp-IsAntisymmetric place.1 other.1 both.1))))
+
+pub each_found : (layout : LayoutValue) (cells : Cells) (place : ℕ × ℕ) (found : Option ((ℕ × ℕ) × (ℕ × ℤ))) → All (IsPlace layout) (keys_of cells) → found ≡ first_cell_from cells place → IfSome found (λ cell. IsPlace layout cell.0)
+each_found layout cells place None all is = tt
+each_found layout cells place (Some cell) all is = found_place layout cells place cell all (sym is)
+
+-- a cell is laid, or the cells are as before
+pub keep_places : {T E : Type 0} (layout : LayoutValue) (cells later : Cells) (place : ℕ × ℕ) (cell : ℕ × ℤ) (end : Result T E) → OnOk end (later ≡ with_cell cells place cell) → OnErr end (later ≡ cells)
+    → All (IsPlace layout) (keys_of cells) → IsPlace layout place → All (IsPlace layout) (keys_of later)
+keep_places layout cells later place cell (Ok done) ok err all here = keeps_places layout cells later place cell ok all here
+keep_places layout cells later place cell (Err fault) ok err all here = rw err all

@@ -1,16 +1,14 @@
 //! Cells that are to be laid over a ring file.
-ghost use Rattle.std.specs.Prelude.{◌≡◌, ◌≢◌, ◌<◌, ◌^◌, ℕ, ℤ, [], All, IfSome, OnErr, OnOk, Some, length};
+ghost use Rattle.std.specs.Prelude.{◌≡◌, ◌≢◌, ◌<◌, ◌≤◌, ◌^◌, ◌↔◌, ℕ, [], All, IfErr, IfOk, IfSome, IsTrue, OnErr, OnOk, Some, drop, length};
 ghost use Rattle.std.specs.List.Sorted.{IsStrictlySortedBy};
 ghost use Rattle.std.specs.Map.{keys_of};
-ghost use Rattle.std.specs.Map.Iter.{ShowsInOrder, deref_pair};
-ghost use Rattle.ring_format.specs.Patch.{IsPlace, cell_at, first_cell_from, place_cmp, with_cell};
+ghost use Rattle.std.specs.Ordering.{is_gt};
+ghost use Rattle.ring_format.specs.Patch.{IsFreeAt, IsLaidAt, IsPlace, PutsAt, cell_at, cells_before, first_cell_from, place_cmp, with_cell};
 
 use crate::layout::Layout;
 use fixed_num::Milli;
 use metric_path::MetricPath;
 use std::alloc::{AllocError as NoMemory, Global};
-use std::collections::BTreeMap;
-use std::collections::btree_map::Iter;
 use std::marker::Model;
 
 /// A cell that is to be written: where it stands, and what it is to hold.
@@ -27,18 +25,21 @@ pub struct CellWrite {
 }
 
 /// The cells that are to be laid over one metric's file, and whether the file is to be created.
+///
+/// The cells stand in rising archive and slot, each under its place.
 #[derive(Drop)]
 pub struct Patch {
     path: MetricPath,
     layout: Layout,
     fresh: bool,
-    cells: BTreeMap<(u32, u32), (u32, Milli)>,
+    cells: Vec<((u32, u32), (u32, Milli))>,
 }
 
 impl Model for Patch {
     ghost use Rattle.std.specs.Prelude.{All};
+    ghost use Rattle.std.specs.List.Sorted.{IsStrictlySortedBy};
     ghost use Rattle.std.specs.Map.{keys_of};
-    ghost use Rattle.ring_format.specs.Patch.{IsPlace, PatchValue};
+    ghost use Rattle.ring_format.specs.Patch.{IsPlace, PatchValue, place_cmp};
 
     ghost Value = { PatchValue };
 
@@ -46,10 +47,11 @@ impl Model for Patch {
       path = a.path;
       layout = a.layout;
       fresh = a.fresh;
-      cells = a.cells.entries;
+      cells = a.cells.items;
     } };
 
-    ghost invariant = { λ a. All (IsPlace a.layout) (keys_of a.cells.entries) };
+    ghost invariant = { λ a. IsStrictlySortedBy place_cmp (keys_of a.cells.items)
+        × All (IsPlace a.layout) (keys_of a.cells.items) };
 }
 
 impl Patch {
@@ -58,7 +60,7 @@ impl Patch {
     pub fn new(alloc: Global, path: MetricPath, layout: Layout, fresh: bool) -> Patch
         ensures { result ≡ record { path = path; layout = layout; fresh = fresh; cells = [] } }
     {
-        let cells = BTreeMap::new(alloc);
+        let cells = Vec::new(alloc);
         Patch {
             path,
             layout,
@@ -82,27 +84,39 @@ impl Patch {
         ensures others { OnOk result ((place : ℕ × ℕ) → place ≢ (cell.archive, cell.slot)
             → cell_at self.new.cells place ≡ cell_at self.old.cells place) }
     {
-        self.cells
-            .insert((cell.archive, cell.slot), (cell.bucket, cell.value))?;
-        Ok(())
+        put_cell(
+            &mut self.cells,
+            (cell.archive, cell.slot),
+            (cell.bucket, cell.value),
+        )
     }
 
     /// The bucket and the value laid at a place, or `None` where no cell is.
     pub fn cell(&self, archive: u32, slot: u32) -> Option<(u32, Milli)>
         ensures { result ≡ cell_at self.now.cells (archive, slot) }
     {
-        self.cells.get(&(archive, slot)).copied()
+        cell_in(&self.cells, archive, slot)
     }
 
     /// The cells in rising archive and slot: each place, and then its bucket and value.
-    pub fn cells(&self) -> Iter<'_, (u32, u32), (u32, Milli)>
-        ensures rest { result ≡ self.now.cells }
-        ensures runs { ShowsInOrder (deref_pair {K = ℕ × ℕ} {X = ℕ × ℤ}) }
+    pub fn cells(&self) -> &[((u32, u32), (u32, Milli))]
+        ensures value { result.now ≡ self.now.cells }
         ensures rise { IsStrictlySortedBy place_cmp (keys_of self.now.cells) }
         ensures placed { All (IsPlace self.now.layout) (keys_of self.now.cells) }
         ensures fits { length self.now.cells < 2 ^ 63 }
     {
-        self.cells.iter()
+        self.cells.as_slice()
+    }
+
+    /// The cells at a place or behind it, in rising archive and slot: each place, and then its bucket and
+    /// value.
+    pub fn cells_from(&self, archive: u32, slot: u32) -> &[((u32, u32), (u32, Milli))]
+        ensures value { result.now ≡ drop (cells_before self.now.cells (archive, slot)) self.now.cells }
+        ensures rise { IsStrictlySortedBy place_cmp (keys_of self.now.cells) }
+        ensures placed { All (IsPlace self.now.layout) (keys_of self.now.cells) }
+    {
+        let before = cells_before(&self.cells, archive, slot);
+        &self.cells[before..]
     }
 
     /// The first cell at a place or behind it, in rising archive and slot: its place, and then its bucket
@@ -111,8 +125,7 @@ impl Patch {
         ensures value { result ≡ first_cell_from self.now.cells (archive, slot) }
         ensures placed { IfSome result (λ cell. IsPlace self.now.layout cell.0) }
     {
-        let (place, held) = self.cells.range((archive, slot)..).next()?;
-        Some((*place, *held))
+        first_from(&self.cells, archive, slot)
     }
 
     /// How many cells the patch has.
@@ -142,4 +155,101 @@ impl Patch {
     {
         self.layout
     }
+}
+
+// Puts a cell into cells of rising place, in place of one of the same place.
+fn put_cell(
+    cells: &mut Vec<((u32, u32), (u32, Milli))>,
+    place: (u32, u32),
+    held: (u32, Milli),
+) -> Result<(), NoMemory>
+    requires { IsStrictlySortedBy place_cmp (keys_of cells.old.items) }
+    ensures ok { OnOk result (cells.new.items ≡ with_cell cells.old.items place held) }
+    ensures err { OnErr result (cells.new.items ≡ cells.old.items) }
+    ensures rise { IsStrictlySortedBy place_cmp (keys_of cells.new.items) }
+{
+    match find(cells, place) {
+        Ok(at) => {
+            cells[at] = (place, held);
+            Ok(())
+        }
+        Err(at) => {
+            cells.insert(at, (place, held))?;
+            Ok(())
+        }
+    }
+}
+
+// Where the cell of a place stands, or else where it would.
+fn find(cells: &[((u32, u32), (u32, Milli))], place: (u32, u32)) -> Result<usize, usize>
+    requires { IsStrictlySortedBy place_cmp (keys_of cells.now) }
+    ensures there { IfOk result (IsLaidAt cells.now place) }
+    ensures absent { IfErr result (IsFreeAt cells.now place) }
+{
+    let at = cells_before(cells, place.0, place.1);
+    if at < cells.len() && stands_at(&cells[at], place.0, place.1) {
+        return Ok(at);
+    }
+    Err(at)
+}
+
+// The bucket and the value of a place's cell among cells of rising place.
+fn cell_in(cells: &[((u32, u32), (u32, Milli))], archive: u32, slot: u32) -> Option<(u32, Milli)>
+    requires { IsStrictlySortedBy place_cmp (keys_of cells.now) }
+    ensures { result ≡ cell_at cells.now (archive, slot) }
+{
+    let found = first_from(cells, archive, slot)?;
+    if stands_at(&found, archive, slot) {
+        return Some(found.1);
+    }
+    None
+}
+
+// The first of cells of rising place that stands at a place or behind it.
+fn first_from(
+    cells: &[((u32, u32), (u32, Milli))],
+    archive: u32,
+    slot: u32,
+) -> Option<((u32, u32), (u32, Milli))>
+    requires { IsStrictlySortedBy place_cmp (keys_of cells.now) }
+    ensures { result ≡ first_cell_from cells.now (archive, slot) }
+{
+    let at = cells_before(cells, archive, slot);
+    if at < cells.len() {
+        return Some(cells[at]);
+    }
+    None
+}
+
+// How many of these cells, in rising place, stand before a place. Mostly it is all of them.
+fn cells_before(cells: &[((u32, u32), (u32, Milli))], archive: u32, slot: u32) -> usize
+    requires { IsStrictlySortedBy place_cmp (keys_of cells.now) }
+    ensures value { result ≡ cells_before cells.now (archive, slot) }
+    ensures within { result ≤ length cells.now }
+    ensures puts { PutsAt cells.now (archive, slot) result }
+{
+    let count = cells.len();
+    if count == 0 {
+        return 0;
+    }
+    if stands_before(&cells[count - 1], archive, slot) {
+        return count;
+    }
+    cells.partition_point(|cell| stands_before(cell, archive, slot))
+}
+
+// Whether a cell stands before a place.
+fn stands_before(cell: &((u32, u32), (u32, Milli)), archive: u32, slot: u32) -> bool
+    ensures { result ≡ is_gt (place_cmp (archive, slot) cell.now.0) }
+{
+    let (found_archive, found_slot) = cell.0;
+    found_archive < archive || found_archive == archive && found_slot < slot
+}
+
+// Whether a cell stands at a place.
+fn stands_at(cell: &((u32, u32), (u32, Milli)), archive: u32, slot: u32) -> bool
+    ensures { IsTrue result ↔ cell.now.0 ≡ (archive, slot) }
+{
+    let (found_archive, found_slot) = cell.0;
+    found_archive == archive && found_slot == slot
 }

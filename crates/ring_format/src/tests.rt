@@ -243,8 +243,8 @@ fn a_patch_keeps_its_cells_in_order(rt: HostRuntime) -> Result<(), Fail> {
     assert_eq!(rt; patch.cell(0, 8), None);
     assert_eq!(rt; patch.cell_count(), 3);
     let places = [(0, 9), (1, 2), (1, 11)];
-    for ((place, _), want) in patch.cells().zip(&places) {
-        assert_eq!(rt; place, want);
+    for (cell, want) in patch.cells().iter().zip(&places) {
+        assert_eq!(rt; cell.0, *want);
     }
     assert_eq!(rt; patch.first_cell_from(0, 9), Some(((0, 9), (1140, -8))));
     assert_eq!(rt; patch.first_cell_from(0, 10), Some(((1, 2), (600, 1))));

@@ -2,7 +2,7 @@
 use Rattle.std.proofs.Crossing as own
 use denote.Param.Send.{IsSync, IsSend, sendable}
 use denote.Param.SendFields.{declared_sync, declared_send}
-use Rattle.name_pattern.proofs.Cross.{pattern-send, pattern-sync}
+use Rattle.name_pattern.proofs.Cross.{name_test-send, name_test-sync}
 use Rattle.schema_rules.specs.contracts.schema.Schema as Schema
 use Rattle.schema_rules.specs.contracts.schema.Schema.TheInside as SchemaInside
 use Rattle.schema_rules.specs.contracts.aggregation.Aggregation as Aggregation
@@ -13,18 +13,18 @@ use Rattle.schema_rules.specs.contracts.rules.Rules as Rules
 use Rattle.schema_rules.specs.contracts.rules.Rules.TheInside as RulesInside
 
 schema-send : IsSend Schema.the_row
-schema-send = let inside : IsSend SchemaInside.the_row = declared_send SchemaInside.the_type (pattern-send, (search (own.crosses, sendable) depth 30, tt)) in search (inside, sendable) depth 10
+schema-send = let inside : IsSend SchemaInside.the_row = declared_send SchemaInside.the_type (name_test-send, (search (own.crosses, sendable) depth 30, tt)) in search (inside, sendable) depth 10
 
 schema-sync : IsSync Schema.the_row
-schema-sync = let inside : IsSync SchemaInside.the_row = declared_sync SchemaInside.the_type (pattern-sync, (search (own.crosses, sendable) depth 30, tt)) in search (inside, sendable) depth 10
+schema-sync = let inside : IsSync SchemaInside.the_row = declared_sync SchemaInside.the_type (name_test-sync, (search (own.crosses, sendable) depth 30, tt)) in search (inside, sendable) depth 10
 
 aggregation-send : IsSend Aggregation.the_row
 aggregation-send =
-    let inside : IsSend AggregationInside.the_row = declared_send AggregationInside.the_type (pattern-send, (search sendable, (search (own.crosses, sendable) depth 30, tt))) in search (inside, sendable) depth 10
+    let inside : IsSend AggregationInside.the_row = declared_send AggregationInside.the_type (name_test-send, (search sendable, (search (own.crosses, sendable) depth 30, tt))) in search (inside, sendable) depth 10
 
 aggregation-sync : IsSync Aggregation.the_row
 aggregation-sync =
-    let inside : IsSync AggregationInside.the_row = declared_sync AggregationInside.the_type (pattern-sync, (search sendable, (search (own.crosses, sendable) depth 30, tt))) in search (inside, sendable) depth 10
+    let inside : IsSync AggregationInside.the_row = declared_sync AggregationInside.the_type (name_test-sync, (search sendable, (search (own.crosses, sendable) depth 30, tt))) in search (inside, sendable) depth 10
 
 lists-send : IsSend Lists.the_row
 lists-send =

@@ -8,7 +8,8 @@ use crate::fault::{RuleCause, Stop};
 use crate::schema::{DEFAULT_FACTOR, DEFAULT_METHOD, push_rule};
 use crate::section::Section;
 use fixed_num::read_millionths;
-use name_pattern::{Pattern, Search};
+use metric_path::MetricPath;
+use name_pattern::{NameTest, Search};
 use ring_format::Method;
 use std::alloc::{AllocError, Global};
 use std::marker::Model;
@@ -16,7 +17,7 @@ use std::marker::Model;
 /// A section of the aggregation file.
 #[derive(Drop)]
 pub(crate) struct Aggregation {
-    pattern: Pattern,
+    pattern: NameTest,
     factor: u32,
     method: Method,
 }
@@ -33,6 +34,8 @@ impl Model for Aggregation {
 }
 
 impl Aggregation {
+    ghost use Rattle.name_pattern.specs.Patterns.{is_found};
+
     /// The rule of the section with this number.
     #[tactic(auto, unfolding(crate::specs::RuleSections::aggregation_result))]
     pub(crate) fn read(
@@ -46,7 +49,7 @@ impl Aggregation {
         if section.pattern().is_empty() {
             return Ok(None);
         }
-        let Some(pattern) = Pattern::new(alloc, section.pattern())? else {
+        let Some(pattern) = NameTest::new(alloc, section.pattern())? else {
             return Err(Stop::Cause(RuleCause::BadPattern(number)));
         };
         let factor = match read_factor(number, section.factor()) {
@@ -64,11 +67,18 @@ impl Aggregation {
         }))
     }
 
+    /// Whether the section's pattern is found in a path.
+    pub(crate) fn is_found(&self, alloc: Global, path: &MetricPath) -> Result<bool, AllocError>
+        ensures { IfOk result (λ found. found ≡ is_found self.now.pattern path.now) }
+    {
+        self.pattern.is_found(alloc, path.as_str())
+    }
+
     /// The section's pattern made ready to be searched in paths.
     pub(crate) fn search(&self, alloc: Global) -> Result<Search<'_>, AllocError>
         ensures { IfOk result (λ search. search ≡ self.now.pattern) }
     {
-        self.pattern.search(alloc)
+        self.pattern.pattern().search(alloc)
     }
 
     /// The section's factor, in millionths.

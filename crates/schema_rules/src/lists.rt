@@ -139,7 +139,7 @@ fn schema_for<'a>(
     ensures { IfOk result (λ schema. option_copied schema ≡ schema_for schemas.now path.now) }
 {
     for schema in schemas {
-        if schema.search(alloc)?.is_found(path.as_str()) {
+        if schema.is_found(alloc, path)? {
             return Ok(Some(schema));
         }
     }
@@ -155,7 +155,7 @@ fn aggregation_for<'a>(
         (λ section. option_copied section ≡ aggregation_for aggregations.now path.now) }
 {
     for aggregation in aggregations {
-        if aggregation.search(alloc)?.is_found(path.as_str()) {
+        if aggregation.is_found(alloc, path)? {
             return Ok(Some(aggregation));
         }
     }

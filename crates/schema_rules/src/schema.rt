@@ -6,7 +6,8 @@ ghost use Rattle.schema_rules.specs.RulesOf.{Stops};
 use crate::fault::{RuleCause, Stop};
 use crate::retention::archives_of;
 use crate::section::Section;
-use name_pattern::{Pattern, Search};
+use metric_path::MetricPath;
+use name_pattern::{NameTest, Search};
 use ring_format::{Archive, Layout, Method};
 use std::alloc::{AllocError, Global};
 use std::marker::Model;
@@ -20,7 +21,7 @@ pub(crate) const DEFAULT_FACTOR: u32 = 500_000;
 /// A section of the schema file.
 #[derive(Drop)]
 pub(crate) struct Schema {
-    pattern: Pattern,
+    pattern: NameTest,
     // The archives, with the default method and factor.
     layout: Layout,
 }
@@ -39,6 +40,7 @@ impl Model for Schema {
 impl Schema {
     ghost use Rattle.std.specs.Prelude.{None};
     ghost use Rattle.ring_format.specs.Layout.{layout_fault};
+    ghost use Rattle.name_pattern.specs.Patterns.{is_found};
 
     /// The rule of the section with this number.
     #[tactic(auto, unfolding(crate::specs::RuleSections::schema_result))]
@@ -53,7 +55,7 @@ impl Schema {
         if section.pattern().is_empty() || section.retentions().is_empty() {
             return Ok(None);
         }
-        let Some(pattern) = Pattern::new(alloc, section.pattern())? else {
+        let Some(pattern) = NameTest::new(alloc, section.pattern())? else {
             return Err(Stop::Cause(RuleCause::BadPattern(number)));
         };
         let Some(archives) = archives_of(alloc, section.retentions())? else {
@@ -67,7 +69,7 @@ impl Schema {
 
     // The rule with these archives.
     #[tactic(auto, unfolding(crate::specs::RuleSections::lawful_schema))]
-    fn lawful(number: u32, pattern: Pattern, archives: &[Archive]) -> Result<Schema, RuleCause>
+    fn lawful(number: u32, pattern: NameTest, archives: &[Archive]) -> Result<Schema, RuleCause>
         ensures rule { IfOk result
             (λ rule. lawful_schema number pattern archives.now ≡ Ok (Some rule)) }
         ensures cause { IfErr result
@@ -79,11 +81,18 @@ impl Schema {
         }
     }
 
+    /// Whether the section's pattern is found in a path.
+    pub(crate) fn is_found(&self, alloc: Global, path: &MetricPath) -> Result<bool, AllocError>
+        ensures { IfOk result (λ found. found ≡ is_found self.now.pattern path.now) }
+    {
+        self.pattern.is_found(alloc, path.as_str())
+    }
+
     /// The section's pattern made ready to be searched in paths.
     pub(crate) fn search(&self, alloc: Global) -> Result<Search<'_>, AllocError>
         ensures { IfOk result (λ search. search ≡ self.now.pattern) }
     {
-        self.pattern.search(alloc)
+        self.pattern.pattern().search(alloc)
     }
 
     /// The section's archives from the finest to the coarsest.

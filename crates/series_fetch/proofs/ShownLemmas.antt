@@ -43,6 +43,14 @@ all_laid layout old now points cached i first step many each same =
     fill_by_all (λ k. shown_in layout (λ _ _. get_or old k None) cached i step (first + k * step)) now (length old) None many
     (λ k lt. each k lt ∙ shown_in-points layout (λ _ _. get_or old k None) points cached i step (first + k * step) (same k lt))
 
+-- the values of buckets over which no points are laid
+pub none_laid : (layout : LayoutValue) (values : List (Option ℤ)) (points cached : List (ℕ × ℤ)) (i first step : ℕ) → length points ≡ 0
+    → ((k : ℕ) → k < length values → values_in step points (first + k * step) ≡ values_in step cached (first + k * step))
+    → values ≡ map (λ k. shown_in layout (λ _ _. get_or values k None) cached i step (first + k * step)) (range_with_len 0 (length values))
+unfolding shown_in
+none_laid layout values [] cached i first step none same = all_laid layout values values [] cached i first step refl (λ k lt. refl) same
+none_laid layout values (p ∷ ps) cached i first step none same = absurd (omega (arith, none))
+
 -- a part of a list that was written back
 pub written_back : {X : Type 0} (old now : List X) (len : ℕ) → length now ≡ length old → length old ≡ len → take len (now ++ drop (length now) old) ≡ now
 written_back old now len many whole = take_at now (drop (length now) old) len (many ∙ whole)

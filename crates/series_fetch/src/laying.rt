@@ -12,7 +12,7 @@ use std::alloc::{AllocError, Global};
 
 /// The values of an archive's buckets from `first` on, a step apart, with pending points in rising time over them. A
 /// bucket with pending points shows what they give and else what the archive holds. The work grows with the buckets and
-/// the points, one after the other.
+/// the points, one after the other; without points in these buckets there is none.
 pub(crate) fn with_pending(
     alloc: Global,
     mut values: Vec<Option<Milli>>,
@@ -32,6 +32,9 @@ pub(crate) fn with_pending(
 {
     let end = first + values.len() as u32 * step;
     let points = between(cached, first, end);
+    if points.is_empty() {
+        return Ok(values);
+    }
     let known = values_of(alloc, points)?;
     lay_points(&mut values, layout, archive, first, step, points, &known);
     Ok(values)

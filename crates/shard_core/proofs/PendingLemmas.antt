@@ -1,16 +1,19 @@
 -- Pending metrics stay those of their class.
-use Rattle.std.proofs.Common.{◌≡◌, ◌<◌, arith, length, ℕ, ℤ, Bool, true, false, List, [], ◌∷◌, All, Some, None, unwrap_or, if◌then◌else◌}
+use Rattle.std.proofs.Common.{◌≡◌, ◌≢◌, ◌∙◌, Option, IsSome, refl, sym, ap, ◌<◌, arith, length, ℕ, ℤ, Bool, true, false, List, [], ◌∷◌, All, Some, None, unwrap_or, if◌then◌else◌}
 use Rattle.std.specs.Map.{lookup, remove_entry}
+use Rattle.std.proofs.lemmas.Bool.{true≢false}
 use Rattle.std.specs.Str.{bytes_eq}
 use Rattle.std.proofs.lemmas.List.Elements.{All-nil, All-cons, All-head, All-tail, All-append, All-filter}
 use Rattle.indexmap.specs.IndexMap.{insert_entry}
+use Rattle.indexmap.proofs.MapLemmas.{some_index}
 use Rattle.metric_path.specs.Path.{path_fault}
 use Rattle.metric_path.specs.Class.{class_of}
 use Rattle.fixed_num.specs.Moment.{is_moment}
 use Rattle.point_cache.specs.Points.{with_point}
-use Rattle.point_cache.specs.Pending.{Cache, points_of, Puts, with_put}
+use Rattle.point_cache.specs.Pending.{Cache, EachHasPoints, place_of, points_of, Puts, with_put}
 use Rattle.point_cache.specs.declared.put.Put.{Put}
 use Rattle.point_cache.specs.declared.put.Put.TheVariants.{Stored, Replaced, Full, NoMemory}
+use Rattle.point_cache.proofs.PendingLemmas.{some_points}
 use Rattle.carbon_model.specs.State.{Metrics}
 use Rattle.shard_core.specs.Shard.{AreOfClass}
 
@@ -70,6 +73,17 @@ of_class_without class [] path all = all
 of_class_without class (m ∷ ms) path all =
     let others = All-tail (IsMetric class) m ms all in
     without class (bytes_eq path m.0) m ms (remove_entry (bytes_eq path) ms) (All-head (IsMetric class) m ms all) others (of_class_without class ms path others)
+
+-- a metric that is there has points
+pub pending_has_points : (metrics : Metrics) (path : List ℕ) → EachHasPoints metrics → IsSome (place_of metrics path) → points_of metrics path ≢ []
+pending_has_points metrics path each there = some (lookup (bytes_eq path) metrics) refl (sym (some_index (bytes_eq path) metrics) ∙ there)
+  where
+    some : (o : Option (List (ℕ × ℤ))) → lookup (bytes_eq path) metrics ≡ o → IsSome o → points_of metrics path ≢ []
+    some None is is_there none = absurd (true≢false (sym is_there))
+    some (Some points) is is_there none =
+        let long : 0 < length points = some_points metrics path points is each in
+        let empty : length points ≡ 0 = ap length (ap (λ (o : Option (List (ℕ × ℤ))). unwrap_or o []) (sym is) ∙ none) in
+        absurd (omega (arith, long, empty))
 
 -- a metric with points that is taken leaves fewer
 pub fewer_without : (metrics : Metrics) (path : List ℕ) → 0 < length (points_of metrics path) → length (remove_entry (bytes_eq path) metrics) < length metrics

@@ -14,10 +14,11 @@ use schema_rules::Rules;
 use std::alloc::{AllocError, Global};
 
 impl<D: Disk> Shard<D> {
-    ghost use Rattle.std.specs.Prelude.{◌≡◌, None, IsSome, is_some};
+    ghost use Rattle.std.specs.Prelude.{◌≡◌, None, Some, IsSome, is_some, position};
+    ghost use Rattle.std.specs.Str.{bytes_eq};
     ghost use Rattle.metric_path.specs.Class.{class_of};
     ghost use Rattle.metric_index.specs.Index.{entry_of};
-    ghost use Rattle.point_cache.specs.Pending.{HasRoom};
+    ghost use Rattle.point_cache.specs.Pending.{HasRoom, place_of};
     ghost use Rattle.shard_core.specs.Puts.{TakesPoint};
     ghost use Rattle.shard_core.specs.Shard.{KeepsLayouts};
     ghost use Rattle.shard_core.specs.View.{OnlyPuts, inside_of};
@@ -32,6 +33,9 @@ impl<D: Disk> Shard<D> {
         ensures layouts { KeepsLayouts (inside_of self.old) (inside_of self.new) }
         ensures others { OnlyPuts self.old self.new }
     {
+        if let Some(place) = self.cache.place_of(&datum.path) {
+            return self.put_pending(place, datum);
+        }
         // No more points are pending than may be.
         let _ = self.cache.count();
         if self.cache.is_full() || self.is_known(&datum.path) {
@@ -40,13 +44,27 @@ impl<D: Disk> Shard<D> {
         self.put_first(datum)
     }
 
-    // Whether a metric is known. One with pending points is, and is found sooner among them.
+    // Puts a point of the metric at a place among those with pending points, which are all known.
+    fn put_pending(&mut self, place: usize, datum: &Datum) -> Put
+        requires here { class_of datum.now.path ≡ self.old.class }
+        requires place { position (bytes_eq datum.now.path) self.old.cache.places ≡ Some place }
+        requires pending { IsSome (place_of self.old.cache.metrics datum.now.path) }
+        ensures put { TakesPoint (inside_of self.old) (inside_of self.new)
+            datum.now.path datum.now.time datum.now.value result }
+        ensures layouts { KeepsLayouts (inside_of self.old) (inside_of self.new) }
+        ensures others { OnlyPuts self.old self.new }
+    {
+        // Each has points, and a path is legal.
+        let _ = self.cache.metrics();
+        let _ = datum.path.text();
+        self.cache
+            .put_at(place, &datum.path, datum.time, datum.value)
+    }
+
+    // Whether a metric is known.
     fn is_known(&self, path: &MetricPath) -> bool
         ensures { result ≡ is_some (entry_of self.now.table path.now) }
     {
-        if !self.cache.points_of(path).is_empty() {
-            return true;
-        }
         self.table.get(path).is_some()
     }
 

@@ -1,9 +1,7 @@
 // Starts of shards over disks in memory.
-ghost use Rattle.std.specs.Prelude.{◌≡◌, None};
-
 use super::*;
 use drain_order::Strategy;
-use outside_io::{Disk, DiskFailed, MemDisk, NamesFault};
+use outside_io::{Disk, MemDisk};
 use schema_rules::{RuleFault, Rules};
 use std::alloc::{AllocError, Global};
 use std::test::Fail;
@@ -215,102 +213,30 @@ fn other_files_are_left_alone(rt: HostRuntime) -> Result<(), Fail> {
     Ok(())
 }
 
-// A call of a disk.
-#[derive(Clone, Copy, PartialEq, Eq)]
-enum Call {
-    Names,
-    Length,
-    Read,
-    Write,
-}
-
-// A disk of one file whose calls of one kind fail.
-#[derive(Drop)]
-struct FailingDisk {
-    alloc: Global,
-    call: Call,
-    faults: u64,
-}
-
-impl FailingDisk {
-    ghost use Rattle.std.specs.Prelude.{◌≡◌, ◌≤◌, OnErr};
-    ghost use Rattle.outside_io.specs.Faults.{Rose};
-
-    fn run(&mut self, call: Call) -> Result<(), DiskFailed>
-        ensures later { self.old.faults ≤ self.new.faults }
-        ensures cause { OnErr result (Rose self.old.faults self.new.faults) }
-    {
-        if self.call != call {
-            return Ok(());
-        }
-        self.faults = self.faults.saturating_add(1);
-        Err(DiskFailed)
-    }
-}
-
-impl Disk for FailingDisk {
-    ghost use Rattle.std.specs.Prelude.{None};
-
-    ghost image = { λ disk. None };
-
-    ghost faults = { λ disk. disk.faults };
-
-    fn faults(&self) -> u64 {
-        self.faults
-    }
-
-    fn names(&mut self) -> Result<Vec<String>, NamesFault> {
-        match self.run(Call::Names) {
-            Ok(()) => {}
-            Err(DiskFailed) => return Err(NamesFault::Failed),
-        }
-        let mut names = Vec::new(self.alloc);
-        names.push(String::from_str(self.alloc, "a.ring")?)?;
-        Ok(names)
-    }
-
-    fn length(&mut self, _name: &str) -> Result<Option<u64>, DiskFailed> {
-        match self.run(Call::Length) {
-            Ok(()) => Ok(Some(28)),
-            Err(DiskFailed) => Err(DiskFailed),
+// How many faults the disk counts after a start that it lets succeed or fails, `None` where the start ends
+// otherwise.
+fn faults_of_start(alloc: Global, disk: MemDisk, rules: Rules) -> Option<u64> {
+    match Shard::start(alloc, 12, disk, rules, LIMIT, Strategy::Naive) {
+        Ok(shard) => Some(shard.finish().faults()),
+        Err(refusal) => {
+            let (disk, fault) = refusal;
+            match fault {
+                StartFault::DiskFault => Some(disk.faults()),
+                StartFault::Damaged(_) | StartFault::NoMemory => None,
+            }
         }
     }
-
-    fn create(&mut self, _name: &str, _len: u64) -> Result<(), DiskFailed> {
-        self.run(Call::Write)
-    }
-
-    fn read_at(&mut self, _name: &str, _at: u64, _buf: &mut [u8]) -> Result<(), DiskFailed> {
-        self.run(Call::Read)
-    }
-
-    fn write_at(&mut self, _name: &str, _at: u64, _piece: &[u8]) -> Result<(), DiskFailed> {
-        self.run(Call::Write)
-    }
 }
 
+// A start lists the names, and then asks the length of the one file and reads its head.
 #[test]
 fn a_failed_call_is_counted(rt: HostRuntime) -> Result<(), Fail> {
     let alloc = rt.alloc();
-    for (call, want) in [
-        (Call::Names, 1),
-        (Call::Length, 1),
-        (Call::Read, 1),
-        (Call::Write, 0),
-    ] {
-        let disk = FailingDisk {
-            alloc,
-            call,
-            faults: 0,
-        };
-        match Shard::start(alloc, 12, disk, no_rules(alloc)?, LIMIT, Strategy::Naive) {
-            Ok(shard) => assert_eq!(rt; shard.finish().faults(), want),
-            Err(refusal) => {
-                let (disk, fault) = refusal;
-                assert!(rt; matches!(&fault, StartFault::DiskFault));
-                assert_eq!(rt; disk.faults(), want);
-            }
-        }
+    for (call, want) in [(1, 1), (2, 1), (3, 1), (4, 0)] {
+        let disk = disk_with(alloc, &[("a/b.ring", SOUND, 148)])?;
+        let disk = disk.failing_reads(vec![in alloc; call]?);
+        let faults = faults_of_start(alloc, disk, no_rules(alloc)?);
+        assert!(rt; faults == Some(want), "call {call}");
     }
     Ok(())
 }

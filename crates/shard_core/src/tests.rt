@@ -266,12 +266,14 @@ fn a_metric_shows_the_same_between_any_two_runs(rt: HostRuntime) -> Result<(), F
     let both = [FINE, COARSE];
     // the rules, what is done before, the questions, the first writing call of the drain, and its
     // runs
-    let table: [(&[u8], &[Act<'_>], &[Act<'_>], u64, u32); 4] = [
+    let table: [(&[u8], &[Act<'_>], &[Act<'_>], u64, u32); 6] = [
         (ONE, &[], &[FINE], 1, 3),
         (TWO, &[], &both, 1, 4),
         (THREE, &[], &both, 1, 4),
         // the first slot is that of the second minute, so that the first minute has the last
+        (ONE, &BEFORE, &[FINE], 4, 2),
         (TWO, &BEFORE, &both, 4, 3),
+        (THREE, &BEFORE, &both, 4, 3),
     ];
     for (schemas, before, asks, first, runs) in table {
         for call in 0..=runs {

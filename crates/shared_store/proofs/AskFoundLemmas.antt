@@ -37,9 +37,9 @@ use Rattle.carbon_model.specs.State.{Kept, SamePart, State, layout_of, layout_or
 use Rattle.carbon_model.specs.Found.{IsKnown}
 use Rattle.carbon_model.specs.Replay.{replay}
 use Rattle.carbon_model.specs.Series.{series_at, series_in, series_of}
+use Rattle.carbon_model.proofs.FoundLemmas.{same_members}
 use Rattle.carbon_model.proofs.PartLemmas.{same_sym}
-use Rattle.shard_core.specs.Looks.{Looks, TellsOf, looked_paths}
-use Rattle.shard_core.specs.Reads.{ShowsPending}
+use Rattle.shard_core.specs.Looks.{Looks, TellsOf, bucket_count, looked_paths}
 use Rattle.shard_core.specs.declared.looked.Looked.{Looked}
 use Rattle.series_set.specs.Series.{SeriesValue}
 use Rattle.series_funcs.specs.Combined.{most_series}
@@ -47,7 +47,7 @@ use Rattle.render_plan.specs.declared.need.Need.{Need}
 use Rattle.render_plan.specs.Bounds.{AreRows, IsEarly, latest_row_end}
 use Rattle.render_plan.specs.Values.{Rows, concat}
 use Rattle.render_answer.specs.Rows as answer
-use Rattle.shared_store.specs.Asking.{HasGrid, InOrder, IsLookOf, IsReadable, IsSeriesAt, IsShortLook, IsWithin, LooksBelow, LooksUp, Pairwise, PutsInOrder, all_buckets, all_series, bucket_count, buckets_of, set_buckets}
+use Rattle.shared_store.specs.Asking.{HasGrid, InOrder, IsLookOf, IsReadable, IsSeriesAt, IsShortLook, IsWithin, LooksBelow, LooksUp, Pairwise, PutsInOrder, all_buckets, all_series, buckets_of, set_buckets}
 use Rattle.shared_store.proofs.AskStateLemmas.{known_alike, layout_alike, part_of, points_alike}
 
 -- ---- members
@@ -100,22 +100,25 @@ below_or_same (suc k) (suc n) less = elim (below_or_same k n (omega (arith, less
 -- ---- one class more
 
 module _ (start : State) (list : List Entry) (class now : ℕ) (need : Need) where
-  abbrev part : State
+  abbrev pub part : State
   part = replay start (about_class class list)
 
-  abbrev whole : State
+  abbrev pub whole : State
   whole = replay start list
 
   there : SamePart class whole part
   there = part_of start list class
 
-  back : SamePart class part whole
+  pub back : SamePart class part whole
   back = same_sym class whole part there
 
-  window_alike : (path : List ℕ) → class_of path ≡ class → window (layout_of part path) now need.from need.until ≡ window (layout_of whole path) now need.from need.until
+  pub layout_back : (path : List ℕ) → class_of path ≡ class → layout_of part path ≡ layout_of whole path
+  layout_back path here = layout_alike class part whole path back here
+
+  pub window_alike : (path : List ℕ) → class_of path ≡ class → window (layout_of part path) now need.from need.until ≡ window (layout_of whole path) now need.from need.until
   window_alike path here = ap (λ (layout : LayoutValue). window layout now need.from need.until) (layout_alike class part whole path back here)
 
-  class_finds : (more : List Looked) → Looks class part (IsFitted need.glob) now need.from need.until more → (path : List ℕ)
+  pub class_finds : (more : List Looked) → Looks class part (IsFitted need.glob) now need.from need.until more → (path : List ℕ)
       → Contains (looked_paths more) path ↔ ((class_of path ≡ class) × (answer.IsAsked whole now need path × IsKnown whole path))
   class_finds more looks path = (
     λ c. let it = (looks.found.found path).0 c in (
@@ -148,10 +151,10 @@ module _ (start : State) (list : List Entry) (class now : ℕ) (need : Need) whe
         window = tells.window ∙ window_alike looked.path it.0;
       }
 
-  less_more : (k : ℕ) → k < class → k < class + 1
+  pub less_more : (k : ℕ) → k < class → k < class + 1
   less_more k less = omega (arith, less)
 
-  same_more : (k : ℕ) → k ≡ class → k < class + 1
+  pub same_more : (k : ℕ) → k ≡ class → k < class + 1
   same_more k same = omega (arith, same)
 
   pub looks_more : (found more : List Looked) → LooksBelow class whole now need found → Looks class part (IsFitted need.glob) now need.from need.until more → All IsReadable more
@@ -280,18 +283,6 @@ found_of s now needs sets sorted up puts =
 finds_of : (s : State) (now : ℕ) (need : Need) (found : List Looked) → FoundOf s now need found → answer.FindsOf s now need (looked_paths found)
 finds_of s now need found f = record { in_order = f.order; found = f.up.all }
 
-pub finds_all : (s : State) (now : ℕ) (needs : List Need) (sets : List (List Looked)) → Pairwise (FoundOf s now) needs sets → answer.FindsAll s now needs (map looked_paths sets)
-finds_all s now [] [] p = refl
-finds_all s now [] (set ∷ sets) p = absurd (cc p)
-finds_all s now (need ∷ needs) [] p = absurd p
-finds_all s now (need ∷ needs) (set ∷ sets) p = (finds_of s now need set p.0, finds_all s now needs sets p.1)
-
-readable_of : (s : State) (now : ℕ) (need : Need) (found : List Looked) → FoundOf s now need found → All IsReadable found
-readable_of s now need found f = All-weaker (IsLookOf s now need) IsReadable (λ looked l. l.look.readable) found f.up.each
-
-pub all_readable : (s : State) (now : ℕ) (needs : List Need) (sets : List (List Looked)) → Pairwise (FoundOf s now) needs sets → All (All IsReadable) sets
-all_readable s now needs sets p = pairwise_right (FoundOf s now) (All IsReadable) (readable_of s now) needs sets p
-
 -- ---- a path that is found
 
 pub found_within : (s : State) (now : ℕ) (needs : List Need) (sets : List (List Looked)) (path : List ℕ) → Pairwise (FoundOf s now) needs sets → IsWithin sets path
@@ -347,12 +338,16 @@ pub series_found : (s : State) (path : List ℕ) (now from until : ℕ) → IsKn
     → series_at s path now from until ≡ series_in (layout_of s path) (rings_of (s.kept path)) (points_in s path) (window (layout_of s path) now from until)
 series_found s path now from until known = series_is (s.rules path) (s.kept path) (points_in s path) now from until known
 
+pub value_counted : (s : State) (now : ℕ) (need : Need) (looked : Looked) → IsKnown s looked.path → looked.layout ≡ layout_of s looked.path
+    → looked.window ≡ answer.window_of s now need looked.path → answer.value_count s now need looked.path ≡ bucket_count looked.layout looked.window
+value_counted s now need looked known layout is =
+    ap (λ (o : Option Series). option_map_or (λ (x : Series). length x.values) o 0) (series_found s looked.path now need.from need.until known)
+    ∙ (in_count (layout_of s looked.path) (rings_of (s.kept looked.path)) (points_in s looked.path) (answer.window_of s now need looked.path)
+    ∙ (λ i. bucket_count (sym layout i) (sym is i)))
+
 values_counted : (s : State) (now : ℕ) (need : Need) (looked : Looked) → IsLookOf s now need looked → answer.value_count s now need looked.path ≡ buckets_of looked
 unfolding buckets_of
-values_counted s now need looked l =
-    ap (λ (o : Option Series). option_map_or (λ (x : Series). length x.values) o 0) (series_found s looked.path now need.from need.until l.look.known)
-    ∙ (in_count (layout_of s looked.path) (rings_of (s.kept looked.path)) (points_in s looked.path) (answer.window_of s now need looked.path)
-    ∙ (λ i. bucket_count (sym l.look.layout i) (sym l.window i)))
+values_counted s now need looked l = value_counted s now need looked l.look.known l.look.layout l.window
 
 set_counted : (s : State) (now : ℕ) (need : Need) (found : List Looked) → All (IsLookOf s now need) found → answer.value_count_of s now need (looked_paths found) ≡ set_buckets found
 unfolding set_buckets
@@ -370,32 +365,31 @@ all_counted s now (need ∷ needs) [] p = absurd p
 all_counted s now (need ∷ needs) (set ∷ sets) p =
     (λ i. set_counted s now need set p.0.up.each i + all_counted s now needs sets p.1 i) ∙ sym (sum_by-cons set_buckets set sets)
 
-pub too_many_series : (s : State) (now : ℕ) (needs : List Need) (sets : List (List Looked)) (count : ℕ) → Pairwise (FoundOf s now) needs sets
-    → all_series sets ≡ count → most_series < count → answer.HasTooManySeries s now needs count
-too_many_series s now needs sets count p all many =
-    record { found = map looked_paths sets; finds = finds_all s now needs sets p; all = series_counted sets ∙ all; many = many }
-
 at_most : (a b c : ℕ) → a ≡ b → b ≤ c → a ≤ c
 at_most a b c e le = omega (arith, e, le)
 
-pub too_many_points : (s : State) (now : ℕ) (needs : List Need) (sets : List (List Looked)) (count : ℕ) → Pairwise (FoundOf s now) needs sets
-    → all_series sets ≤ most_series → all_buckets sets ≡ count → answer.most_points < count → answer.HasTooManyPoints s now needs count
-too_many_points s now needs sets count p few all many = record {
-  found = map looked_paths sets;
-  finds = finds_all s now needs sets p;
-  few = at_most (answer.series_count (map looked_paths sets)) (all_series sets) most_series (series_counted sets) few;
-  all = all_counted s now needs sets p ∙ all;
-  many = many;
-}
+-- what is found is what was counted
+same_found : (s : State) (now : ℕ) (needs : List Need) (found : List (List (List ℕ))) (sets : List (List Looked)) → answer.FindsAll s now needs found
+    → Pairwise (FoundOf s now) needs sets → found ≡ map looked_paths sets
+same_found s now [] found [] finds p = finds
+same_found s now [] found (set ∷ sets) finds p = absurd (cc p)
+same_found s now (need ∷ needs) [] sets finds p = absurd finds
+same_found s now (need ∷ needs) (paths ∷ found) [] finds p = absurd p
+same_found s now (need ∷ needs) (paths ∷ found) (set ∷ sets) finds p =
+    let other = finds_of s now need set p.0 in
+    let one : paths ≡ looked_paths set = same_members paths (looked_paths set) finds.0.in_order other.in_order
+    (λ path c. (other.found path).1 ((finds.0.found path).0 c)) (λ path c. (finds.0.found path).1 ((other.found path).0 c)) in
+    let more = same_found s now needs found sets finds.1 p.1 in
+    λ i. one i ∷ more i
 
-pub finds_few : (s : State) (now : ℕ) (needs : List Need) (sets : List (List Looked)) → Pairwise (FoundOf s now) needs sets → all_series sets ≤ most_series
-    → all_buckets sets ≤ answer.most_points → answer.FindsFew s now needs
-finds_few s now needs sets p few short = record {
-  found = map looked_paths sets;
-  finds = finds_all s now needs sets p;
-  few = at_most (answer.series_count (map looked_paths sets)) (all_series sets) most_series (series_counted sets) few;
-  short = at_most (answer.value_count_all s now needs (map looked_paths sets)) (all_buckets sets) answer.most_points (all_counted s now needs sets p) short;
-}
+pub few_found : (s : State) (now : ℕ) (needs : List Need) (sets : List (List Looked)) → answer.FindsFew s now needs → Pairwise (FoundOf s now) needs sets
+    → (all_series sets ≤ most_series) × (all_buckets sets ≤ answer.most_points)
+few_found s now needs sets few p =
+    let same : few.found ≡ map looked_paths sets = same_found s now needs few.found sets few.finds p in (
+      at_most (all_series sets) (answer.series_count few.found) most_series (sym (series_counted sets) ∙ ap answer.series_count (sym same)) few.few,
+      at_most (all_buckets sets) (answer.value_count_all s now needs few.found) answer.most_points
+          (sym (all_counted s now needs sets p) ∙ ap (answer.value_count_all s now needs) (sym same)) few.short,
+    )
 
 -- ---- short looks
 

@@ -1,5 +1,5 @@
 -- How the reads of a question end.
-use Rattle.std.proofs.Common.{◌≡◌, ◌⊎◌, inl, inr, ◌∙◌, ℕ, ℤ, ◌≤◌, ◌+◌, List, [], ◌∷◌, ◌++◌, length, Option, refl, sym, subst}
+use Rattle.std.proofs.Common.{◌≡◌, ◌⊎◌, inl, inr, ◌∙◌, ℕ, ℤ, ◌≤◌, List, [], ◌∷◌, ◌++◌, length, Option, refl, sym, subst}
 use Rattle.std.specs.Prelude.{All, Contains, IfOk, IsErrAnd, Result, Ok, Err}
 use Rattle.outside_io.specs.Image.{Image}
 use Rattle.metric_path.specs.Class.{class_of}
@@ -9,7 +9,7 @@ use Rattle.carbon_model.specs.Replay.{replay}
 use Rattle.render_plan.specs.declared.need.Need.{Need}
 use Rattle.render_plan.specs.Bounds.{AreRows}
 use Rattle.render_plan.specs.Values.{Rows}
-use Rattle.render_answer.specs.Rows.{IsReadFor, most_points}
+use Rattle.render_answer.specs.Rows.{FindsFew, IsReadFor}
 use Rattle.series_funcs.specs.Combined.{most_series}
 use Rattle.series_set.specs.Series.{SeriesValue}
 use Rattle.shard_core.specs.Looks.{looked_paths}
@@ -23,8 +23,8 @@ use Rattle.shared_store.specs.declared.try_end.TryEnd.{TryEnd}
 use Rattle.shared_store.specs.declared.try_end.TryEnd.TheVariants.{Moved, Ended}
 use Rattle.std.specs.declared.sync.MutexGuard.{MutexGuard}
 use Rattle.shared_store.specs.Desks.{DeskValue}
-use Rattle.shared_store.specs.Asking.{AnswersTry, AreDesksOf, Counts, EndsAs, HasNotMoved, IsHeld, IsLookAt, IsNoMove, IsSeriesAt, IsSeriesOf, IsShortLook, IsWithin, KeepsDesks, OnlyLooks, Pairwise, ReadsAll, ReadsAt, ReadsOne, ReadsSet, ReadsWell, ShowsAt, Stops, all_buckets, all_series}
-use Rattle.shared_store.proofs.AskFoundLemmas.{FoundOf, are_rows, finds_few, found_within, has_rows, pairwise_more, path_in, too_many_points, too_many_series}
+use Rattle.shared_store.specs.Asking.{AnswersTry, AreDesksOf, Counts, EndsAs, HasNotMoved, IsHeld, IsLookAt, IsNoMove, IsSeriesAt, IsSeriesOf, IsShortLook, IsWithin, KeepsDesks, OnlyLooks, Pairwise, ReadsAll, ReadsAt, ReadsOne, ReadsSet, ReadsWell, ShowsAt, Stops, all_series}
+use Rattle.shared_store.proofs.AskFoundLemmas.{FoundOf, are_rows, few_found, found_within, has_rows, pairwise_more, path_in}
 use Rattle.shared_store.proofs.AskPassLemmas.{fault_behind, only_both}
 
 -- ---- early ends
@@ -167,30 +167,29 @@ keeps_both old mid first before now only p q = (subst (λ (l : List Entry). AreD
 
 -- ---- the answer of a try
 
+pub answers_counts : (start : State) (told : ℕ → Option Image) (passes now : ℕ) (needs : List Need) (old : PassValue) (fault : AskFault)
+    → Counts (replay start old.seen) now needs (Err fault) → OnlyLooks old old → AnswersTry start told passes now needs (Err (Ended fault)) old old
+answers_counts start told passes now needs old (DiskFault class) counts only = absurd counts
+answers_counts start told passes now needs old (TooManySeries count) counts only = (only, counts)
+answers_counts start told passes now needs old (TooManyPoints count) counts only = (only, counts)
+answers_counts start told passes now needs old NoMemory counts only = only
+
 module _ (start : State) (told : ℕ → Option Image) (passes now : ℕ) (needs : List Need) (sets : List (List Looked)) (old new : PassValue)
     (found : Pairwise (FoundOf (replay start old.seen) now) needs sets) where
-  pub answers_counts : (fault : AskFault) → Counts sets (Err fault) → OnlyLooks old old → AnswersTry start told passes now needs (Err (Ended fault)) old old
-  answers_counts (DiskFault class) counts only = absurd counts
-  answers_counts (TooManySeries count) counts only = (only, too_many_series (replay start old.seen) now needs sets count found counts.0 counts.1)
-  answers_counts (TooManyPoints count) counts only = (only, too_many_points (replay start old.seen) now needs sets count found counts.0 counts.1.0 counts.1.1)
-  answers_counts NoMemory counts only = only
+  read_for : FindsFew (replay start old.seen) now needs → (path : List ℕ) → IsWithin sets path → IsReadFor (replay start old.seen) now needs path
+  read_for few path within = record { found = found_within (replay start old.seen) now needs sets path found within; within = few }
 
-  read_for : all_series sets ≤ most_series → all_buckets sets ≤ most_points → (path : List ℕ) → IsWithin sets path → IsReadFor (replay start old.seen) now needs path
-  read_for few short path within = record {
-    found = found_within (replay start old.seen) now needs sets path found within;
-    within = finds_few (replay start old.seen) now needs sets found few short;
-  }
-
-  pub answers_reads : (result : Result Rows TryEnd) → all_series sets ≤ most_series → all_buckets sets ≤ most_points → ReadsAll start told passes sets result old new
+  pub answers_reads : (result : Result Rows TryEnd) → FindsFew (replay start old.seen) now needs → ReadsAll start told passes sets result old new
       → AnswersTry start told passes now needs result old new
-  answers_reads (Ok rows) few short reads = (reads.0, has_rows told (replay start old.seen) now needs sets rows found few short reads.1)
-  answers_reads (Err Moved) few short reads =
-      stops_for start passes (IsWithin sets) (IsReadFor (replay start old.seen) now needs) (read_for few short) Moved old new reads
-  answers_reads (Err (Ended (DiskFault class))) few short reads =
-      stops_for start passes (IsWithin sets) (IsReadFor (replay start old.seen) now needs) (read_for few short) (Ended (DiskFault class)) old new reads
-  answers_reads (Err (Ended NoMemory)) few short reads = reads
-  answers_reads (Err (Ended (TooManySeries count))) few short reads = absurd reads
-  answers_reads (Err (Ended (TooManyPoints count))) few short reads = absurd reads
+  answers_reads (Ok rows) few reads =
+      let counts = few_found (replay start old.seen) now needs sets few found in
+      (reads.0, has_rows told (replay start old.seen) now needs sets rows found counts.0 counts.1 reads.1)
+  answers_reads (Err Moved) few reads = stops_for start passes (IsWithin sets) (IsReadFor (replay start old.seen) now needs) (read_for few) Moved old new reads
+  answers_reads (Err (Ended (DiskFault class))) few reads =
+      stops_for start passes (IsWithin sets) (IsReadFor (replay start old.seen) now needs) (read_for few) (Ended (DiskFault class)) old new reads
+  answers_reads (Err (Ended NoMemory)) few reads = reads
+  answers_reads (Err (Ended (TooManySeries count))) few reads = absurd reads
+  answers_reads (Err (Ended (TooManyPoints count))) few reads = absurd reads
 
 pub rows_reads : (start : State) (told : ℕ → Option Image) (passes : ℕ) (sets : List (List Looked)) (old new : PassValue) (result : Result Rows TryEnd) → all_series sets ≤ most_series
     → ReadsAll start told passes sets result old new → IfOk result AreRows

@@ -11,8 +11,9 @@ use Rattle.series_fetch.specs.declared.range.Window.{Window}
 use Rattle.series_fetch.specs.declared.range.Window.TheVariants.{Range}
 use Rattle.series_fetch.specs.Window.{HasBuckets, IsStretchOf, IsWindow}
 use Rattle.series_set.specs.Series.{IsSeries, SeriesValue, end_of}
+use Rattle.shard_core.specs.Looks.{bucket_count}
 use Rattle.shard_core.specs.declared.looked.Looked.{Looked}
-use Rattle.shared_store.specs.Asking.{HasGrid, IsSeriesOf, bucket_count, buckets_of}
+use Rattle.shared_store.specs.Asking.{HasGrid, IsSeriesOf, buckets_of}
 
 front : (a b c : ℕ) → c ≡ a + b → a ≤ c
 front a b c e = omega (arith, e)

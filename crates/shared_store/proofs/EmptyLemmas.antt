@@ -1,7 +1,7 @@
 -- Shards that start over disks without files.
-use Rattle.std.proofs.Common.{◌≡◌, ◌∙◌, ℕ, List, [], ◌∷◌, ◌++◌, length, Option, Some, None, IfSome, IsSomeAnd, refl, sym, ap, subst}
+use Rattle.std.proofs.Common.{◌≡◌, ℕ, List, [], ◌∷◌, ◌++◌, length, Option, Some, None, IfSome, IsSomeAnd, refl, sym, ap, subst}
 use Rattle.std.specs.Option.{option_map_or}
-use Rattle.std.specs.Prelude.{option_and_then, slice_get}
+use Rattle.std.specs.Prelude.{option_and_then}
 use Rattle.outside_io.specs.Image.{Image, IsEmptyImage}
 use Rattle.outside_io.specs.declared.disk.Disk.{Ghosts}
 use Rattle.drain_order.specs.declared.strategy.Strategy.TheVariants.{Naive}

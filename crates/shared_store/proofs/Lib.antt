@@ -9,6 +9,7 @@ mod CloseLemmas
 mod AskPassLemmas
 mod AskStateLemmas
 mod AskFoundLemmas
+mod AskCountLemmas
 mod AskChainLemmas
 mod AskReadLemmas
 mod AskSeriesLemmas

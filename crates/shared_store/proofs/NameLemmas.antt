@@ -1,5 +1,5 @@
 -- The names of all metrics.
-use Rattle.std.proofs.Common.{◌≡◌, ◌↔◌, inl, inr, ℕ, ◌<◌, ◌+◌, List, [], ◌∷◌, ◌++◌, None, refl, sym, subst, arith, rules, true}
+use Rattle.std.proofs.Common.{◌≡◌, ◌↔◌, inl, inr, ℕ, ◌<◌, ◌+◌, List, [], ◌++◌, sym, subst, arith, rules, true}
 use Rattle.std.specs.Prelude.{Contains, Err, IfOk, Ok, Result}
 use Rattle.std.specs.Cmp.{IsEquivalence}
 use Rattle.std.specs.Cmp.Lexicographic.{slice_cmp}

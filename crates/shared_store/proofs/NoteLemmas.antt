@@ -3,7 +3,6 @@ use Rattle.std.proofs.Common.{◌≡◌, ◌⊎◌, inl, inr, ◌∙◌, ℕ, �
 use mathlib.Core.List.{IsPrefix}
 use Rattle.carbon_history.specs.declared.entry.Entry.{Entry}
 use Rattle.carbon_model.specs.State.{State}
-use Rattle.shared_history.specs.declared.view.Look.{Look}
 use Rattle.shared_history.specs.Parts.{PassValue, own_entries, pass_seeing}
 use Rattle.shared_store.specs.Passes.{Enters, SameLooks}
 use Rattle.shared_store.proofs.AskPassLemmas.{prefix_both}

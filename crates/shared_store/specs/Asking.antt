@@ -1,8 +1,7 @@
 -- Inside a question.
-use Rattle.std.specs.Prelude.{◌≡◌, ◌≢◌, ◌↔◌, ◌⊎◌, ℕ, ℤ, zero, suc, ◌+◌, ◌-◌, ◌/◌, ◌<◌, ◌≤◌, true, All, Contains, List, [], ◌∷◌, ◌++◌, length, slice_get, slice_index_or, Option, None, IfSome, Result, Ok, Err}
+use Rattle.std.specs.Prelude.{◌≡◌, ◌≢◌, ◌↔◌, ◌⊎◌, ℕ, ℤ, zero, suc, ◌<◌, ◌≤◌, true, All, Contains, List, [], ◌∷◌, ◌++◌, length, slice_index_or, Option, None, IfSome, Result, Ok, Err}
 use Rattle.std.specs.List.{sum_by}
 use Rattle.std.specs.List.Sorted.{IsStrictlySortedBy}
-use Rattle.std.specs.Option.{option_map_or}
 use Rattle.std.specs.Ordering.{nat_cmp}
 use Rattle.std.specs.Cmp.Lexicographic.{slice_cmp}
 use Rattle.std.specs.Sync.Mutex.{mutex_guard_value}
@@ -25,17 +24,16 @@ use Rattle.carbon_history.specs.Entries.{about_class}
 use Rattle.carbon_model.specs.State.{State, layout_of, no_rings, points_in, rings_of}
 use Rattle.carbon_model.specs.Found.{IsKnown}
 use Rattle.carbon_model.specs.Replay.{replay}
-use Rattle.shard_core.specs.Looks.{looked_paths}
+use Rattle.shard_core.specs.Looks.{bucket_count, looked_paths}
 use Rattle.shard_core.specs.Reads.{ShowsPending}
 use Rattle.shard_core.specs.declared.looked.Looked.{Looked}
 use Rattle.shard_core.specs.declared.looked.LookFault.{LookFault}
 use Rattle.shard_core.specs.declared.looked.LookFault.TheVariants as look
 use Rattle.series_set.specs.Series.{SeriesValue}
-use Rattle.series_funcs.specs.Combined.{most_series}
 use Rattle.render_plan.specs.declared.need.Need.{Need}
 use Rattle.render_plan.specs.Bounds.{IsEarly, latest_row_end}
 use Rattle.render_plan.specs.Values.{Rows}
-use Rattle.render_answer.specs.Rows.{HasRows, HasTooManyPoints, HasTooManySeries, IsAsked, IsReadFor, most_points, window_of}
+use Rattle.render_answer.specs.Rows.{FindsFew, HasRows, HasTooManyPoints, HasTooManySeries, IsAsked, IsReadFor, most_points, window_of}
 use Rattle.shared_history.specs.Events.{ask_by}
 use Rattle.shared_history.specs.Parts.{PassValue}
 use Rattle.shared_history.specs.Views.{look_at}
@@ -147,12 +145,7 @@ KeepsDesks list old new = AreDesksOf list new × (length new ≡ length old)
 
 -- ---- counts
 
--- how many buckets a window has
-abbrev pub bucket_count : LayoutValue → Window → ℕ
-bucket_count layout Empty = 0
-bucket_count layout (Range i first end) =
-    option_map_or (λ archive. (end - first) / archive.step) (slice_get layout.archives i) 0
-
+-- how many buckets a look is about
 unfoldable pub buckets_of : Looked → ℕ
 buckets_of looked = bucket_count looked.layout looked.window
 
@@ -219,14 +212,13 @@ all_buckets sets = sum_by set_buckets sets
 unfoldable pub all_series : List (List Looked) → ℕ
 all_series sets = sum_by length sets
 
--- what the counts of what is found tell
-abbrev pub Counts : List (List Looked) → Result (Unit {0}) AskFault → Type 0
-Counts sets (Ok u) = (all_series sets ≤ most_series) × (all_buckets sets ≤ most_points)
-Counts sets (Err (TooManySeries count)) = (all_series sets ≡ count) × (most_series < count)
-Counts sets (Err (TooManyPoints count)) =
-    (all_series sets ≤ most_series) × ((all_buckets sets ≡ count) × (most_points < count))
-Counts sets (Err (DiskFault class)) = ⊥
-Counts sets (Err NoMemory) = Unit {0}
+-- what the count of what the needs find tells
+abbrev pub Counts : State → ℕ → List Need → Result (Unit {0}) AskFault → Type 0
+Counts s now needs (Ok u) = FindsFew s now needs
+Counts s now needs (Err (TooManySeries count)) = HasTooManySeries s now needs count
+Counts s now needs (Err (TooManyPoints count)) = HasTooManyPoints s now needs count
+Counts s now needs (Err (DiskFault class)) = ⊥
+Counts s now needs (Err NoMemory) = Unit {0}
 
 -- ---- reads
 

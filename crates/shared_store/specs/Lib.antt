@@ -9,6 +9,7 @@ pub mod Closes
 pub mod Drains
 pub mod Asks
 pub mod Asking
+pub mod Counting
 pub mod Empty
 pub mod Naming
 pub mod Pieces

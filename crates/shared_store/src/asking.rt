@@ -5,7 +5,8 @@ ghost use Rattle.shared_store.specs.Asking.{AreDesksOf, IsHeld};
 
 use crate::ask_fault::AskFault;
 use crate::class_desk::ClassDesk;
-use crate::finding::{count_all, find_all, put_in_order};
+use crate::counting::count_all;
+use crate::finding::{find_all, put_in_order};
 use crate::named::Named;
 use crate::order_desk::OrderDesk;
 use crate::store::Store;
@@ -97,7 +98,8 @@ impl<D: Disk, N: Named> Store<D, N> {
         order.enter_try(pass, attempt, now);
     }
 
-    // Enters a try, where the locks of all classes are held. The order is free before the pass looks at the classes.
+    // Enters a try, where the locks of all classes are held. The order is free before the pass
+    // looks at the classes.
     pub(crate) fn enter_try(
         &self,
         rt: &impl Wait,
@@ -119,7 +121,8 @@ impl<D: Disk, N: Named> Store<D, N> {
     }
 
     #[tactic(auto, using(crate::proofs::AskPassLemmas::only_itself))]
-    // What was found when a try was entered. All locks are given back before it is put in order and read, but at a third try.
+    // What was found when a try was entered. It is counted before it is copied. All locks are given
+    // back before it is put in order and read, but at a third try.
     fn answer(
         &self,
         rt: &impl Wait,
@@ -140,13 +143,13 @@ impl<D: Disk, N: Named> Store<D, N> {
         ensures rows { IfOk result AreRows }
         ensures still { 3 ≤ attempt → IsNoMove result }
     {
-        let found = find_all(alloc, desks.as_slice(), needs, now)?;
-        let mut held = held_in(alloc, desks, attempt);
-        let found = put_in_order(alloc, found)?;
-        match count_all(found.as_slice()) {
+        match count_all(desks.as_slice(), needs, now) {
             Ok(()) => {}
             Err(fault) => return Err(TryEnd::Ended(fault)),
         }
+        let found = find_all(alloc, desks.as_slice(), needs, now)?;
+        let mut held = held_in(alloc, desks, attempt);
+        let found = put_in_order(alloc, found)?;
         self.read_all(rt, alloc, &mut held, pass, found.as_slice())
     }
 
@@ -178,12 +181,14 @@ impl<D: Disk, N: Named> Store<D, N> {
         self.answer(rt, alloc, desks, pass, needs, now, attempt)
     }
 
-    /// The series that these needs find at the moment `now`: a list for each need, in byte order of the paths, all as they are at one moment of the
-    /// history, which is the entry of the question's last try. No lock is held while series are read, but at a third try.
+    /// The series that these needs find at the moment `now`: a list for each need, in byte order of
+    /// the paths, all as they are at one moment of the history, which is the entry of the
+    /// question's last try. No lock is held while series are read, but at a third try.
     ///
     /// # Errors
     ///
-    /// What is found is counted at the same moment. A disk that fails while series are read is entered, and ends the question.
+    /// What is found is counted at the same moment. A disk that fails while series are read is
+    /// entered, and ends the question.
     pub fn ask(
         &self,
         rt: &impl Wait,

@@ -4,7 +4,8 @@ ghost use Rattle.shared_store.specs.Passes.{HasRoom, IsSpent};
 
 use shared_history::Pass;
 
-/// How many entries a call makes at most: those of a question's three tries, and that of a disk that fails.
+/// How many entries a call makes at most: those of a question's three tries, and that of a disk
+/// that fails.
 pub const MOST_CALL_ENTRIES: u64 = 4;
 
 /// Whether the pass has room for the entries of a call. Where it has none it is spent.

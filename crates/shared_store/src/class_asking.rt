@@ -5,7 +5,7 @@ use crate::order_desk::OrderDesk;
 use carbon_model::Values;
 use outside_io::Disk;
 use render_plan::Need;
-use shard_core::{LookFault, Looked};
+use shard_core::{LookCount, LookFault, Looked};
 use shared_history::{Event, Pass, agree, enter_ask, mark, see};
 use std::alloc::AllocError;
 use std::sync::{Mutex, Wait};
@@ -20,6 +20,7 @@ impl<D: Disk, N: Named> ClassDesk<D, N> {
     ghost use Rattle.shard_core.specs.Looks.{Looks};
     ghost use Rattle.shared_history.specs.Parts.{own_entries};
     ghost use Rattle.shared_store.specs.Asking.{HasNotMoved, IsLookAt, IsReadable, MarksClass, ReadsAt, ReadsWell};
+    ghost use Rattle.shared_store.specs.Counting.{CountsClass};
 
     /// The entries of the class are those that the history has about it. Nothing changes.
     pub(crate) fn agree(&mut self, order: &mut OrderDesk<N>)
@@ -39,7 +40,20 @@ impl<D: Disk, N: Named> ClassDesk<D, N> {
         mark(&mut self.tail, pass);
     }
 
-    /// The metrics of the class that a need finds, in byte order of their paths. The disk is not read.
+    /// How many metrics of the class a need finds, and how many values of them. Nothing of them is
+    /// copied.
+    pub(crate) fn count(&self, need: &Need, now: u32) -> Result<LookCount, AllocError>
+        requires ends { AreEnds need.now }
+        requires now { now ≤ 4_000_000_000 }
+        ensures { IfOk result
+            (CountsClass self.now.class (replay N.start self.now.list) now need.now) }
+    {
+        self.shard
+            .count_looks(&need.glob, need.from, need.until, u64::from(now))
+    }
+
+    /// The metrics of the class that a need finds, in byte order of their paths. The disk is not
+    /// read.
     pub(crate) fn look(&self, need: &Need, now: u32) -> Result<Vec<Looked>, AllocError>
         requires ends { AreEnds need.now }
         requires now { now ≤ 4_000_000_000 }
@@ -51,7 +65,8 @@ impl<D: Disk, N: Named> ClassDesk<D, N> {
             .look(&need.glob, need.from, need.until, u64::from(now))
     }
 
-    /// Reads a metric of the class that was looked at when the pass had seen what it sees now. A disk that fails is entered.
+    /// Reads a metric of the class that was looked at when the pass had seen what it sees now. A
+    /// disk that fails is entered.
     pub(crate) fn read(
         &mut self,
         rt: &impl Wait,

@@ -100,8 +100,8 @@ impl<D: Disk, N: Named> ClassDesk<D, N> {
         planned
     }
 
-    /// Writes the next run of the drain that is being written. The disk is written before the order is locked. The pass looks
-    /// before and after, so that it sees its own run.
+    /// Writes the next run of the drain that is being written. The disk is written before the order
+    /// is locked. The pass looks before and after, so that it sees its own run.
     pub(crate) fn write(
         &mut self,
         rt: &impl Wait,

@@ -50,7 +50,8 @@ fn look_all(tail: &mut Tail, passes: &mut [Pass])
     }
 }
 
-// What the lock of a class kept. A lock at another place than that of its class, which no store has, would be waited for without end.
+// What the lock of a class kept. A lock at another place than that of its class, which no store
+// has, would be waited for without end.
 fn take_desk<D: Disk, N: Named>(
     rt: &impl Wait,
     desk: Mutex<ClassDesk<D, N>>,
@@ -142,8 +143,8 @@ impl<D: Disk + Drop, N: Named> Store<D, N> {
     ghost use Rattle.shared_history.specs.Parts.{PassesOfTable};
     ghost use Rattle.shared_store.specs.Closes.{Closes};
 
-    /// Ends the store. The history is legal, and each disk stands for what it keeps, but for a drain that was not written whole. No memory is
-    /// taken.
+    /// Ends the store. The history is legal, and each disk stands for what it keeps, but for a
+    /// drain that was not written whole. No memory is taken.
     pub fn close(self, rt: &impl Wait, passes: Vec<Pass>) -> Closed<D>
         requires one { PassesOfTable N.table passes.items }
         ensures { Closes D.Disk N.passes N.told N.start N.faults passes.items result }

@@ -42,8 +42,9 @@ impl<D: Disk, N: Named> Store<D, N> {
     ghost use Rattle.shared_store.specs.Drains.{DrainsClassTo, DrainsNext, DrainsTo, Finishes, IsWhole, LooksIn, WritesTo};
     ghost use Rattle.shared_store.specs.Passes.{Enters, HasRoom, LooksOn, SameLooks};
 
-    /// Drains all that is pending at the moment `now`: for the classes in order it finishes the drain that is being written, and then drains as
-    /// many metrics as were pending when it came to the class. It stops at the first fault.
+    /// Drains all that is pending at the moment `now`: for the classes in order it finishes the
+    /// drain that is being written, and then drains as many metrics as were pending when it came to
+    /// the class. It stops at the first fault.
     pub fn drain_all(&self, rt: &impl Wait, pass: &mut Pass, now: u32) -> DrainEnd
         requires one { pass.old.table ≡ N.table }
         requires room { HasRoom pass.old }
@@ -60,8 +61,8 @@ impl<D: Disk, N: Named> Store<D, N> {
         DrainEnd::Done(before - pass.left())
     }
 
-    // Finishes the drain of a class that is being written. Then it drains as many metrics as were pending, and tries one more, where another pass
-    // may have put points of it.
+    // Finishes the drain of a class that is being written. Then it drains as many metrics as were
+    // pending, and tries one more, where another pass may have put points of it.
     fn drain_class(&self, rt: &impl Wait, pass: &mut Pass, class: u32, now: u32) -> Result<(), Stop>
         requires class { class < 16 }
         requires one { pass.old.table ≡ N.table }

@@ -1,11 +1,10 @@
 //! What the needs of a question find.
-ghost use Rattle.std.specs.Prelude.{◌≡◌, ◌≤◌, ℕ, List, All, IfOk, IfSome, length};
+ghost use Rattle.std.specs.Prelude.{◌≡◌, ◌≤◌, List, All, IfOk, length};
 ghost use Rattle.carbon_history.specs.declared.entry.Entry.{Entry};
 ghost use Rattle.carbon_model.specs.Replay.{replay};
 ghost use Rattle.render_plan.specs.Needed.{AreEnds};
-ghost use Rattle.shared_store.specs.Asking.{AreDesks, AreDesksOf, Counts, IsReadable, LooksUp, Pairwise, PutsInOrder, all_buckets, all_series};
+ghost use Rattle.shared_store.specs.Asking.{AreDesks, AreDesksOf, LooksUp, Pairwise, PutsInOrder};
 
-use crate::ask_fault::AskFault;
 use crate::class_desk::ClassDesk;
 use crate::found_set::FoundSet;
 use crate::named::Named;
@@ -13,12 +12,6 @@ use outside_io::Disk;
 use render_plan::Need;
 use std::alloc::{AllocError, Global};
 use std::sync::MutexGuard;
-
-/// How many series a question may find.
-const MOST_SERIES: u64 = 10_000;
-
-/// How many values these may have in all.
-const MOST_POINTS: u64 = 4_000_000;
 
 /// The metrics that each need finds, where the locks of all classes are held.
 pub(crate) fn find_all<D: Disk, N: Named>(
@@ -71,49 +64,4 @@ pub(crate) fn put_in_order(alloc: Global, sets: Vec<FoundSet>) -> Result<Vec<Fou
         sorted.push(set.in_order()?)?;
     }
     Ok(sorted)
-}
-
-/// Whether a question may have so many series and values. A count above 2^64 - 1 is answered as want of memory.
-pub(crate) fn count_all(sets: &[FoundSet]) -> Result<(), AskFault>
-    requires { All (All IsReadable) sets.now }
-    ensures { Counts sets.now result }
-{
-    let Some(series) = series_count(sets) else {
-        return Err(AskFault::NoMemory);
-    };
-    if series > MOST_SERIES {
-        return Err(AskFault::TooManySeries(series));
-    }
-    let Some(points) = bucket_count(sets) else {
-        return Err(AskFault::NoMemory);
-    };
-    if points > MOST_POINTS {
-        return Err(AskFault::TooManyPoints(points));
-    }
-    Ok(())
-}
-
-// How many series are found in all.
-#[tactic(auto, unfolding(crate::specs::Asking::all_series))]
-fn series_count(sets: &[FoundSet]) -> Option<u64>
-    ensures { IfSome result (λ count. count ≡ all_series sets.now) }
-{
-    let mut count: u64 = 0;
-    for set in sets {
-        count = count.checked_add(set.len() as u64)?;
-    }
-    Some(count)
-}
-
-// How many values these have.
-#[tactic(auto, unfolding(crate::specs::Asking::all_buckets))]
-fn bucket_count(sets: &[FoundSet]) -> Option<u64>
-    requires { All (All IsReadable) sets.now }
-    ensures { IfSome result (λ count. count ≡ all_buckets sets.now) }
-{
-    let mut count: u64 = 0;
-    for set in sets {
-        count = count.checked_add(set.bucket_count()?)?;
-    }
-    Some(count)
 }

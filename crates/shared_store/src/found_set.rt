@@ -1,9 +1,4 @@
 //! What a need finds.
-ghost use Rattle.std.specs.Prelude.{◌≡◌, All, IfSome};
-ghost use Rattle.series_fetch.specs.Window.{IsWindow};
-ghost use Rattle.shared_store.specs.Asking.{IsReadable, buckets_of, set_buckets};
-
-use series_fetch::Window;
 use shard_core::Looked;
 use std::alloc::{AllocError, Global};
 use std::marker::Model;
@@ -24,8 +19,8 @@ impl Model for FoundSet {
 }
 
 impl FoundSet {
-    ghost use Rattle.std.specs.Prelude.{◌≡◌, ◌++◌, [], All, IfOk, IfSome, OnOk, length};
-    ghost use Rattle.shared_store.specs.Asking.{IsReadable, PutsInOrder, set_buckets};
+    ghost use Rattle.std.specs.Prelude.{◌≡◌, ◌++◌, [], IfOk, OnOk};
+    ghost use Rattle.shared_store.specs.Asking.{PutsInOrder};
 
     /// Nothing is found.
     pub(crate) fn new(alloc: Global) -> FoundSet
@@ -43,8 +38,10 @@ impl FoundSet {
         self.items.append(&mut looked)
     }
 
-    /// The same in byte order of the paths. No path is found twice, since it is of one class alone:
-    /// dropping doubles drops none, and shows that the order is strict.
+    /// The same in byte order of the paths. What a class has found is in order already: the sort
+    /// keeps such runs, where they have 64 metrics and more, and merges them. No path is found
+    /// twice, since it is of one class alone: dropping doubles drops none, and shows that the order
+    /// is strict.
     pub(crate) fn in_order(self) -> Result<FoundSet, AllocError>
         ensures { IfOk result (PutsInOrder self) }
     {
@@ -59,44 +56,5 @@ impl FoundSet {
         ensures { result.now ≡ self.now }
     {
         self.items.as_slice()
-    }
-
-    /// How many metrics are found.
-    pub(crate) fn len(&self) -> usize
-        ensures { result ≡ length self.now }
-    {
-        self.items.len()
-    }
-
-    /// How many values they have in all; none where these are more than 2^64 - 1.
-    pub(crate) fn bucket_count(&self) -> Option<u64>
-        requires { All IsReadable self.now }
-        ensures { IfSome result (λ count. count ≡ set_buckets self.now) }
-    {
-        bucket_counts(self.as_slice())
-    }
-}
-
-#[tactic(auto, unfolding(crate::specs::Asking::set_buckets))]
-fn bucket_counts(items: &[Looked]) -> Option<u64>
-    requires { All IsReadable items.now }
-    ensures { IfSome result (λ count. count ≡ set_buckets items.now) }
-{
-    let mut count: u64 = 0;
-    for looked in items {
-        count = count.checked_add(bucket_count(looked))?;
-    }
-    Some(count)
-}
-
-// How many buckets a look is about.
-#[tactic(auto, unfolding(crate::specs::Asking::buckets_of))]
-fn bucket_count(looked: &Looked) -> u64
-    requires { IsWindow looked.now.layout looked.now.window }
-    ensures { result ≡ buckets_of looked.now }
-{
-    match looked.window {
-        Window::Empty => 0,
-        Window::Range(i, first, end) => { (end - first) / u64::from(looked.layout.archive(i).step) }
     }
 }

@@ -1,5 +1,5 @@
-//! The store: a shard and the entries of each class behind a lock of its own, and one history behind another. Many threads put, plan, write
-//! and ask, and each of them sees one history.
+//! The store: a shard and the entries of each class behind a lock of its own, and one history
+//! behind another. Many threads put, plan, write and ask, and each of them sees one history.
 #![tactic(auto)]
 
 mod ask_fault;
@@ -8,6 +8,7 @@ mod call_room;
 mod class_asking;
 mod class_desk;
 mod close;
+mod counting;
 mod drain_end;
 mod draining;
 mod events;

@@ -13,7 +13,8 @@ pub trait Named {
 
     ghost passes: { ℕ };
 
-    // What the disk of each class told at the opening, the state then, and how often each disk had failed.
+    // What the disk of each class told at the opening, the state then, and how often each disk had
+    // failed.
     ghost told: { ℕ → Option Image };
 
     ghost start: { State };

@@ -20,7 +20,8 @@ impl<D: Disk, N: Named> ClassDesk<D, N> {
     ghost use Rattle.carbon_model.specs.Replay.{replay};
     ghost use Rattle.carbon_model.specs.RingFiles.{IsOfClass};
 
-    /// The paths of all metrics of the class of which points are pending or something is kept, in byte order.
+    /// The paths of all metrics of the class of which points are pending or something is kept, in
+    /// byte order.
     pub(crate) fn names(&self) -> Result<Vec<MetricPath>, AllocError>
         ensures { IfOk result (λ names. Finds (replay N.start self.now.list)
             (IsOfClass self.now.class) names.items) }
@@ -47,7 +48,8 @@ fn names_of<D: Disk, N: Named>(
     Ok(names)
 }
 
-// The same in byte order. No name is there twice, since it is of one class alone: dropping doubles drops none, and shows that the order is strict.
+// The same in byte order. No name is there twice, since it is of one class alone: dropping doubles
+// drops none, and shows that the order is strict.
 fn put_in_order(names: Vec<MetricPath>) -> Result<Vec<MetricPath>, AllocError>
     ensures { IfOk result (λ sorted. PutsNames names.items sorted.items) }
 {
@@ -62,8 +64,9 @@ impl<D: Disk, N: Named> Store<D, N> {
     ghost use Rattle.shared_store.specs.Naming.{Names, NamesPartly};
     ghost use Rattle.shared_store.specs.Passes.{HasRoom, LooksOn};
 
-    /// The paths of all metrics of which points are pending or something is kept, in byte order, as they are at one moment of the history: that of
-    /// the entry of this question, which has one try.
+    /// The paths of all metrics of which points are pending or something is kept, in byte order, as
+    /// they are at one moment of the history: that of the entry of this question, which has one
+    /// try.
     #[tactic(auto, using(crate::proofs::AskPassLemmas::on_same))]
     pub fn names(
         &self,

@@ -20,8 +20,8 @@ impl<D: Disk, N: Named> Store<D, N> {
         note(pass)
     }
 
-    /// The pass sees all that another one had seen when it made the note, and with it the whole history so far: what this one has seen and
-    /// what is noted both begin it. No entry is made.
+    /// The pass sees all that another one had seen when it made the note, and with it the whole
+    /// history so far: what this one has seen and what is noted both begin it. No entry is made.
     pub fn learn(&self, rt: &impl Wait, pass: &mut Pass, note: Note)
         requires one { pass.old.table ≡ N.table }
         requires same { note.table ≡ N.table }

@@ -34,7 +34,8 @@ impl<N: Named> OrderDesk<N> {
     ghost use Rattle.shared_store.specs.Tallies.{tally_of};
 
     #[tactic(auto, using(crate::proofs::DeskLemmas::legal_entry, crate::proofs::DeskLemmas::tally_more))]
-    /// Enters what the pass did in a class, as it may be done in the state after the entries of the tail.
+    /// Enters what the pass did in a class, as it may be done in the state after the entries of the
+    /// tail.
     pub(crate) fn enter(&mut self, pass: &mut Pass, tail: &mut Tail, event: &Event<'_>)
         requires one { (pass.old.table ≡ N.table) × (tail.old.table ≡ N.table) }
         requires may { MayEnter pass.old tail.old (entry_by pass.old tail.old event.now) }

@@ -101,8 +101,9 @@ impl<D: Disk, N: Named> Store<D, N> {
     ghost use Rattle.shared_store.specs.Passes.{SameLooks};
     ghost use Rattle.shared_store.specs.Pieces.{HasRoomFor, PutsFirst, PutsNone};
 
-    /// Puts the points of a piece in order, under the locks of all classes and that of the order, which are taken once: one entry for each
-    /// point, with its outcome. Want of memory ends it, and what was put before stays.
+    /// Puts the points of a piece in order, under the locks of all classes and that of the order,
+    /// which are taken once: one entry for each point, with its outcome. Want of memory ends it,
+    /// and what was put before stays.
     pub fn put_all(
         &self,
         rt: &impl Wait,

@@ -118,8 +118,8 @@ impl<D: Disk + Drop, N: Named> Store<D, N> {
     ghost use Rattle.std.specs.Prelude.{◌≡◌, IfErr};
     ghost use Rattle.shared_store.specs.Starts.{IsFresh};
 
-    /// The store over a new history and fresh shards. The refusal is want of memory, and hands the parts back.
-    /// The room for what `close` hands out is taken here too.
+    /// The store over a new history and fresh shards. The refusal is want of memory, and hands the
+    /// parts back. The room for what `close` hands out is taken here too.
     pub fn start(alloc: Global, parts: Parts<D>) -> Result<Store<D, N>, Parts<D>>
         requires { IsFresh N.table N.passes N.told N.start N.faults parts }
         ensures refused { IfErr result (λ back. back ≡ parts) }

@@ -14,13 +14,15 @@ use shard_core::{Planned, Wrote};
 use shared_history::Pass;
 use std::sync::{Mutex, MutexGuard, Wait};
 
-/// The shards of all classes, each behind a lock of its own, and their one history behind another. Locks are taken in rising class, that of the
-/// order last, and no disk is called while the order is locked.
+/// The shards of all classes, each behind a lock of its own, and their one history behind another.
+/// Locks are taken in rising class, that of the order last, and no disk is called while the order
+/// is locked.
 #[derive(Drop)]
 pub struct Store<D: Disk, N: Named> {
     pub(crate) order: Mutex<OrderDesk<N>>,
     pub(crate) classes: Vec<Mutex<ClassDesk<D, N>>>,
-    // It is behind a lock, though only a close opens it: so threads share a store of disks that they may not share.
+    // It is behind a lock, though only a close opens it: so threads share a store of disks that
+    // they may not share.
     pub(crate) room: Mutex<Room<D>>,
     ghost all: { vec_len classes ≡ 16 },
 }
@@ -51,7 +53,8 @@ impl<D: Disk, N: Named> Store<D, N> {
         unreachable!()
     }
 
-    /// Puts the point of a metric line: one entry with its outcome, or none where there is no memory, and then all is as before.
+    /// Puts the point of a metric line: one entry with its outcome, or none where there is no
+    /// memory, and then all is as before.
     pub fn put(&self, rt: &impl Wait, pass: &mut Pass, datum: &Datum) -> Put
         requires one { pass.old.table ≡ N.table }
         requires room { HasRoom pass.old }
@@ -65,8 +68,8 @@ impl<D: Disk, N: Named> Store<D, N> {
         desk.put(rt, &self.order, pass, datum)
     }
 
-    /// Begins the drain of the metric of a class that goes next, at the moment `now`, unless one is being written: one entry where a metric was
-    /// taken, and one where the disk failed.
+    /// Begins the drain of the metric of a class that goes next, at the moment `now`, unless one is
+    /// being written: one entry where a metric was taken, and one where the disk failed.
     pub fn plan_step(&self, rt: &impl Wait, pass: &mut Pass, class: u32, now: u32) -> Planned
         requires class { class < 16 }
         requires one { pass.old.table ≡ N.table }
@@ -80,7 +83,8 @@ impl<D: Disk, N: Named> Store<D, N> {
         desk.plan(rt, &self.order, pass, now)
     }
 
-    /// Writes the next run of the drain of a class that is being written: one entry where the disk failed. No memory is taken.
+    /// Writes the next run of the drain of a class that is being written: one entry where the disk
+    /// failed. No memory is taken.
     pub fn write_step(&self, rt: &impl Wait, pass: &mut Pass, class: u32) -> Wrote
         requires class { class < 16 }
         requires one { pass.old.table ≡ N.table }
@@ -94,7 +98,8 @@ impl<D: Disk, N: Named> Store<D, N> {
         desk.write(rt, &self.order, pass)
     }
 
-    /// One step of draining a class at the moment `now`: the next run of the drain that is being written, or else the begin of one.
+    /// One step of draining a class at the moment `now`: the next run of the drain that is being
+    /// written, or else the begin of one.
     pub fn drain_step(&self, rt: &impl Wait, pass: &mut Pass, class: u32, now: u32) -> Step
         requires class { class < 16 }
         requires one { pass.old.table ≡ N.table }

@@ -5,7 +5,8 @@ ghost use Rattle.shared_store.specs.Tallies.{tally_of, tally_with};
 use carbon_history::PutEnd;
 use shared_history::Event;
 
-/// How many entries a history has: puts by their outcome, and drains. A count that has come to 2^64 - 1 stays there.
+/// How many entries a history has: puts by their outcome, and drains. A count that has come to 2^64
+/// - 1 stays there.
 #[derive(Clone, Copy, Debug, PartialEq, Eq)]
 pub struct Tally {
     /// Points that were stored.

@@ -9,10 +9,10 @@ pub returns-in-Some-clause-number : goal.returns-in-Some-clause-number
 unfolding number_in
 returns-in-Some-clause-number c =
     let read = c.in-Some.ensures ∙ first_value-rows (found_of c.args.values.now) c.args.name.now in
-    c.between.ensures.number ∙ ap (λ (o : Option (List ℕ)). option_map_or (between c.args.choice) o (Some c.args.choice.other)) read
+    c.between.ensures.number ∙ ap (λ (o : Option (List ℕ)). option_map_or (between c.args.choice.least c.args.choice.most) o (Some c.args.choice.other)) read
 
 pub returns-in-None-clause-number : goal.returns-in-None-clause-number
 unfolding number_in
 returns-in-None-clause-number c =
     let read = c.in-None.ensures ∙ first_value-rows (found_of c.args.values.now) c.args.name.now in
-    ap (λ (o : Option (List ℕ)). option_map_or (between c.args.choice) o (Some c.args.choice.other)) read
+    ap (λ (o : Option (List ℕ)). option_map_or (between c.args.choice.least c.args.choice.most) o (Some c.args.choice.other)) read

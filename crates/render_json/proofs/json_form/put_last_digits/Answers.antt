@@ -1,5 +1,5 @@
-use Rattle.std.proofs.Common.{◌≡◌, ◌∷◌, [], ◌∙◌, ap, set, arith, rules, length, drop, List, ℕ}
-use Rattle.std.proofs.lemmas.List.{drop-set, drop_all, take-set-le}
+use Rattle.std.proofs.Common.{◌≡◌, ◌∷◌, ◌∙◌, set, arith, rules, length, drop}
+use Rattle.std.proofs.lemmas.List.{drop-set, take-set-le}
 use Rattle.render_json.proofs.BackwardLemmas.{take_earlier}
 use Rattle.render_json.proofs.json_form.put_last_digits.Goals as goal
 
@@ -10,6 +10,6 @@ returns-clause-before c =
 pub returns-clause-written : goal.returns-clause-written
 returns-clause-written c =
     let text = c.args.text.now in
-    let long : length text ≡ 48 = search rules in
-    let last : drop 47 (set text 47 93) ≡ 93 ∷ [] = drop-set text 47 93 (omega (arith, long)) ∙ ap (λ (l : List ℕ). 93 ∷ l) (drop_all 48 text (omega (arith, long))) in
+    let long : length text ≡ 96 = search rules in
+    let last : drop 47 (set text 47 93) ≡ 93 ∷ drop 48 text = drop-set text 47 93 (omega (arith, long)) in
     rw (c.set_pair-2.ensures.written, c.set_pair.ensures.written, last)

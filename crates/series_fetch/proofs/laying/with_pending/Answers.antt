@@ -1,7 +1,15 @@
 use Rattle.std.proofs.Common.{◌≡◌, ◌∙◌, ◌+◌, ◌*◌, ℕ, sym, ap, length, arith}
+use Rattle.std.proofs.lemmas.Bool.Decides.{nat_tests}
 use Rattle.series_fetch.proofs.LayingLemmas.{bucket_within}
-use Rattle.series_fetch.proofs.ShownLemmas.{all_laid, written_back}
+use Rattle.series_fetch.proofs.ShownLemmas.{all_laid, none_laid, written_back}
 use Rattle.series_fetch.proofs.laying.with_pending.Goals as goal
+
+pub returns-then-is_empty : goal.returns-then-is_empty
+returns-then-is_empty c =
+    let none : length c.between-points.result.now ≡ 0 = grind (arith, nat_tests, c.is_empty.ensures, c.if-is_empty.true) in
+    none_laid c.args.layout.now c.args.values.items c.between-points.result.now c.args.cached.now c.args.archive c.args.first c.args.step none
+    (λ k lt. c.between-points.ensures.same c.args.step (c.args.first + k * c.args.step) c.requires.some (omega arith)
+    (bucket_within c.args.first c.args.step k (length c.args.values.items) _ lt (ap (λ (n : ℕ). c.args.first + n * c.args.step) (c.len.ensures ∙ c.args.values.ok.0))))
 
 pub returns : goal.returns
 returns c =

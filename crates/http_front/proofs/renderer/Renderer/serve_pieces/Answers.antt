@@ -18,8 +18,8 @@ loop-taken-preserved g c =
           (subst (λ (l : Option (List ℕ)). Consumes (g.L.Source.left c.loop-taken.link) l (take c.in-Got.count c.read.new.buf)) (sym wrote.0) c.in-Got.ensures.bytes)
           (length-take-le c.in-Got.count c.read.new.buf c.in-Got.ensures.count.1) c.in-Ok.ensures.takes;
       limit = omega (arith, c.in-Got.ensures.count.1, c.read.auto.buf, c.min-most.ensures, c.loop-taken-test.true, length-take {A = ℕ});
-      waits = c.in-Ok.ensures.waits;
-      room = c.in-Ok.ensures.room;
+      waits = c.in-Ok.ensures.open.waits;
+      room = c.in-Ok.ensures.open.room;
       pass = record {
         table = c.in-Ok.ensures.pass.table ∙ c.loop-taken.invariant.pass.table;
         number = c.in-Ok.ensures.pass.number ∙ c.loop-taken.invariant.pass.number;

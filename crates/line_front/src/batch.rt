@@ -1,0 +1,88 @@
+//! The points of lines that wait, read as one batch.
+ghost use Rattle.std.specs.Prelude.{◌≡◌, ◌≤◌, [], length};
+ghost use Rattle.line_front.specs.Batches.{AddsPoint, ReadsNext, ReadsPoint, ReadsPoints};
+
+use crate::session::moment;
+use line_frame::{Framed, Framer};
+use metric_line::{Datum, LineFault, read_line};
+use outside_io::Clock;
+use std::alloc::Global;
+
+/// The most points that a batch has.
+pub(crate) const MOST_BATCH_POINTS: usize = 256;
+
+/// Why the lines that wait bring no further point.
+#[derive(Clone, Copy, Debug, PartialEq, Eq)]
+pub(crate) enum NoPoint {
+    /// No line waits.
+    NoLine,
+    /// The line is refused, or there is no memory for its point.
+    Refused(LineFault),
+    /// The line is too long.
+    Long,
+}
+
+/// Reads the first lines that wait as points, up to one that has none, or as many as a batch has.
+/// It takes that one too.
+pub(crate) fn read_points<C: Clock>(
+    alloc: Global,
+    clock: &C,
+    framer: &mut Framer,
+    points: &mut Vec<Datum>,
+) -> Result<(), NoPoint>
+    requires none { points.old.items ≡ [] }
+    ensures reads { ReadsPoints (C.moments clock.now) result framer.old framer.new points.new.items }
+    ensures few { length points.new.items ≤ 256 }
+{
+    while points.len() < MOST_BATCH_POINTS {
+        match read_next(alloc, clock, framer, points) {
+            Ok(()) => {}
+            Err(none) => return Err(none),
+        }
+    }
+    Ok(())
+}
+
+// Reads the next line that waits as a point, at the moment that the clock tells.
+fn read_next<C: Clock>(
+    alloc: Global,
+    clock: &C,
+    framer: &mut Framer,
+    points: &mut Vec<Datum>,
+) -> Result<(), NoPoint>
+    ensures reads { ReadsNext (C.moments clock.now) result framer.old framer.new points.old.items
+        points.new.items }
+    ensures open_line { framer.new.open_line ≡ framer.old.open_line }
+{
+    match framer.next_line() {
+        Some(Framed::Line) => read_point(alloc, clock, framer.line(), points),
+        Some(Framed::TooLong) => Err(NoPoint::Long),
+        None => Err(NoPoint::NoLine),
+    }
+}
+
+// Reads a line as a point.
+#[tactic(auto, using(crate::proofs::BatchLemmas::read_added))]
+fn read_point<C: Clock>(
+    alloc: Global,
+    clock: &C,
+    line: &[u8],
+    points: &mut Vec<Datum>,
+) -> Result<(), NoPoint>
+    ensures { ReadsPoint (C.moments clock.now) line.now result points.old.items points.new.items }
+{
+    match read_line(alloc, line, moment(clock)) {
+        Ok(datum) => add_point(points, datum),
+        Err(fault) => Err(NoPoint::Refused(fault)),
+    }
+}
+
+// Puts a point behind the others, unless there is no memory for it.
+fn add_point(points: &mut Vec<Datum>, datum: Datum) -> Result<(), NoPoint>
+    ensures { AddsPoint datum result points.old.items points.new.items }
+{
+    match points.push(datum) {
+        Ok(()) => Ok(()),
+        Err(_) => Err(NoPoint::Refused(LineFault::NoMemory)),
+    }
+}

@@ -1,0 +1,182 @@
+//! Serving the lines that wait, batch by batch.
+ghost use Rattle.std.specs.Prelude.{◌≡◌};
+
+use crate::batch::{MOST_BATCH_POINTS, NoPoint, read_points};
+use crate::session::{LineSession, MOST_CALL_ENTRIES};
+use line_frame::Framer;
+use line_service::{Stop, WaitingServer, serve_each};
+use metric_line::Datum;
+use outside_io::{Clock, Disk, Sink};
+use shared_store::Named;
+use std::mem;
+use std::sync::Wait;
+
+/// The fewest points that are put together, under the locks of all their classes.
+const FEWEST_TOGETHER: usize = 16;
+
+/// The most entries that a batch makes, and the room that the line behind it wants.
+const MOST_BATCH_ENTRIES: u64 = MOST_BATCH_POINTS as u64 + MOST_CALL_ENTRIES;
+
+impl<'a, R: Wait, D: Disk, N: Named, C: Clock> LineSession<'a, R, D, N, C> {
+    ghost use Rattle.std.specs.Prelude.{◌≡◌, ◌<◌, ◌≤◌, [], true, length, OnOk, IfErr, IfOk, Err};
+    ghost use Rattle.outside_io.specs.Frames.{CountsWrites};
+    ghost use Rattle.line_service.specs.declared.ends.Stop.TheVariants.{WriteFault};
+    ghost use Rattle.line_service.specs.Service.{StepOf, StopsAt, standing};
+    ghost use Rattle.line_service.specs.Standing.{ServesTo};
+    ghost use Rattle.shared_store.specs.Passes.{HasRoom};
+    ghost use Rattle.shared_store.specs.Pieces.{HasRoomFor};
+    ghost use Rattle.line_front.specs.Batches.{BatchServes, BatchStops, EndsBatch, HasBatchRoom, PutsAll, PutsFewer};
+    ghost use Rattle.line_front.specs.Sessions.{ServesLink, StopsLink};
+
+    // Hands out the buffer for the points of a batch.
+    fn take_buffer(&mut self) -> Vec<Datum>
+        ensures { self.new ≡ self.old }
+    {
+        mem::replace(&mut self.points, Vec::new(self.alloc))
+    }
+
+    // Keeps it for the next lines, without the points.
+    fn keep_buffer(&mut self, mut points: Vec<Datum>)
+        ensures { self.new ≡ self.old }
+    {
+        points.clear();
+        self.points = points;
+    }
+
+    // Serves the lines that wait: in batches while the pass has room for a whole one, and then one
+    // after the other.
+    fn serve_batches<K: Sink>(
+        &mut self,
+        framer: &mut Framer,
+        points: &mut Vec<Datum>,
+        out: &mut K,
+    ) -> Result<(), Stop>
+        ensures serves { OnOk result
+            (ServesTo (StepOf (ServesLink C.moments N.start N.passes)) framer.old
+            (standing K.Sink self.old out.old) framer.new (standing K.Sink self.new out.new)) }
+        ensures all { OnOk result (framer.new.waiting ≡ []) }
+        ensures stops { IfErr result
+            (λ stop. StopsAt (ServesLink C.moments N.start N.passes)
+            (StopsLink C.moments N.start N.passes) stop (standing K.Sink self.old out.old)
+            framer.old.waiting (standing K.Sink self.new out.new)) }
+        ensures writes { CountsWrites K.Sink out.old out.new (result ≡ Err WriteFault) }
+    {
+        while self.has_batch_room() {
+            match self.serve_batch(framer, points) {
+                Ok(true) => {}
+                Ok(false) => return Ok(()),
+                Err(stop) => return Err(stop),
+            }
+        }
+        serve_each(self, framer, out)
+    }
+
+    // Whether the pass has room for the entries of a batch and for the line behind it.
+    #[tactic(auto, using(crate::proofs::PutLemmas::has_batch_room))]
+    fn has_batch_room(&self) -> bool
+        ensures { result ≡ true → HasBatchRoom self.now.session.pass }
+    {
+        self.pass.left() >= MOST_BATCH_ENTRIES
+    }
+
+    // Serves a batch of the lines that wait: its points are put, and then the line behind them is
+    // counted that has none. Whether another line may wait.
+    fn serve_batch(&mut self, framer: &mut Framer, points: &mut Vec<Datum>) -> Result<bool, Stop>
+        requires room { HasBatchRoom self.old.session.pass }
+        ensures serves { IfOk result
+            (λ more. BatchServes (C.moments self.old.clock) N.start N.passes more framer.old
+            self.old.session framer.new self.new.session) }
+        ensures stops { IfErr result
+            (λ stop. BatchStops (C.moments self.old.clock) N.start N.passes stop
+            framer.old.waiting self.old.session self.new.session) }
+        ensures clock { self.new.clock ≡ self.old.clock }
+    {
+        points.clear();
+        let read = read_points(self.alloc, self.clock, framer, points);
+        match self.put_points(points.as_slice()) {
+            Ok(()) => self.end_batch(read),
+            Err(stop) => Err(stop),
+        }
+    }
+
+    // Counts the line that has no point, if there is one.
+    fn end_batch(&mut self, read: Result<(), NoPoint>) -> Result<bool, Stop>
+        ensures { EndsBatch read result self.old self.new }
+    {
+        match read {
+            Ok(()) => Ok(true),
+            Err(NoPoint::Refused(fault)) => match self.refuse(fault) {
+                Ok(()) => Ok(true),
+                Err(stop) => Err(stop),
+            },
+            Err(NoPoint::Long) => {
+                self.counts.count_long();
+                Ok(true)
+            }
+            Err(NoPoint::NoLine) => Ok(false),
+        }
+    }
+
+    // Puts the points of a batch in order.
+    fn put_points(&mut self, points: &[Datum]) -> Result<(), Stop>
+        requires room { HasRoomFor points.now self.old.session.pass }
+        ensures puts { OnOk result
+            (PutsAll N.start N.passes points.now self.old.session self.new.session) }
+        ensures stops { IfErr result
+            (λ stop. PutsFewer N.start N.passes stop points.now self.old.session self.new.session) }
+        ensures clock { self.new.clock ≡ self.old.clock }
+    {
+        if points.len() < FEWEST_TOGETHER {
+            self.put_each(points)
+        } else {
+            self.put_together(points)
+        }
+    }
+
+    // Puts them one by one.
+    fn put_each(&mut self, points: &[Datum]) -> Result<(), Stop>
+        requires room { HasRoomFor points.now self.old.session.pass }
+        ensures puts { OnOk result
+            (PutsAll N.start N.passes points.now self.old.session self.new.session) }
+        ensures stops { IfErr result
+            (λ stop. PutsFewer N.start N.passes stop points.now self.old.session self.new.session) }
+        ensures clock { self.new.clock ≡ self.old.clock }
+    {
+        for datum in points {
+            match self.put(datum) {
+                Ok(()) => {}
+                Err(stop) => return Err(stop),
+            }
+        }
+        Ok(())
+    }
+
+    // Puts them by one call of the store.
+    fn put_together(&mut self, points: &[Datum]) -> Result<(), Stop>
+        requires some { 0 < length points.now }
+        requires room { HasRoomFor points.now self.old.session.pass }
+        ensures puts { OnOk result
+            (PutsAll N.start N.passes points.now self.old.session self.new.session) }
+        ensures stops { IfErr result
+            (λ stop. PutsFewer N.start N.passes stop points.now self.old.session self.new.session) }
+        ensures clock { self.new.clock ≡ self.old.clock }
+    {
+        let puts = self
+            .store
+            .put_all(self.rt, self.alloc, &mut self.pass, points);
+        self.counts.count_puts(&puts);
+        if puts.done < points.len() as u64 {
+            return Err(Stop::NoMemory);
+        }
+        Ok(())
+    }
+}
+
+impl<'a, R: Wait, D: Disk, N: Named, C: Clock> WaitingServer for LineSession<'a, R, D, N, C> {
+    fn serve_waiting<K: Sink>(&mut self, framer: &mut Framer, out: &mut K) -> Result<(), Stop> {
+        let mut points = self.take_buffer();
+        let served = self.serve_batches(framer, &mut points, out);
+        self.keep_buffer(points);
+        served
+    }
+}
