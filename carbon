@@ -4,6 +4,10 @@
 here=$(cd "$(dirname "$0")" && pwd) || exit 1
 program=$here/crates/carbon/out/carbon
 
+# what the proofs of all crates take from nothing, and the longest chain of crates that wait for one another, in minutes
+PROCESSOR_MINUTES=120
+LONGEST_CHAIN=40
+
 is_stale() {
     [ ! -x "$program" ] && return 0
     newer=$(find "$here/crates.txt" "$here/crates" -name out -prune -o -type f -newer "$program" \
@@ -16,11 +20,16 @@ is_stale() {
 # passed on; its end stops nothing.
 serve() {
     exec 3<&0 4>&1
+    stopping=
+    trap 'stopping=1' TERM INT
     coproc server { trap '' TERM INT; exec "$program" "$@" >&4 3<&- 4>&-; }
     pid=$server_PID
     exec 5>&"${server[1]}"
-    trap '' PIPE
-    trap 'echo stop >&5' TERM INT
+    # a terminal that a background job may not read counts as an input at its end
+    trap '' PIPE TTIN
+    # the line end in front ends what the caller may have begun
+    trap 'printf "\nstop\n" >&5' TERM INT
+    [ -n "$stopping" ] && printf 'stop\n' >&5
     cat <&3 >&5 2>/dev/null &
     cat=$!
     while kill -0 "$pid" 2>/dev/null; do
@@ -32,13 +41,37 @@ serve() {
     exit "$status"
 }
 
+# Proves the crates side by side, and says after each how many are done. The last is that of the program.
+build() {
+    processors=$(nproc)
+    all=$(grep -c '^[a-z]' "$here/crates.txt")
+    minutes=$((PROCESSOR_MINUTES / processors))
+    [ "$minutes" -lt "$LONGEST_CHAIN" ] && minutes=$LONGEST_CHAIN
+    echo "carbon: building the program; each of $all crates is proved first, on $processors processors" >&2
+    echo "carbon: from nothing that takes about $minutes minutes" >&2
+    done=0
+    coproc proofs { cd "$here/crates" && exec setsid rt all check --jobs "$processors" 2>&1; }
+    rt=$proofs_PID
+    trap 'kill -- "-$rt" 2>/dev/null; exit 130' INT TERM
+    while read -r mark crate _ <&"${proofs[0]}"; do
+        [ "$mark" = == ] || continue
+        [ "$crate" = summary ] && break
+        done=$((done + 1))
+        echo "carbon: $done of $all: $crate" >&2
+        [ "$crate" = carbon ] && break
+    done
+    kill -- "-$rt" 2>/dev/null
+    wait "$rt" 2>/dev/null
+    trap - INT TERM
+    (cd "$here/crates/carbon" && rt run -- script </dev/null >/dev/null)
+}
+
 if is_stale; then
     if ! command -v rt >/dev/null 2>&1; then
         echo "carbon: the program is not built, and rt, the command of the Rattle kit, is not on PATH" >&2
         exit 127
     fi
-    echo "carbon: building the program; each crate is proved first, which takes some minutes the first time" >&2
-    if ! (cd "$here/crates/carbon" && rt run -- script </dev/null >/dev/null); then
+    if ! build; then
         echo "carbon: the program could not be built" >&2
         exit 1
     fi

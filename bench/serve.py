@@ -6,7 +6,7 @@ Usage: bench/serve.py [LINES]      (1,000,000 without a number)
 LINES lines of 10,000 metrics, a point a minute up to now, go to `./carbon serve`, which runs over a folder in memory and has the options that
 stand in COMMAND. Each row of lines is of a daemon of its own:
 
-  held back      one connection, while the disks fail, since a file stands in the place of the folder `data`: all points stay pending. Questions
+  held, 1 or 8   so many connections at once, while the disks fail, since a file stands in the place of the folder `data`: all points stay pending. Questions
                  for 60 of them are then answered from memory alone. Once the file is gone, all is drained
   1, 8           so many connections at once, while points are drained as they come. The last line is taken where all connections are closed by
                  the daemon. Then the questions, over a link that is kept: once while nothing else is done, and once while a connection brings
@@ -252,17 +252,17 @@ def stop_and_check(daemon, place, lines, stored):
     print("    all %d points are there after a start" % lines.count, flush=True)
 
 
-def run_held(count):
+def run_held(number, count):
     lines = Lines(count, int(time.time()))
     with folder() as place:
         daemon = Daemon(place)
         with open(os.path.join(place, "data"), "wb"):
             pass  # a file where the folder would be: every drain fails
-        pieces = lines.parts(1)
+        pieces = lines.parts(number)
         seconds, held = daemon.seconds(), daemon.held()
         took = send(daemon.line_port, pieces)
         seconds, held = daemon.seconds() - seconds, daemon.held() - held
-        row("held back", lines.count, took, "%.3f processor s" % seconds, "%.1f bytes a pending point" % (held / lines.count))
+        row("held, %d" % number, lines.count, took, "%.3f processor s" % seconds, "%.1f bytes a pending point" % (held / lines.count))
         ask_held(lines, Asker(daemon.http_port))
         seconds = daemon.seconds()
         os.remove(os.path.join(place, "data"))
@@ -322,7 +322,8 @@ def run_c(number, count):
 def main():
     count = int(sys.argv[1]) if len(sys.argv) > 1 else 1_000_000
     need_program()
-    run_held(count)
+    for number in 1, 8:
+        run_held(number, count)
     for number in 1, 8:
         run_connections(number, count)
         run_c(number, count)

@@ -9,3 +9,4 @@ pub mod MoveLemmas
 pub mod SpanLemmas
 pub mod StretchLemmas
 pub mod NearLemmas
+pub mod KnownLemmas

@@ -9,7 +9,7 @@ use Rattle.std.proofs.lemmas.List.Quantifiers.{position-Some}
 use Rattle.std.proofs.lemmas.List.Sums.{fails_before_first}
 use Rattle.ring_format.specs.Layout.{retention_of}
 use Rattle.ring_format.specs.declared.archive.Archive.{Archive}
-use Rattle.archive_update.specs.Batch.{home_of, is_home}
+use Rattle.archive_update.specs.Batch.{archive_for, is_home}
 use Rattle.archive_update.specs.Spans.{IsOldestOf}
 
 none_at : (p : Archive → Bool) (xs : List Archive) (k : ℕ) (d : Archive) → position p xs ≡ None → k < length xs → p (get_or xs k d) ≡ false
@@ -23,13 +23,13 @@ both a b x y e f = rw (e, f) refl
 -- a time is within the span of an archive exactly where the archive is the home of its points
 pub span_tells : (archives : List Archive) (archive now time since until : ℕ) (d : Archive) → archive < length archives → time < 2 ^ 32
     → since ≡ now - retention_of (get_or archives archive d) → IsOldestOf archives archive now until
-    → (nat_le since time && nat_lt time until) ≡ is_home archive (home_of archives now time)
-span_tells archives archive now time since until d within short is oldest = by (home_of archives now time) refl
+    → (nat_le since time && nat_lt time until) ≡ is_home archive (archive_for archives now time)
+span_tells archives archive now time since until d within short is oldest = by (archive_for archives now time) refl
   where
     reaches : Archive → Bool
     reaches a = nat_le now (time + retention_of a)
 
-    by : (home : Option ℕ) → home_of archives now time ≡ home → (nat_le since time && nat_lt time until) ≡ is_home archive home
+    by : (home : Option ℕ) → archive_for archives now time ≡ home → (nat_le since time && nat_lt time until) ≡ is_home archive home
     by None e =
         let far = none_at reaches archives archive d e within in
         let late : nat_le since time ≡ false = grind (arith, nat_tests) in

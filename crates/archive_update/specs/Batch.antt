@@ -33,8 +33,8 @@ with_writes archives rings i writes =
 -- ---- which points go where
 
 -- the first archive that reaches back far enough from `now`: none for a point that is older than all retentions; the finest for one of the future
-abbrev pub home_of : List Archive → ℕ → ℕ → Option ℕ
-home_of archives now time = position (λ archive. nat_le now (time + retention_of archive)) archives
+abbrev pub archive_for : List Archive → ℕ → ℕ → Option ℕ
+archive_for archives now time = position (λ archive. nat_le now (time + retention_of archive)) archives
 
 abbrev pub is_home : ℕ → Option ℕ → Bool
 is_home i None = false
@@ -42,7 +42,7 @@ is_home i (Some k) = k == i
 
 -- the points that go to archive `i`
 abbrev pub points_home : List Archive → ℕ → ℕ → List (ℕ × ℤ) → List (ℕ × ℤ)
-points_home archives now i points = filter (λ p. is_home i (home_of archives now p.0)) points
+points_home archives now i points = filter (λ p. is_home i (archive_for archives now p.0)) points
 
 -- the bucket of a moment: the last multiple of the step that is not after it
 abbrev pub bucket_of : ℕ → ℕ → ℕ
@@ -59,8 +59,8 @@ abbrev pub step_of : List Archive → ℕ → ℕ
 step_of archives i = unwrap_or (option_map (λ archive. archive.step) (slice_get archives i)) 0
 
 -- what the points write into their own archive `i`
-unfoldable pub own_writes : List Archive → ℕ → ℕ → List (ℕ × ℤ) → List (ℕ × ℤ)
-own_writes archives now i points = latest_of_each (step_of archives i) (points_home archives now i points)
+unfoldable pub bucket_writes : List Archive → ℕ → ℕ → List (ℕ × ℤ) → List (ℕ × ℤ)
+bucket_writes archives now i points = latest_of_each (step_of archives i) (points_home archives now i points)
 
 -- ---- from a finer archive to the next coarser one
 
@@ -106,8 +106,8 @@ rolled_up layout own rings i (suc left) =
 -- the points of archive `i` are written into it, and rolled up into the coarser ones
 abbrev pub with_own : LayoutValue → ℕ → List (ℕ × ℤ) → Rings → ℕ → Rings
 with_own layout now points rings i =
-    rolled_up layout (own_writes layout.archives now i points)
-    (with_writes layout.archives rings i (own_writes layout.archives now i points)) i (length layout.archives - (i + 1))
+    rolled_up layout (bucket_writes layout.archives now i points)
+    (with_writes layout.archives rings i (bucket_writes layout.archives now i points)) i (length layout.archives - (i + 1))
 
 -- the points of the first `n` archives, the finest first
 abbrev pub batch_of_first : LayoutValue → ℕ → List (ℕ × ℤ) → Rings → ℕ → Rings

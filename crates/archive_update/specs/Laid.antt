@@ -1,6 +1,7 @@
 -- Cells laid by a patch, and what they make of the archives.
-use Rattle.std.specs.Prelude.{◌≡◌, ◌≢◌, ◌⊎◌, ℕ, ℤ, pos, ◌%◌, ◌<◌, List, [], Some, slice_index}
+use Rattle.std.specs.Prelude.{◌≡◌, ◌≢◌, ◌⊎◌, ℕ, ℤ, pos, ◌%◌, ◌<◌, ◌≤◌, List, [], Some, slice_get, slice_index}
 use Rattle.ring_format.specs.declared.archive.Archive.{Archive}
+use Rattle.ring_format.specs.Layout.{LayoutValue}
 use Rattle.ring_format.specs.Patch.{IsPlace, PatchValue, cell_at}
 use Rattle.ring_archive.specs.Ring.{ReadsAs, Rings, base_of, ring_cell}
 use Rattle.archive_update.specs.Batch.{with_writes}
@@ -8,6 +9,12 @@ use Rattle.archive_update.specs.Batch.{with_writes}
 -- a positive multiple of a step
 abbrev pub IsBucketOf : ℕ → ℕ → Type 0
 IsBucketOf step bucket = (0 < bucket) × (bucket % step ≡ 0)
+
+-- this is the archive of a layout at a place
+pub record IsRing (layout : LayoutValue) (archive : ℕ) (ring : Archive) : Type 0 where
+  pub there : slice_get layout.archives archive ≡ Some ring
+  pub step : 1 ≤ ring.step
+  pub points : 1 ≤ ring.points
 
 -- the patches are of one file, and the later one lays a cell where the earlier did
 pub record IsAlike (old new : PatchValue) : Type 0 where

@@ -7,7 +7,7 @@ use Rattle.outside_io.specs.Image.{Image}
 use Rattle.ring_archive.specs.Ring.{ReadsAs, Rings, values_from}
 use Rattle.ring_archive.specs.View.{OnRing}
 use Rattle.ring_archive.specs.declared.view.RingView.{RingView}
-use Rattle.archive_update.specs.Batch.{batch_of_first, buckets_of_writes, itself, level_writes, own_writes, rolled_up, step_of, with_own, with_writes}
+use Rattle.archive_update.specs.Batch.{batch_of_first, buckets_of_writes, itself, level_writes, bucket_writes, rolled_up, step_of, with_own, with_writes}
 
 -- the known of so many values from a place on
 unfoldable pub known_from : List (Option ℤ) → ℕ → ℕ → List ℤ
@@ -99,4 +99,4 @@ pub record LaysIf (old new : PatchValue) (writes : List (ℕ × ℤ)) : Type 0 w
 
 -- the first `n` archives are the home of no point
 abbrev pub HasNoOwn : LayoutValue → ℕ → List (ℕ × ℤ) → ℕ → Type 0
-HasNoOwn layout now points n = (i : ℕ) → i < n → own_writes layout.archives now i points ≡ []
+HasNoOwn layout now points n = (i : ℕ) → i < n → bucket_writes layout.archives now i points ≡ []

@@ -6,12 +6,12 @@ ghost use Rattle.ring_format.specs.Patch.{IsPlace};
 ghost use Rattle.ring_archive.specs.Ring.{base_of};
 ghost use Rattle.ring_archive.specs.View.{IsThere, OnRing};
 ghost use Rattle.archive_update.specs.Batch.{step_of};
-ghost use Rattle.archive_update.specs.Laid.{IsAlike, IsBucketOf, IsCleared, IsLaid, IsZeroed, Lays, Prepares, Writes};
+ghost use Rattle.archive_update.specs.Laid.{IsAlike, IsBucketOf, IsCleared, IsLaid, IsRing, IsZeroed, Lays, Prepares, Writes};
 
 use fixed_num::Milli;
 use outside_io::Disk;
 use ring_archive::{RingFault, RingView};
-use ring_format::{CellWrite, NoMemory, Patch, slot_of};
+use ring_format::{Archive, CellWrite, NoMemory, Patch, slot_of};
 use std::alloc::Global;
 
 /// Writes values under their buckets into an archive, in order.
@@ -142,9 +142,10 @@ fn lay_all(
     ensures alike { IsAlike patch.old patch.new }
     ensures filled { OnOk result (patch.new.cells ≡ [] → writes.now ≡ []) }
 {
+    let ring = patch.layout().archive(archive);
     let mut later = base;
     for (bucket, value) in writes {
-        later = lay_value(patch, archive, later, *bucket, *value)?;
+        later = lay_value(patch, archive, ring, later, *bucket, *value)?;
     }
     Ok(later)
 }
@@ -153,18 +154,19 @@ fn lay_all(
 fn lay_value(
     patch: &mut Patch,
     archive: u32,
+    ring: Archive,
     base: u32,
     bucket: u32,
     value: Milli,
 ) -> Result<u32, NoMemory>
     requires archive { archive < length patch.old.layout.archives }
+    requires ring { IsRing patch.old.layout archive ring }
     requires bucket { IsBucketOf (step_of patch.old.layout.archives archive) bucket }
     ensures lays { IfOk result
         (λ later. Lays patch.old patch.new archive base later ((bucket, value) ∷ [])) }
     ensures alike { IsAlike patch.old patch.new }
     ensures filled { OnOk result (patch.new.cells ≢ []) }
 {
-    let ring = patch.layout().archive(archive);
     let slot = slot_of(base, bucket, ring);
     lay_cell(patch, archive, slot, bucket, value)?;
     if slot == 0 {

@@ -1,7 +1,7 @@
 //! What points write into their own archive.
 ghost use Rattle.std.specs.Prelude.{◌≡◌, ◌<◌, ◌≤◌, ◌-◌, true, All, IfOk, OnOk, length};
 ghost use Rattle.fixed_num.specs.Moment.{is_moment};
-ghost use Rattle.archive_update.specs.Batch.{bucket_of, own_writes, step_of};
+ghost use Rattle.archive_update.specs.Batch.{bucket_of, bucket_writes, step_of};
 ghost use Rattle.archive_update.specs.Buckets.{IsOwn, with_latest};
 ghost use Rattle.archive_update.specs.Spans.{IsOldestOf};
 ghost use Rattle.ring_format.specs.Layout.{retention_of};
@@ -12,8 +12,8 @@ use std::alloc::{AllocError, Global};
 
 /// What points in rising time write into the archive: of those that it is the home of, the latest in each
 /// bucket.
-#[tactic(auto, unfolding(crate::specs::Batch::own_writes))]
-pub(crate) fn own_writes(
+#[tactic(auto, unfolding(crate::specs::Batch::bucket_writes))]
+pub(crate) fn bucket_writes(
     alloc: Global,
     layout: &Layout,
     archive: u32,
@@ -23,7 +23,7 @@ pub(crate) fn own_writes(
     requires archive { archive < length layout.now.archives }
     requires moments { All (λ p. is_moment p.0 ≡ true) points.now }
     ensures writes { IfOk result
-        (λ writes. writes.items ≡ own_writes layout.now.archives now archive points.now) }
+        (λ writes. writes.items ≡ bucket_writes layout.now.archives now archive points.now) }
     ensures buckets { IfOk result
         (λ writes. All (λ write. IsOwn
         (step_of layout.now.archives archive) write.0) writes.items) }
@@ -71,14 +71,14 @@ struct HomeSpan {
 
 impl HomeSpan {
     ghost use Rattle.std.specs.Prelude.{◌≡◌, ◌<◌, ◌^◌, ℕ, length};
-    ghost use Rattle.archive_update.specs.Batch.{home_of, is_home};
+    ghost use Rattle.archive_update.specs.Batch.{archive_for, is_home};
     ghost use Rattle.archive_update.specs.Spans.{is_within};
 
     // The times from the oldest that the archive reaches back to from `now`, to the oldest that a finer one does.
     fn new(archives: &[Archive], archive: usize, now: u32) -> HomeSpan
         requires { archive < length archives.now }
         ensures { (time : ℕ) → time < 2 ^ 32
-            → is_within time result ≡ is_home archive (home_of archives.now now time) }
+            → is_within time result ≡ is_home archive (archive_for archives.now now time) }
     {
         HomeSpan {
             since: oldest_reached(archives[archive], now),

@@ -5,12 +5,12 @@ ghost use Rattle.fixed_num.specs.Moment.{is_moment};
 ghost use Rattle.point_cache.specs.Points.{IsRising};
 ghost use Rattle.ring_archive.specs.Ring.{ReadsAs, Rings};
 ghost use Rattle.ring_archive.specs.View.{IsThere, OnRing};
-ghost use Rattle.archive_update.specs.Batch.{batch, home_of, own_writes};
+ghost use Rattle.archive_update.specs.Batch.{batch, archive_for, bucket_writes};
 ghost use Rattle.archive_update.specs.Laid.{IsAlike};
 ghost use Rattle.archive_update.specs.Rolled.{HasNoOwn, IsUnlaid, LaysIf, Plans, PlansFirst};
 
 use crate::laying::write_values;
-use crate::own::own_writes;
+use crate::own::bucket_writes;
 use crate::rolling::roll_up;
 use fixed_num::Milli;
 use outside_io::Disk;
@@ -48,7 +48,7 @@ pub fn plan<D: Disk>(
     ensures alike { MatchResult result (IsAlike patch) (λ refusal. IsAlike patch refusal.0) }
     ensures cells { IfOk result
         (λ new. new.cells ≡ []
-        ↔ All (λ p. home_of view.now.layout.archives now p.0 ≡ None) points.now) }
+        ↔ All (λ p. archive_for view.now.layout.archives now p.0 ≡ None) points.now) }
     ensures frame { ReadsOnly D.Disk disk.old disk.new
         (IsErrAnd result (λ refusal. refusal.1 ≡ RingFault.DiskFault)) }
 {
@@ -109,10 +109,10 @@ fn plan_archive<D: Disk>(
         (Plans view.now.layout now points.now patch.old patch.new archive)) }
     ensures alike { IsAlike patch.old patch.new }
     ensures cells { OnOk result
-        (LaysIf patch.old patch.new (own_writes view.now.layout.archives now archive points.now)) }
+        (LaysIf patch.old patch.new (bucket_writes view.now.layout.archives now archive points.now)) }
     ensures frame { ReadsOnly D.Disk disk.old disk.new (IsErrOf result RingFault.DiskFault) }
 {
-    let own = own_writes(alloc, &view.layout, archive, now, points)?;
+    let own = bucket_writes(alloc, &view.layout, archive, now, points)?;
     if own.is_empty() {
         return Ok(());
     }

@@ -1,9 +1,10 @@
 //! Values of an archive rolled up into the coarser ones.
-ghost use Rattle.std.specs.Prelude.{◌≡◌, ◌<◌, ◌≤◌, ◌↔◌, ◌+◌, ◌-◌, ◌*◌, ◌/◌, ◌%◌, ◌++◌, All, IfOk, IsErrOf, IsTrue, OnOk, length, map, max, slice_index};
+ghost use Rattle.std.specs.Prelude.{◌≡◌, ◌<◌, ◌≤◌, ◌↔◌, ◌+◌, ◌-◌, ◌*◌, ◌/◌, ◌%◌, ◌++◌, [], ◌∷◌, All, IfOk, IsErrOf, IsTrue, OnOk, drop, length, map, max, slice_index, take};
+ghost use Rattle.std.specs.List.{filter_map};
 ghost use Rattle.outside_io.specs.Frames.{ReadsOnly};
 ghost use Rattle.ring_archive.specs.Ring.{ReadsAs, Rings};
 ghost use Rattle.ring_archive.specs.View.{IsThere, OnRing};
-ghost use Rattle.archive_update.specs.Batch.{bucket_of, buckets_of_writes, level_writes, rolled_from, step_of, value_from_finer};
+ghost use Rattle.archive_update.specs.Batch.{bucket_of, buckets_of_writes, itself, level_writes, rolled_from, step_of, value_from_finer};
 ghost use Rattle.archive_update.specs.Buckets.{AreShown, IsOwn, IsShown};
 ghost use Rattle.archive_update.specs.Laid.{IsAlike};
 ghost use Rattle.archive_update.specs.Rolled.{AreNear, HasCoarser, HoldsStretch, IsInStretch, IsRead, IsReached, Level, RollsUp, given, known_from, most_values, places_in};
@@ -149,9 +150,10 @@ fn level_writes<D: Disk>(
         (step_of view.now.layout.archives (finer + 1)) write.0) writes.items) }
     ensures frame { ReadsOnly D.Disk disk.old disk.new (IsErrOf result RingFault.DiskFault) }
 {
-    let places = places_of(&view.layout, finer);
+    let places = points_per_bucket(&view.layout, finer);
     let step = view.layout.archive(finer + 1).step;
     let mut writes = Vec::new(alloc);
+    let mut known = Vec::new(alloc);
     let mut stretch = Stretch {
         first: 0,
         count: 0,
@@ -159,7 +161,7 @@ fn level_writes<D: Disk>(
     };
     for (k, bucket) in buckets.iter().enumerate() {
         stretch = stretch_at(alloc, view, disk, patch, finer, &buckets[k..], stretch)?;
-        let value = value_in(alloc, &view.layout, places, step, &stretch, *bucket)?;
+        let value = value_in(&mut known, &view.layout, places, step, &stretch, *bucket)?;
         push_given(&mut writes, *bucket, value)?;
     }
     Ok(writes)
@@ -232,7 +234,7 @@ fn read_stretch<D: Disk>(
     ensures near { IfOk result (λ stretch. AreNear view.now.layout finer stretch.count) }
     ensures frame { ReadsOnly D.Disk disk.old disk.new (IsErrOf result RingFault.DiskFault) }
 {
-    let places = places_of(&view.layout, finer);
+    let places = points_per_bucket(&view.layout, finer);
     let step = view.layout.archive(finer + 1).step;
     let most = most_near(view.layout.archive(finer).points, places);
     let first = buckets[0];
@@ -275,9 +277,9 @@ fn buckets_near(step: u32, most: u32, buckets: &[u32]) -> u32
 }
 
 // The value that a bucket of a coarser archive with this step gets from a stretch, of which it covers so many
-// places.
+// places. The known of them are gathered in `known`, whose room serves one bucket after another.
 fn value_in(
-    alloc: Global,
+    known: &mut Vec<Milli>,
     layout: &Layout,
     places: u32,
     step: u32,
@@ -293,12 +295,12 @@ fn value_in(
         ((bucket - stretch.now.first) / step * places) places) places) }
 {
     let at = ((bucket - stretch.first) / step) as usize * places as usize;
-    let known = known_from(alloc, &stretch.values, at, places)?;
-    Ok(rolled_from(layout, &known, places))
+    gather_known(known, &stretch.values, at, places)?;
+    Ok(rolled_from(layout, known, places))
 }
 
 // How many places of an archive one of the archive behind it covers.
-fn places_of(layout: &Layout, finer: u32) -> u32
+fn points_per_bucket(layout: &Layout, finer: u32) -> u32
     requires finer { HasCoarser layout.now finer }
     ensures value { result ≡ places_in layout.now finer }
     ensures exact { result * step_of layout.now.archives finer
@@ -311,23 +313,55 @@ fn places_of(layout: &Layout, finer: u32) -> u32
     layout.archive(finer + 1).step / layout.archive(finer).step
 }
 
-// The known of so many values from a place on.
+// Gathers the known of so many values from a place on, in place of what was gathered before.
 #[tactic(auto, unfolding(crate::specs::Rolled::known_from))]
-fn known_from(
-    alloc: Global,
+fn gather_known(
+    known: &mut Vec<Milli>,
     values: &[Option<Milli>],
     at: usize,
     places: u32,
-) -> Result<Vec<Milli>, AllocError>
-    ensures value { IfOk result (λ known. known.items ≡ known_from values.now at places) }
-    ensures few { IfOk result (λ known. length known.items ≤ places) }
+) -> Result<(), AllocError>
+    ensures value { OnOk result (known.new.items ≡ known_from values.now at places) }
+    ensures few { OnOk result (length known.new.items ≤ places) }
 {
-    values
-        .iter()
-        .skip(at)
-        .take(places as usize)
-        .filter_map(|value| *value)
-        .collect(alloc)
+    known.clear();
+    let part = part_of(values, at, places as usize);
+    for value in part {
+        push_known(known, *value)?;
+    }
+    Ok(())
+}
+
+// Adds a value, where it is known.
+fn push_known(known: &mut Vec<Milli>, value: Option<Milli>) -> Result<(), AllocError>
+    ensures { OnOk result
+        (known.new.items ≡ known.old.items ++ filter_map itself (value ∷ [])) }
+{
+    if let Some(value) = value {
+        known.push(value)?;
+    }
+    Ok(())
+}
+
+// So many values from a place on, or as many as there are.
+fn part_of(values: &[Option<Milli>], at: usize, places: usize) -> &[Option<Milli>]
+    ensures { result.now ≡ take places (drop at values.now) }
+{
+    let rest = rest_of(values, at);
+    if rest.len() <= places {
+        return rest;
+    }
+    &rest[..places]
+}
+
+// The values from a place on.
+fn rest_of(values: &[Option<Milli>], at: usize) -> &[Option<Milli>]
+    ensures { result.now ≡ drop at values.now }
+{
+    if at >= values.len() {
+        return &values[..0];
+    }
+    &values[at..]
 }
 
 // The value of known places among so many, where enough are known.

@@ -2,6 +2,7 @@
 ghost use Rattle.std.specs.Prelude.{◌≡◌};
 
 use outside_io::{Net, NetFailed};
+use std::io::ErrorKind;
 use tcp_net::{NetCloser, TcpLink, TcpNet};
 
 /// The two ports of a server. A command that serves nothing has none, and its net binds nothing.
@@ -60,8 +61,11 @@ pub(crate) fn close_at_stop(rt: HostRuntime, closer: NetCloser) {
     for _ in 0..u64::MAX {
         let mut line = String::new(rt.alloc());
         match rt.read_line(&mut line) {
-            Ok(count) if 0 < count => {}
-            _ => return,
+            Ok(0) => return,
+            Ok(_) => {}
+            // a line that is no text is passed over
+            Err(error) if error.kind() == ErrorKind::InvalidData => continue,
+            Err(_) => return,
         }
         if line.as_str().trim_end() == "stop" {
             let _ = eprintln!(rt; "carbon: stopping");

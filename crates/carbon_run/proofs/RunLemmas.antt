@@ -22,12 +22,13 @@ use Rattle.shard_core.specs.declared.fault.StartFault.TheVariants.{NoMemory}
 use Rattle.shard_core.specs.declared.shard.Shard.{Shard}
 use Rattle.shard_set.specs.Disks.{disk_faults, faults_at, told_at, told_of}
 use Rattle.shard_set.specs.Opening.{StartsAll}
-use Rattle.shard_set.specs.OpeningState.{AreReadyShards, opening_of}
+use Rattle.shard_core.specs.Started.{AreReadyShards}
+use Rattle.shard_set.specs.OpeningState.{opening_of}
 use Rattle.shard_set.proofs.StateLemmas.{opens_run}
 use Rattle.shared_history.specs.Parts.{HasSeen, PassValue, PassesOfTable}
 use Rattle.shared_store.specs.Closes.{Closes, EndsAs, HasSettled}
 use Rattle.shared_store.specs.Passes.{settled_in}
-use Rattle.shared_store.specs.Starts.{AreFreshShards}
+use Rattle.shard_core.specs.Started.{AreReadyShards}
 use Rattle.shared_store.specs.Tallies.{capped, is_fault}
 use Rattle.shared_store.specs.declared.close.Closed.{Closed}
 use Rattle.carbon_script.specs.Alone.{IsOnly}
@@ -312,6 +313,6 @@ started {d = d} settings given shards streams answer starts (inr came) = inr (re
 })
 
 -- shards that are ready are those that a store starts from
-pub fresh_from : {D : Type 0} {d : Ghosts D} (told : ℕ → Option Image) (start : State) (earlier : ℕ → ℕ) (shards : List (Shard D d)) → AreReadyShards told start earlier shards → AreFreshShards told start earlier shards
+pub fresh_from : {D : Type 0} {d : Ghosts D} (told : ℕ → Option Image) (start : State) (earlier : ℕ → ℕ) (shards : List (Shard D d)) → AreReadyShards told start earlier shards → AreReadyShards told start earlier shards
 fresh_from told start earlier shards ready k shard there =
     let one = ready k shard there in record { class = one.class; empty = one.empty; holds = one.holds; faults = one.faults }

@@ -22,23 +22,28 @@ use Rattle.shared_store.specs.Tallies.{is_fault, tally_of}
 use Rattle.shared_store.specs.declared.drain_end.DrainEnd.{DrainEnd}
 use Rattle.shared_store.specs.declared.drain_end.DrainEnd.TheVariants as end
 use Rattle.shared_store.specs.declared.tally.Tally.{Tally}
-use Rattle.carbon_serve.specs.Serves.{EndsServed, Serves}
+use Rattle.carbon_serve.specs.Serves.{EndsByFault, EndsServed, Serves}
 use Rattle.carbon_run.specs.Runs.{Answer, NoStart, Streams}
 use Rattle.carbon_run.specs.Serves.{LacksPort, NoPort, ServeRuns, Served, ServesAll, ServesShards, TellsServed, unread}
 use Rattle.carbon_run.proofs.RunLemmas.{back_same, length_back, less_rose, less_told}
 
 -- ---- earlier counts of failed calls
 
-ends_earlier : {D : Type 0} (d : Ghosts D) (told : ℕ → Option Image) (start : State) (earlier earlier' : ℕ → ℕ) (passes : ℕ) (reason : DrainEnd) (history : List Entry) (disks : List D) → ((k : ℕ) → earlier' k ≤ earlier k)
-    → EndsServed d told start earlier passes reason history disks → EndsServed d told start earlier' passes reason history disks
-ends_earlier d told start earlier earlier' passes (end.Done count) history disks later ends = ends
-ends_earlier d told start earlier earlier' passes (end.DiskFault class) history disks later ends = record {
+fault_earlier : {D : Type 0} (d : Ghosts D) (earlier earlier' : ℕ → ℕ) (passes class : ℕ) (history : List Entry) (disks : List D) → ((k : ℕ) → earlier' k ≤ earlier k)
+    → EndsByFault d earlier passes class history disks → EndsByFault d earlier' passes class history disks
+fault_earlier d earlier earlier' passes class history disks later ends = record {
   pass = ends.pass;
   is = ends.is;
   before = ends.before;
   last = ends.last;
   cause = less_rose (earlier class) (earlier' class) (disk_faults d.faults disks class) (later class) ends.cause;
 }
+
+ends_earlier : {D : Type 0} (d : Ghosts D) (told : ℕ → Option Image) (start : State) (earlier earlier' : ℕ → ℕ) (passes : ℕ) (reason : DrainEnd) (history : List Entry) (disks : List D) → ((k : ℕ) → earlier' k ≤ earlier k)
+    → EndsServed d told start earlier passes reason history disks → EndsServed d told start earlier' passes reason history disks
+ends_earlier d told start earlier earlier' passes (end.Done count) history disks later ends = ends
+ends_earlier d told start earlier earlier' passes (end.DiskFault class) history disks later ends =
+    (fault_earlier d earlier earlier' passes class history disks later ends.0, ends.1)
 ends_earlier d told start earlier earlier' passes end.Spent history disks later ends = ends
 ends_earlier d told start earlier earlier' passes end.NoMemory history disks later ends = ends
 

@@ -2,6 +2,7 @@
 #![tactic(auto)]
 
 mod conf;
+mod fault_lines;
 mod line;
 mod report;
 mod rule_line;
@@ -9,7 +10,6 @@ mod samples;
 mod scripts;
 mod serving;
 mod tally_line;
-mod telling;
 mod top;
 
 pub use report::Report;

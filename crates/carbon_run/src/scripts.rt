@@ -3,7 +3,8 @@ ghost use Rattle.std.specs.Prelude.{◌≡◌, ◌⊎◌, ◌<◌, ◌≤◌, �
 ghost use Rattle.outside_io.specs.Frames.{CountsReads, CountsWrites};
 ghost use Rattle.shard_set.specs.Disks.{faults_at, told_at};
 ghost use Rattle.shard_set.specs.Opening.{settings_of};
-ghost use Rattle.shard_set.specs.OpeningState.{AreReadyShards, opening_of};
+ghost use Rattle.shard_core.specs.Started.{AreReadyShards};
+ghost use Rattle.shard_set.specs.OpeningState.{opening_of};
 ghost use Rattle.sample_text.specs.Sources.{left_of};
 ghost use Rattle.shared_history.specs.Parts.{AreNewPasses, IsNewPass};
 ghost use Rattle.carbon_script.specs.Alone.{IsOnly};
@@ -13,7 +14,9 @@ ghost use Rattle.carbon_run.specs.Texts.{no_memory_line};
 ghost use Rattle.carbon_run.specs.Stores.{RunsShards};
 
 use crate::Report;
-use crate::telling::{tell_damaged, tell_disk_fault, tell_limit, tell_no_memory, tell_read_fault};
+use crate::fault_lines::{
+    tell_damaged, tell_disk_fault, tell_limit, tell_no_memory, tell_read_fault,
+};
 use carbon_script::{ScriptEnd, Scripted as ServedScript, script, script_behind};
 use metric_path::CLASSES;
 use outside_io::{Disk, Sink, Source};

@@ -1,10 +1,11 @@
 //! Servers over networks in memory.
 ghost use Rattle.std.specs.Prelude.{◌≡◌, IfOk, vec_len};
 
-use crate::run;
-use gate_io::{Flag, Gate, GateDisk, GateLink, MemNet, Sent};
-use outside_io::{FixedClock, MemDisk, MemSink, MemSource};
+use crate::{Report, run};
+use gate_io::{Bound, Flag, Gate, GateDisk, GateLink, MemNet, Sent};
+use outside_io::{Disk, FixedClock, MemDisk, MemSink, MemSource};
 use std::alloc::{AllocError, Global};
+use std::mem;
 use std::process::Abort;
 use std::sync::Wait;
 use std::test::Fail;
@@ -69,8 +70,9 @@ fn run_server<R: Threads + Wait + Clock + Send + Sync + Drop>(
     disks: Vec<GateDisk<R>>,
     net: &mut MemNet<GateLink<R>, R>,
     out: &mut MemSink,
-) -> Result<u8, AllocError>
+) -> Result<Report<GateDisk<R>>, AllocError>
     requires { vec_len disks ≡ 16 }
+    ensures { IfOk result (λ report. vec_len report.disks ≡ 16) }
 {
     let mut input = MemSource::new(alloc, Vec::new(alloc));
     let mut conf: GateDisk<R> = GateDisk::new(MemDisk::new(alloc, 0));
@@ -79,7 +81,7 @@ fn run_server<R: Threads + Wait + Clock + Send + Sync + Drop>(
     let report = run(
         rt, alloc, &words, &mut input, out, &mut conf, disks, &clock, net,
     );
-    Ok(report.status)
+    Ok(report)
 }
 
 fn assert_served<R: Threads + Wait + Abort + Clock + Send + Sync + Drop>(
@@ -91,8 +93,8 @@ fn assert_served<R: Threads + Wait + Abort + Clock + Send + Sync + Drop>(
     text: &[u8],
 ) -> Result<(), Fail> {
     let mut out = MemSink::new(alloc);
-    let came = run_server(rt, alloc, words, sixteen_disks(alloc)?, net, &mut out)?;
-    assert!(rt; came == status);
+    let report = run_server(rt, alloc, words, sixteen_disks(alloc)?, net, &mut out)?;
+    assert!(rt; report.status == status);
     assert!(rt; out.bytes() == text, "{words}");
     Ok(())
 }
@@ -124,6 +126,35 @@ fn a_server_without_ports_tells_so(rt: HostRuntime) -> Result<(), Fail> {
         9,
         b"carbon: no port\n",
     )
+}
+
+#[test]
+fn the_words_say_which_ports_are_opened_and_for_how_many_links(
+    rt: HostRuntime,
+) -> Result<(), Fail> {
+    let alloc = rt.alloc();
+    let table = [
+        ("serve", 2003, 8080, 0),
+        ("serve --line-port 1 --http-port=2 --links 3", 1, 2, 3),
+    ];
+    for (words, line_port, http_port, links) in table {
+        let mut net = MemNet::new(rt, Vec::new(alloc), Vec::new(alloc));
+        assert_served(
+            &rt,
+            alloc,
+            words,
+            &mut net,
+            0,
+            b"stored 0 replaced 0 full 0 drains 0\n",
+        )?;
+        let bound = Bound {
+            line_port,
+            http_port,
+            links,
+        };
+        assert!(rt; net.bound() == Some(bound), "{words}");
+    }
+    Ok(())
 }
 
 #[test]
@@ -236,15 +267,105 @@ fn the_drainer_writes_while_links_are_served(rt: HostRuntime) -> Result<(), Fail
     http.push(
         link(rt, alloc, NO_ROUTE, &sent)?
             .writing_at(gate)
-            .marking(1, replied),
+            .marking(NOT_FOUND.len(), replied),
     )?;
     let lines = line_links(rt, alloc, &[b"a.b 1.5 1700000000\n".as_slice()])?;
     let mut net = MemNet::new(rt, lines, http);
     let mut out = MemSink::new(alloc);
-    let status = run_server(&rt, alloc, "serve", disks, &mut net, &mut out)?;
-    assert!(rt; status == 0);
+    let report = run_server(&rt, alloc, "serve", disks, &mut net, &mut out)?;
+    assert!(rt; report.status == 0);
     assert!(rt; out.bytes() == b"stored 1 replaced 0 full 0 drains 1\n".as_slice());
     assert!(rt; sent.are(&rt, NOT_FOUND));
+    Ok(())
+}
+
+// A link that brings a line of class 3 once a flag is up, and one behind it, which puts another flag up as it is read: with one receiver, once
+// that line was put.
+fn links_behind<R: Wait + Clock + Copy + Drop>(
+    rt: R,
+    alloc: Global,
+    begun: Flag,
+    put: Flag,
+) -> Result<Vec<GateLink<R>>, AllocError> {
+    let sent = Sent::new(alloc)?;
+    let opened = Flag::new(alloc)?;
+    opened.raise();
+    let wait = Gate::new(rt, Flag::new(alloc)?, begun);
+    let tell = Gate::new(rt, put, opened);
+    let mut links = Vec::new(alloc);
+    links.push(link(rt, alloc, b"d 2 1700000000\n", &sent)?.reading_at(wait))?;
+    links.push(link(rt, alloc, b"", &sent)?.reading_at(tell))?;
+    Ok(links)
+}
+
+// No call failed of the disk of class 12, which would have waited in vain.
+fn assert_none_failed<R: Clock + Drop>(rt: &impl Abort, report: &Report<GateDisk<R>>) {
+    assert!(rt; report.status == 0);
+    assert!(rt; report.disks.get(12).is_some_and(|disk| disk.faults() == 0));
+}
+
+#[test]
+fn a_point_is_put_while_the_disk_of_another_class_writes(rt: HostRuntime) -> Result<(), Fail> {
+    let alloc = rt.alloc();
+    let writing = Flag::new(alloc)?;
+    let put = Flag::new(alloc)?;
+    let disks = waiting_disks(alloc, Gate::new(rt, writing.share()?, put.share()?))?;
+    let mut lines = line_links(rt, alloc, &[b"a.b 1.5 1700000000\n".as_slice()])?;
+    lines.append(&mut links_behind(rt, alloc, writing, put)?)?;
+    let mut net = MemNet::new(rt, lines, Vec::new(alloc));
+    let mut out = MemSink::new(alloc);
+    let report = run_server(&rt, alloc, "serve --receivers 1", disks, &mut net, &mut out)?;
+    assert_none_failed(&rt, &report);
+    assert!(rt; out.bytes() == b"stored 2 replaced 0 full 0 drains 2\n".as_slice());
+    Ok(())
+}
+
+const ASKED: &[u8] =
+    b"GET /render?target=a.b&from=1699999930&until=1700000030 HTTP/1.1\r\nConnection: close\r\n\r\n";
+
+const ANSWER: &[u8] =
+    b"HTTP/1.1 200 OK\r\nContent-Type: application/json\r\nContent-Length: 54\r\nConnection: close\r\n\r\n[{\"target\": \"a.b\", \"datapoints\": [[1.5, 1699999980]]}]";
+
+// Disks that a server left which drained a point of class 12. The read behind that of its file's head waits.
+fn reading_disks<R: Threads + Wait + Clock + Copy + Send + Sync + Drop>(
+    rt: R,
+    alloc: Global,
+    gate: Gate<R>,
+) -> Result<Vec<GateDisk<R>>, AllocError>
+    ensures { IfOk result (λ disks. vec_len disks ≡ 16) }
+{
+    let lines = line_links(rt, alloc, &[b"a.b 1.5 1700000000\n".as_slice()])?;
+    let mut net = MemNet::new(rt, lines, Vec::new(alloc));
+    let mut out = MemSink::new(alloc);
+    let report = run_server(
+        &rt,
+        alloc,
+        "serve",
+        sixteen_disks(alloc)?,
+        &mut net,
+        &mut out,
+    )?;
+    let mut disks = report.disks;
+    let disk = mem::replace(&mut disks[12], GateDisk::new(MemDisk::new(alloc, 0)));
+    disks[12] = disk.reading_at(1, gate);
+    Ok(disks)
+}
+
+#[test]
+fn a_point_is_put_while_a_question_reads_another_class(rt: HostRuntime) -> Result<(), Fail> {
+    let alloc = rt.alloc();
+    let reading = Flag::new(alloc)?;
+    let put = Flag::new(alloc)?;
+    let disks = reading_disks(rt, alloc, Gate::new(rt, reading.share()?, put.share()?))?;
+    let sent = Sent::new(alloc)?;
+    let mut http = Vec::new(alloc);
+    http.push(link(rt, alloc, ASKED, &sent)?)?;
+    let mut net = MemNet::new(rt, links_behind(rt, alloc, reading, put)?, http);
+    let mut out = MemSink::new(alloc);
+    let report = run_server(&rt, alloc, "serve --receivers 1", disks, &mut net, &mut out)?;
+    assert_none_failed(&rt, &report);
+    assert!(rt; sent.are(&rt, ANSWER));
+    assert!(rt; out.bytes() == b"stored 1 replaced 0 full 0 drains 1\n".as_slice());
     Ok(())
 }
 
@@ -270,8 +391,8 @@ fn names_and_values_are_told_over_one_link(rt: HostRuntime) -> Result<(), Fail> 
     let lines = line_links(rt, alloc, &[b"a.b 1.5 1700000000\n".as_slice()])?;
     let mut net = MemNet::new(rt, lines, http);
     let mut out = MemSink::new(alloc);
-    let status = run_server(&rt, alloc, "serve", disks, &mut net, &mut out)?;
-    assert!(rt; status == 0);
+    let report = run_server(&rt, alloc, "serve", disks, &mut net, &mut out)?;
+    assert!(rt; report.status == 0);
     assert!(rt; out.bytes() == b"stored 1 replaced 0 full 0 drains 1\n".as_slice());
     assert!(rt; sent.are(&rt, BROWSED_REPLIES));
     Ok(())

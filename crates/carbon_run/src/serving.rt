@@ -5,15 +5,16 @@ ghost use Rattle.carbon_serve.specs.Crews.{IsNewCrew};
 ghost use Rattle.outside_io.specs.Frames.{CountsWrites};
 ghost use Rattle.shard_set.specs.Disks.{faults_at, told_at};
 ghost use Rattle.shard_set.specs.Opening.{settings_of};
-ghost use Rattle.shard_set.specs.OpeningState.{AreReadyShards, opening_of};
+ghost use Rattle.shard_core.specs.Started.{AreReadyShards};
+ghost use Rattle.shard_set.specs.OpeningState.{opening_of};
 ghost use Rattle.shared_store.specs.Starts.{IsFresh};
 ghost use Rattle.carbon_run.specs.Runs.{TellsAlone, answer_of};
 ghost use Rattle.carbon_run.specs.Serves.{LacksPort, ServeRuns, ServesAll, ServesShards, TellsServed, unread};
 ghost use Rattle.carbon_run.specs.Texts.{no_port_line};
 
 use crate::Report;
+use crate::fault_lines::{tell_disk_fault, tell_limit, tell_no_memory, tell_no_port, tell_tally};
 use crate::scripts::{report_no_memory, tell_refusal};
-use crate::telling::{tell_disk_fault, tell_limit, tell_no_memory, tell_no_port, tell_tally};
 use carbon_serve::{Crew, Served, serve};
 use carbon_words::ServeOptions;
 use metric_path::CLASSES;

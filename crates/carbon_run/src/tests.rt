@@ -1,8 +1,8 @@
 //! What no case of `carbon_cases` can say: lines about section numbers that no file reaches, and a run over real folders.
 ghost use Rattle.std.specs.Prelude.{◌≡◌, IfOk, vec_len};
 
+use crate::fault_lines::{tell_conf_fault, tell_rule_fault};
 use crate::run;
-use crate::telling::{tell_conf_fault, tell_rule_fault};
 use outside_io::{ClosedNet, FixedClock, FolderDisk, MemSink, MemSource};
 use ring_format::LayoutFault;
 use schema_rules::{RuleCause, RuleFile};

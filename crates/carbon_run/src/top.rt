@@ -7,10 +7,10 @@ ghost use Rattle.carbon_run.specs.Runs.{NoCommand, NoWords, TellsConf, TellsWord
 
 use crate::Report;
 use crate::conf::{ConfFault, read_rules};
+use crate::fault_lines::{tell_conf_fault, tell_no_memory, tell_rule_fault, tell_usage};
 use crate::samples::run_sample;
 use crate::scripts::run_script;
 use crate::serving::run_server;
-use crate::telling::{tell_conf_fault, tell_no_memory, tell_rule_fault, tell_usage};
 use carbon_words::{Command, Options, WordsFault, read_words};
 use outside_io::{Clock, Disk, Net, Sink, Source};
 use schema_rules::Rules;

@@ -18,16 +18,13 @@ use outside_io::{Disk, Sink};
 use point_cache::Put;
 use render_plan::RenderPlan;
 use shared_history::Pass;
-use shared_store::{DrainEnd, Named, Store};
+use shared_store::{DrainEnd, MOST_CALL_ENTRIES, Named, Store};
 use std::alloc::Global;
 use std::marker::Model;
 use std::sync::Wait;
 
 /// The clock of a script before it is set: 2023-11-14 22:13:20 UTC.
 const FIRST_CLOCK: u32 = 1_700_000_000;
-
-/// The most entries that a call of a store makes.
-const MOST_CALL_ENTRIES: u64 = 4;
 
 /// A script over a store that has one pass: the pass, the clock in seconds since the Unix epoch, and what was counted.
 #[derive(Drop)]

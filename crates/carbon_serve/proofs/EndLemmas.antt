@@ -31,7 +31,7 @@ use Rattle.shared_store.specs.declared.drain_end.DrainEnd.{DrainEnd}
 use Rattle.shared_store.specs.declared.drain_end.DrainEnd.TheVariants.{Done, DiskFault, Spent, NoMemory}
 use Rattle.carbon_serve.specs.Workers.{HasMoment}
 use Rattle.carbon_serve.specs.Crews.{AllWent, Finishes, HasLearned, OnlySaw, lacks_room}
-use Rattle.carbon_serve.specs.Serves.{AllHaveRoom, EndsByFault, EndsServed, IsDrained, Serves, SomeSpent}
+use Rattle.carbon_serve.specs.Serves.{AllHaveRoom, EndsByFault, EndsServed, IsDrained, Serves, SomeSpent, WorkersHaveRoom}
 use Rattle.carbon_serve.proofs.EntryLemmas.{same_number}
 use Rattle.carbon_serve.proofs.PassLemmas.{alone, last_number, last_own, own_none, passes_are, returned, slice_front, slice_last, timed, whole, worker_own}
 use Rattle.carbon_serve.proofs.PendingLemmas.{none_pending}
@@ -227,18 +227,27 @@ module _ {D : Type 0} (d : Ghosts D) (table : TableId) (moments : ℕ → Type 0
     spent = rw (last_own table moments start passes before served own0 own1 own2 history new all went saw learned names seen number begins) lacking;
   }
 
+  -- no worker's does
+  worker_left : (number : own2.number ≡ own1.number) → IsPrefix own1.seen own2.seen → list_any lacks_room served ≡ false → (k : ℕ) → k < last → length (of_pass k history) + 4 ≤ 2 ^ 48
+  worker_left number begins none k less =
+      let p : PassValue = get_or served k own2 in
+      let at : slice_get served k ≡ Some p = slice_get-get_or served k own2 less in
+      let place = (returned table moments start before (own0 ∷ []) served new went k p at).place in
+      let mine : of_pass k history ≡ own_entries p =
+      worker_own table moments start passes before served own0 own1 own2 history new all went saw learned names seen number begins k less ∙ ap (λ (n : ℕ). of_pass n p.seen) (sym place) in
+      rw mine (has p (none_at lacks_room served none k p at))
+
+  workers_room : (number : own2.number ≡ own1.number) → IsPrefix own1.seen own2.seen → list_any lacks_room served ≡ false → WorkersHaveRoom passes history
+  workers_room number begins none k few =
+      let are = passes_are table moments start passes before served own0 own1 own2 history new all went saw learned names seen number begins in
+      worker_left number begins none k (omega (arith, few, are))
+
   -- none does
   room_left : (number : own2.number ≡ own1.number) → IsPrefix own1.seen own2.seen → list_any lacks_room served ≡ false → HasRoom own2 → AllHaveRoom passes history
   room_left number begins none own k few = elim (cases_order k last) [
     | inl same ↦ rw (ap (λ (n : ℕ). of_pass n history) same ∙ last_own table moments start passes before served own0 own1 own2 history new all went saw learned names seen number begins) own
     | inr differs ↦ elim differs [
-      | inl less ↦
-          let p : PassValue = get_or served k own2 in
-          let at : slice_get served k ≡ Some p = slice_get-get_or served k own2 less in
-          let place = (returned table moments start before (own0 ∷ []) served new went k p at).place in
-          let mine : of_pass k history ≡ own_entries p =
-          worker_own table moments start passes before served own0 own1 own2 history new all went saw learned names seen number begins k less ∙ ap (λ (n : ℕ). of_pass n p.seen) (sym place) in
-          rw mine (has p (none_at lacks_room served none k p at))
+      | inl less ↦ worker_left number begins none k less
       | inr more ↦
           let are = passes_are table moments start passes before served own0 own1 own2 history new all went saw learned names seen number begins in
           absurd (omega (arith, few, more, are))
@@ -296,7 +305,8 @@ module _ {D : Type 0} (d : Ghosts D) (table : TableId) (moments : ℕ → Type 0
   ends_drained : (now : ℕ) (end : DrainEnd) → list_any lacks_room served ≡ false → DrainsTo start passes now end own1 own2 → EndsServed d told start earlier passes end history disks
   ends_drained now (Done count) none drains =
       let e = drains.0.enters in (drained_whole now count drains.0, room_left e.number e.begins none drains.1)
-  ends_drained now (DiskFault class) none drains = fault_last now class drains
+  ends_drained now (DiskFault class) none drains =
+      let e = drains.enters in (fault_last now class drains, workers_room e.number e.begins none)
   ends_drained now Spent none drains = let e = drains.0.enters in spent_own e.number e.begins drains.1
   ends_drained now NoMemory none drains = tt
 

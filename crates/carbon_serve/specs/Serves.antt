@@ -32,6 +32,10 @@ pub record IsDrained {D : Type 0} (image : D → Option Image) (told : ℕ → O
 abbrev pub AllHaveRoom : ℕ → List Entry → Type 0
 AllHaveRoom passes history = (pass : ℕ) → pass < passes → length (of_pass pass history) + 4 ≤ 2 ^ 48
 
+-- each of the workers' passes has; that of the crew itself is the last
+abbrev pub WorkersHaveRoom : ℕ → List Entry → Type 0
+WorkersHaveRoom passes history = (pass : ℕ) → pass + 1 < passes → length (of_pass pass history) + 4 ≤ 2 ^ 48
+
 -- one of the passes has not
 pub record SomeSpent (passes : ℕ) (history : List Entry) : Type 0 where
   pub pass : ℕ
@@ -48,12 +52,13 @@ pub record EndsByFault {D : Type 0} (d : Ghosts D) (earlier : ℕ → ℕ) (pass
   pub cause : Rose (earlier class) (disk_faults d.faults disks class)
 
 -- What stands at each end. All is drained, and every pass has room left; or the disk of a class
--- failed in the drain at the end, which the last pass made; or a pass was spent, in its work or in
--- that drain; or memory ran out.
+-- failed in the drain at the end, which the last pass made where every worker has room left; or a
+-- pass was spent, in its work or in that drain; or memory ran out.
 abbrev pub EndsServed : {D : Type 0} → Ghosts D → (ℕ → Option Image) → State → (ℕ → ℕ) → ℕ → DrainEnd → List Entry → List D → Type 0
 EndsServed d told start earlier passes (Done count) history disks =
     IsDrained d.image told disks (replay start history) × AllHaveRoom passes history
-EndsServed d told start earlier passes (DiskFault class) history disks = EndsByFault d earlier passes class history disks
+EndsServed d told start earlier passes (DiskFault class) history disks =
+    EndsByFault d earlier passes class history disks × WorkersHaveRoom passes history
 EndsServed d told start earlier passes Spent history disks = SomeSpent passes history
 EndsServed d told start earlier passes NoMemory history disks = Unit {0}
 

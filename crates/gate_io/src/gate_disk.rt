@@ -4,10 +4,14 @@ use crate::gate::{Gate, pass};
 use outside_io::{Disk, DiskFailed, MemDisk, NamesFault};
 use std::time::Clock;
 
-/// A disk over another one, whose image it tells. Its first `write_at` may be made to wait at a gate, and fails where that does not open.
+/// A disk over another one, whose image it tells. One of its calls of `read_at`, and its first `write_at`, may be made to wait at a gate, and
+/// fails where that does not open.
 #[derive(Drop)]
 pub struct GateDisk<R: Clock, D: Disk = MemDisk> {
     disk: D,
+    // how many reads come before the one that waits
+    reads_before: u64,
+    read_gate: Option<Gate<R>>,
     write_gate: Option<Gate<R>>,
     faults: u64,
 }
@@ -17,9 +21,18 @@ impl<R: Clock + Drop, D: Disk + Drop> GateDisk<R, D> {
     pub fn new(disk: D) -> GateDisk<R, D> {
         GateDisk {
             disk,
+            reads_before: 0,
+            read_gate: None,
             write_gate: None,
             faults: 0,
         }
+    }
+
+    /// The same disk, whose `read_at` behind so many others waits.
+    pub fn reading_at(mut self, reads_before: u64, gate: Gate<R>) -> GateDisk<R, D> {
+        self.reads_before = reads_before;
+        self.read_gate = Some(gate);
+        self
     }
 
     /// The same disk, whose first `write_at` waits.
@@ -69,6 +82,15 @@ impl<R: Clock + Drop, D: Disk + Drop> Disk for GateDisk<R, D> {
     }
 
     fn read_at(&mut self, name: &str, at: u64, buf: &mut [u8]) -> Result<(), DiskFailed> {
+        let is_open = self.reads_before > 0 || pass(&self.read_gate);
+        if self.reads_before == 0 {
+            self.read_gate = None;
+        }
+        self.reads_before = self.reads_before.saturating_sub(1);
+        if !is_open {
+            self.faults = raised(self.faults);
+            return Err(DiskFailed);
+        }
         match self.disk.read_at(name, at, buf) {
             Ok(()) => Ok(()),
             Err(fault) => {

@@ -1,6 +1,6 @@
 //! Links, disks and a network in memory whose calls may be made to wait for one another, to try what runs in many threads.
 //!
-//! None of them tells contracts anything of content.
+//! Only the disk tells contracts its image; links and networks tell them nothing of content.
 #![tactic(auto)]
 
 mod faults;
@@ -15,7 +15,7 @@ pub use flag::Flag;
 pub use gate::Gate;
 pub use gate_disk::GateDisk;
 pub use gate_link::GateLink;
-pub use mem_net::MemNet;
+pub use mem_net::{Bound, MemNet};
 pub use sent::Sent;
 
 #[cfg(test)]

@@ -5,6 +5,14 @@ use crate::faults::raised;
 use outside_io::{Link, Net, NetFailed};
 use std::sync::{Mutex, Wait};
 
+/// What the ports of a network were opened by.
+#[derive(Clone, Copy, Debug, PartialEq, Eq)]
+pub struct Bound {
+    pub line_port: u16,
+    pub http_port: u16,
+    pub links: u64,
+}
+
 /// A network that gives the links of two lists, and is closed where none is left.
 #[derive(Drop)]
 pub struct MemNet<L: Link, R: Wait> {
@@ -13,6 +21,7 @@ pub struct MemNet<L: Link, R: Wait> {
     http: Mutex<Vec<L>>,
     fails: bool,
     faults: u64,
+    bound: Option<Bound>,
 }
 
 impl<L: Link, R: Wait> MemNet<L, R> {
@@ -28,7 +37,13 @@ impl<L: Link, R: Wait> MemNet<L, R> {
             http: Mutex::new(http),
             fails: false,
             faults: 0,
+            bound: None,
         }
+    }
+
+    /// What the ports were opened by, where they are open.
+    pub fn bound(&self) -> Option<Bound> {
+        self.bound
     }
 
     /// The same network, whose ports cannot be had.
@@ -47,11 +62,16 @@ impl<L: Link, R: Wait> Net for MemNet<L, R> {
         self.faults
     }
 
-    fn bind(&mut self, _line_port: u16, _http_port: u16, _links: u64) -> Result<(), NetFailed> {
+    fn bind(&mut self, line_port: u16, http_port: u16, links: u64) -> Result<(), NetFailed> {
         if self.fails {
             self.faults = raised(self.faults);
             return Err(NetFailed);
         }
+        self.bound = Some(Bound {
+            line_port,
+            http_port,
+            links,
+        });
         Ok(())
     }
 

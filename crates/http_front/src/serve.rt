@@ -1,8 +1,9 @@
 //! The service of a link.
-ghost use Rattle.std.specs.Prelude.{◌≡◌, ◌<◌, ◌≤◌, true, false, length, Err, IfErr, OnOk};
+ghost use Rattle.std.specs.Prelude.{◌≡◌, ◌≢◌, ◌<◌, ◌≤◌, true, false, length, Err, IfErr, OnOk};
 ghost use Rattle.std.specs.Option.{ForSome};
 ghost use Rattle.outside_io.specs.Faults.{Rose};
 ghost use Rattle.outside_io.specs.Frames.{CountsReads, CountsWrites};
+ghost use Rattle.shared_store.specs.Passes.{HasRoom};
 ghost use Rattle.http_front.specs.Entries.{MakesAsks};
 ghost use Rattle.http_front.specs.Links.{ServesLink};
 ghost use Rattle.http_front.specs.Origin.{SamePass, WritesOnly, origin_of, standing};
@@ -38,6 +39,7 @@ pub fn serve_http<R: Wait, D: Disk, N: Named, L: Link, C: Clock>(
         (Rose (L.write_faults link.old) (L.write_faults link.new)) result (L.left link.old)
         (L.left link.new) (standing L.Sink pass.old link.old) (standing L.Sink pass.new link.new) }
     ensures makes { MakesAsks (origin_of C.Clock N.Named clock.now) pass.old pass.new }
+    ensures room { result ≢ HttpEnd.Spent → HasRoom pass.old }
     ensures pass { SamePass pass.old pass.new }
     ensures reads { CountsReads L.Source link.old link.new (result ≡ HttpEnd.ReadFault) }
     ensures writes { CountsWrites L.Sink link.old link.new (result ≡ HttpEnd.WriteFault) }

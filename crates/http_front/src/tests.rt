@@ -1,7 +1,8 @@
 // Links over a store of a few metrics.
 ghost use Rattle.std.specs.Prelude.{◌≡◌, ◌≤◌, vec_len};
 ghost use Rattle.shard_set.specs.Disks.{faults_at, told_at};
-ghost use Rattle.shard_set.specs.OpeningState.{AreReadyShards, opening_of};
+ghost use Rattle.shard_core.specs.Started.{AreReadyShards};
+ghost use Rattle.shard_set.specs.OpeningState.{opening_of};
 ghost use Rattle.shared_history.specs.Parts.{AreNewPasses};
 ghost use Rattle.shared_store.specs.Starts.{IsFresh};
 

@@ -6,12 +6,12 @@ use Rattle.outside_io.specs.Image.{Image}
 use Rattle.outside_io.specs.declared.disk.Disk.{Ghosts}
 use Rattle.carbon_model.specs.State.{State}
 use Rattle.shard_core.specs.declared.shard.Shard.{Shard}
-use Rattle.shard_set.specs.OpeningState.{AreReadyShards}
+use Rattle.shard_core.specs.Started.{AreReadyShards}
 use Rattle.shared_history.specs.Parts.{AreNewPasses, PassValue}
-use Rattle.shared_store.specs.Starts.{AreFreshShards}
+use Rattle.shard_core.specs.Started.{AreReadyShards}
 
 -- shards that stand for a state as they started are those that a store starts from
-pub fresh_from : {D : Type 0} {d : Ghosts D} (told : ℕ → Option Image) (start : State) (earlier : ℕ → ℕ) (shards : List (Shard D d)) → AreReadyShards told start earlier shards → AreFreshShards told start earlier shards
+pub fresh_from : {D : Type 0} {d : Ghosts D} (told : ℕ → Option Image) (start : State) (earlier : ℕ → ℕ) (shards : List (Shard D d)) → AreReadyShards told start earlier shards → AreReadyShards told start earlier shards
 fresh_from told start earlier shards ready k shard there =
     let one = ready k shard there in record { class = one.class; empty = one.empty; holds = one.holds; faults = one.faults }
 

@@ -10,13 +10,10 @@ use metric_line::{Datum, LineFault, read_line};
 use outside_io::{Clock, Disk, Sink};
 use point_cache::Put;
 use shared_history::Pass;
-use shared_store::{Named, Store};
+use shared_store::{MOST_CALL_ENTRIES, Named, Store};
 use std::alloc::Global;
 use std::marker::Model;
 use std::sync::Wait;
-
-/// The most entries that a call of a store makes.
-pub(crate) const MOST_CALL_ENTRIES: u64 = 4;
 
 /// Puts the lines of a link into a store by a pass, at the moments of a clock, and counts them.
 #[derive(Drop)]

@@ -2,12 +2,12 @@
 ghost use Rattle.std.specs.Prelude.{◌≡◌};
 
 use crate::batch::{MOST_BATCH_POINTS, NoPoint, read_points};
-use crate::session::{LineSession, MOST_CALL_ENTRIES};
+use crate::session::LineSession;
 use line_frame::Framer;
 use line_service::{Stop, WaitingServer, serve_each};
 use metric_line::Datum;
 use outside_io::{Clock, Disk, Sink};
-use shared_store::Named;
+use shared_store::{MOST_CALL_ENTRIES, Named};
 use std::mem;
 use std::sync::Wait;
 

@@ -1,4 +1,5 @@
 pub mod FieldLemmas
 pub mod LawLemmas
 pub mod LineLemmas
+pub mod PathFieldLemmas
 pub mod StampLemmas

@@ -1,8 +1,11 @@
 //! The fields of a metric line, which blanks separate.
 
-ghost use Rattle.std.specs.Prelude.{◌≡◌, ◌≢◌, ◌+◌, ◌<◌, ◌≤◌, [], ◌∷◌, false, MatchOption, drop, length, not, position};
+ghost use Rattle.std.specs.Prelude.{◌≡◌, ◌≢◌, ◌+◌, ◌<◌, ◌≤◌, [], ◌∷◌, false, IfSome, MatchOption, None, drop, length, not, position};
 ghost use Rattle.std.specs.List.{position_or_len};
+ghost use Rattle.metric_path.specs.Path.{path_fault};
 ghost use Rattle.metric_line.specs.LineFields.{capped_count, fields_of, is_blank};
+
+use metric_path::legal_front;
 
 /// The fields of a line that has three.
 #[derive(Clone, Copy)]
@@ -12,16 +15,38 @@ pub(crate) struct Fields<'a> {
     pub(crate) time: &'a [u8],
 }
 
+/// The first field of a line and what follows it, where that field is a legal path. `None` says nothing of the line.
+pub(crate) fn path_field(line: &[u8]) -> Option<(&[u8], &[u8])>
+    ensures fields { IfSome result
+        (λ parts. fields_of line.now ≡ parts.0.now ∷ fields_of parts.1.now) }
+    ensures legal { IfSome result (λ parts. path_fault parts.0.now ≡ None) }
+{
+    let len = legal_front(line);
+    if len == 0 || len >= line.len() || !is_blank(line[len]) {
+        return None;
+    }
+    Some(line.split_at(len))
+}
+
 /// The fields of a line: `None` exactly where it has not three.
 pub(crate) fn three_fields(line: &[u8]) -> Option<Fields<'_>>
     ensures { MatchOption result (length (fields_of line.now) ≢ 3) (λ fields.
         fields_of line.now ≡ fields.path.now ∷ fields.value.now ∷ fields.time.now ∷ []) }
 {
     let (path, others) = next_field(line)?;
-    let (value, others) = next_field(others)?;
-    let (time, others) = next_field(others)?;
+    let (value, time) = two_fields(others)?;
+    Some(Fields { path, value, time })
+}
+
+/// The two fields of a text: `None` exactly where it has not two.
+pub(crate) fn two_fields(text: &[u8]) -> Option<(&[u8], &[u8])>
+    ensures { MatchOption result (length (fields_of text.now) ≢ 2)
+        (λ fields. fields_of text.now ≡ fields.0.now ∷ fields.1.now ∷ []) }
+{
+    let (first, others) = next_field(text)?;
+    let (second, others) = next_field(others)?;
     match next_field(others) {
-        None => Some(Fields { path, value, time }),
+        None => Some((first, second)),
         Some(_) => None,
     }
 }

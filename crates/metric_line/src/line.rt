@@ -1,13 +1,14 @@
 //! Reading a metric line.
 
-ghost use Rattle.std.specs.Prelude.{◌≡◌, ◌≢◌, true, IfOk, IfErr, IsOk};
+ghost use Rattle.std.specs.Prelude.{◌≡◌, ◌≢◌, true, IfOk, IfErr, IsOk, None};
+ghost use Rattle.metric_path.specs.Path.{path_fault};
 ghost use Rattle.metric_line.specs.LineDatum.{datum_of, point_result};
 ghost use Rattle.fixed_num.specs.Moment.{is_moment};
 ghost use Rattle.metric_line.specs.Seen.{seen};
 
 use crate::Datum;
 use crate::fault::LineFault;
-use crate::fields::{field_count, three_fields};
+use crate::fields::{field_count, path_field, three_fields, two_fields};
 use crate::stamp::read_stamp;
 use fixed_num::read_milli;
 use metric_path::{MetricPath, fault_of};
@@ -31,13 +32,30 @@ pub fn read_line(alloc: Global, line: &[u8], now: u32) -> Result<Datum, LineFaul
         (λ fault. fault ≢ LineFault.NoMemory → datum_of line.now now ≡ Err fault) }
     ensures memory { result ≡ Err LineFault.NoMemory → IsOk (datum_of line.now now) }
 {
+    let Some((path, others)) = path_field(line) else {
+        return read_any(alloc, line, now);
+    };
+    match two_fields(others) {
+        Some((value, time)) => read_behind(alloc, path, value, time, now),
+        None => Err(LineFault::Fields(field_count(line))),
+    }
+}
+
+// Reads a line whose path was not looked at.
+fn read_any(alloc: Global, line: &[u8], now: u32) -> Result<Datum, LineFault>
+    requires { is_moment now ≡ true }
+    ensures datum { IfOk result (λ datum. datum_of line.now now ≡ Ok (seen datum)) }
+    ensures fault { IfErr result
+        (λ fault. fault ≢ LineFault.NoMemory → datum_of line.now now ≡ Err fault) }
+    ensures memory { result ≡ Err LineFault.NoMemory → IsOk (datum_of line.now now) }
+{
     match three_fields(line) {
         Some(fields) => read_fields(alloc, fields.path, fields.value, fields.time, now),
         None => Err(LineFault::Fields(field_count(line))),
     }
 }
 
-// Reads the fields of a line, memory last.
+// Reads the fields of a line.
 #[tactic(auto, unfolding(crate::specs::LineDatum::point_result))]
 fn read_fields(
     alloc: Global,
@@ -57,6 +75,27 @@ fn read_fields(
     if let Some(fault) = fault_of(path) {
         return Err(LineFault::Path(fault));
     }
+    read_behind(alloc, path, value, time, now)
+}
+
+// Reads the fields behind a legal path, memory last.
+#[tactic(auto, unfolding(crate::specs::LineDatum::point_result))]
+fn read_behind(
+    alloc: Global,
+    path: &[u8],
+    value: &[u8],
+    time: &[u8],
+    now: u32,
+) -> Result<Datum, LineFault>
+    requires moment { is_moment now ≡ true }
+    requires legal { path_fault path.now ≡ None }
+    ensures datum { IfOk result
+        (λ datum. point_result path.now value.now time.now now ≡ Ok (seen datum)) }
+    ensures fault { IfErr result (λ fault. fault ≢ LineFault.NoMemory
+        → point_result path.now value.now time.now now ≡ Err fault) }
+    ensures memory { result ≡ Err LineFault.NoMemory
+        → IsOk (point_result path.now value.now time.now now) }
+{
     let value = match read_milli(value) {
         Ok(value) => value,
         Err(fault) => return Err(LineFault::Value(fault)),

@@ -60,8 +60,13 @@ fn a_line_is_its_datum(rt: HostRuntime) -> Result<(), Fail> {
 
 #[test]
 fn the_first_fault_is_told(rt: HostRuntime) -> Result<(), Fail> {
-    let cases: [(&[u8], LineFault); 21] = [
+    let cases: [(&[u8], LineFault); 23] = [
         (b"a.b 1", LineFault::Fields(2)),
+        (b"a.b", LineFault::Fields(1)),
+        (
+            b"a.b[0] 1 1700000000",
+            LineFault::Path(PathFault::BadByte(3)),
+        ),
         (b"", LineFault::Fields(0)),
         (b" \t\x0b\x0c\r", LineFault::Fields(0)),
         (b"a.b 1 1700000000 x", LineFault::Fields(4)),

@@ -1,7 +1,8 @@
 -- Lemmas on one walk over a text that finds it legal.
-use Rattle.std.proofs.Common.{◌≡◌, ℕ, ◌+◌, ◌<◌, ◌≤◌, Bool, true, false, ◌&&◌, ◌||◌, List, [], ◌∷◌, ◌++◌, length, All, None, Some, sym, ap, ◌∙◌, refl, arith, append-nil, append_assoc, length-append, eqb, leb, ltb, cond, le-leb, ne_eqb, le-ltb, position}
+use Rattle.std.proofs.Common.{◌≡◌, ℕ, ◌+◌, ◌-◌, ◌<◌, ◌≤◌, ◌⊎◌, inl, inr, take, subst, Bool, true, false, ◌&&◌, ◌||◌, List, [], ◌∷◌, ◌++◌, length, All, None, Some, sym, ap, ◌∙◌, refl, arith, append-nil, append_assoc, length-append, eqb, leb, ltb, cond, le-leb, ne_eqb, le-ltb, position}
 use Rattle.std.specs.List.{list_all, list_any}
 use Rattle.std.proofs.lemmas.Bool.Decides.{nat_tests}
+use Rattle.std.proofs.lemmas.List.{length-take-le}
 use Rattle.std.proofs.lemmas.List.Elements.{All-nil, All-push}
 use Rattle.std.proofs.lemmas.List.Splits.{slice_split_at, slice_split_none}
 use Rattle.std.proofs.lemmas.List.Sums.{position_or_len_is}
@@ -91,3 +92,12 @@ legal_from_walk text len walked some few short =
     let fits : leb (length text) most_path_bytes ≡ true = le-leb (length text) most_path_bytes short in
     let good : position is_bad_byte text ≡ None = position-none is_bad_byte text walked.clean in
     rw (some_bytes, fits, all_fit, none_empty, good) refl
+
+-- a front of a text that was walked over is legal, where its last node is
+pub front_is_legal : (text : List ℕ) (len at start : ℕ) → len ≡ at ⊎ len ≡ 0 → (0 < len → (0 < at - start) × ((at - start ≤ most_node_bytes) × (at ≤ most_path_bytes)))
+    → at ≤ length text → Walked (take at text) (at - start) → 0 < len → path_fault (take len text) ≡ None
+front_is_legal text len at start (inl e) fits within walked some =
+    let fit = fits some in
+    subst (λ (n : ℕ). path_fault (take n text) ≡ None) (sym e)
+    (legal_from_walk (take at text) (at - start) walked fit.0 fit.1.0 (omega (arith, fit.1.1, length-take-le at text within)))
+front_is_legal text len at start (inr e) fits within walked some = absurd (omega (arith, e, some))

@@ -1,7 +1,7 @@
 //! Whether a text is a legal path, and what its first fault is.
-ghost use Rattle.std.specs.Prelude.{◌≡◌, ◌<◌, ◌≤◌, ◌↔◌, ◌==◌, IsTrue, None, length, nat_le, position};
+ghost use Rattle.std.specs.Prelude.{◌≡◌, ◌⊎◌, ◌<◌, ◌≤◌, ◌↔◌, ◌==◌, All, IsTrue, None, false, length, nat_le, position, take};
 ghost use Rattle.std.specs.List.{list_all, list_any};
-ghost use Rattle.metric_path.specs.Path.{is_bad_byte, is_node_byte, most_node_bytes, nodes_of, path_fault};
+ghost use Rattle.metric_path.specs.Path.{is_bad_byte, is_node_byte, most_node_bytes, most_path_bytes, nodes_of, path_fault};
 
 use crate::path::PathFault;
 
@@ -25,30 +25,50 @@ static NODE_BYTES: [u8; 256] = *b"\
 pub fn fault_of(text: &[u8]) -> Option<PathFault>
     ensures { result ≡ path_fault text.now }
 {
-    if has_legal_nodes(text) {
+    if is_legal(text) {
         return None;
     }
     first_fault(text)
 }
 
 // Whether a text is a legal path, in one walk over its bytes.
-fn has_legal_nodes(text: &[u8]) -> bool
+fn is_legal(text: &[u8]) -> bool
     ensures { IsTrue result → path_fault text.now ≡ None }
 {
-    if text.len() > MOST_PATH_BYTES {
-        return false;
-    }
-    let mut node_len = 0;
-    for b in text {
-        if is_node_byte(*b) {
-            node_len += 1;
-        } else if *b == b'.' && is_node_len(node_len) {
-            node_len = 0;
-        } else {
-            return false;
+    let len = legal_front(text);
+    len > 0 && len == text.len()
+}
+
+/// How many bytes stand before the first that no path may hold, where they are a legal path, and 0 where they are none: so the path
+/// of a line is checked in the walk that finds its end.
+pub fn legal_front(text: &[u8]) -> usize
+    ensures within { result ≤ length text.now }
+    ensures legal { 0 < result → path_fault (take result text.now) ≡ None }
+    ensures clean { 0 < result → All (λ b. is_bad_byte b ≡ false) (take result text.now) }
+{
+    let mut start = 0;
+    for at in 0..text.len() {
+        if !is_node_byte(text[at]) {
+            if text[at] != b'.' || !is_node_len(at - start) {
+                return front_len(at, at - start);
+            }
+            start = at + 1;
         }
     }
-    is_node_len(node_len)
+    front_len(text.len(), text.len() - start)
+}
+
+// How many bytes a front of legal nodes has, of which the last has so many: 0 where that node or the front is no legal one.
+fn front_len(len: usize, node_len: usize) -> usize
+    ensures front { result ≡ len ⊎ result ≡ 0 }
+    ensures legal { 0 < result
+        → (0 < node_len) × ((node_len ≤ most_node_bytes) × (len ≤ most_path_bytes)) }
+{
+    if is_node_len(node_len) && len <= MOST_PATH_BYTES {
+        len
+    } else {
+        0
+    }
 }
 
 // Whether a node may have this many bytes.

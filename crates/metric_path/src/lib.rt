@@ -9,7 +9,7 @@ mod class;
 mod file_name;
 mod path;
 
-pub use check::fault_of;
+pub use check::{fault_of, legal_front};
 pub use path::{CLASSES, MetricPath, PathFault};
 pub use std::alloc::AllocError as NoMemory;
 

@@ -67,9 +67,8 @@ impl MetricPath {
         requires { path_fault text.now ≡ None }
         ensures { IfOk result (λ path. path ≡ text.now) }
     {
-        let Ok(text) = str::from_utf8(text) else {
-            unreachable!()
-        };
+        // The bytes of a legal path are ASCII.
+        let text = unsafe { str::from_utf8_unchecked(text) };
         let text = String::from_str(alloc, text)?;
         Ok(MetricPath { text })
     }

@@ -135,3 +135,20 @@ fn file_names(rt: HostRuntime) -> Result<(), Fail> {
     }
     Ok(())
 }
+
+#[test]
+fn a_legal_front_ends_at_the_first_other_byte(rt: HostRuntime) {
+    let table: [(&[u8], usize); 8] = [
+        (b"a.b 1 2", 3),
+        (b"a.b", 3),
+        (b"a.b[0]", 3),
+        (b"", 0),
+        (b" a", 0),
+        (b"a..b ", 0),
+        (b"a. ", 0),
+        (b".a ", 0),
+    ];
+    for (text, len) in table {
+        assert_eq!(rt; legal_front(text), len);
+    }
+}

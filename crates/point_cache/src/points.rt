@@ -42,7 +42,7 @@ impl Points {
         requires { IsRising points.now }
         ensures { IfOk result (λ copy. copy ≡ points.now) }
     {
-        let pairs = points.to_vec(alloc)?;
+        let pairs = Vec::from_slice(alloc, points)?;
         Ok(Points { pairs })
     }
 

@@ -65,7 +65,7 @@ fn assert_raw(rt: &impl Abort, alloc: Global, parts: &[Part], want: &str) -> Res
 
 #[test]
 fn series_are_written_as_json(rt: HostRuntime) -> Result<(), Fail> {
-    let rows: [(&[Part], &str); 8] = [
+    let rows: [(&[Part], &str); 9] = [
         (&[], "[]"),
         (
             &[("a.b", 1_699_999_980, 60, &[Some(1500)])],
@@ -78,6 +78,14 @@ fn series_are_written_as_json(rt: HostRuntime) -> Result<(), Fail> {
         (
             &[("a.b", 1_699_999_200, 300, &[None, None, None, Some(1666)])],
             r#"[{"target": "a.b", "datapoints": [[null, 1699999200], [null, 1699999500], [null, 1699999800], [1.666, 1700000100]]}]"#,
+        ),
+        // times that pass 10,000, and that pass it with the same last digits
+        (
+            &[
+                ("a", 9_990, 5, &[None, None, None, None]),
+                ("b", 20_005, 10_000, &[Some(1), Some(2)]),
+            ],
+            r#"[{"target": "a", "datapoints": [[null, 9990], [null, 9995], [null, 10000], [null, 10005]]}, {"target": "b", "datapoints": [[0.001, 20005], [0.002, 30005]]}]"#,
         ),
         (
             &[(

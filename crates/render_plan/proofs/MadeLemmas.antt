@@ -11,6 +11,7 @@ use Rattle.series_set.specs.declared.grid.EvalFault.{EvalFault}
 use Rattle.series_funcs.specs.Combined.{IsSoonAfter, combine, combined_series}
 use Rattle.series_funcs.specs.Divided.{divide}
 use Rattle.series_funcs.specs.Each.{each_of, onto}
+use Rattle.series_funcs.proofs.StepLemmas.{steps_stand}
 use Rattle.series_funcs.specs.Moved.{IsSoLate, lateness, shape}
 use Rattle.series_funcs.specs.Regrouped.{combine_of, combined_group, first_seen, group_text, groups_by, regroup, with_text}
 use Rattle.series_funcs.specs.declared.kinds.Combine.{Combine}
@@ -118,7 +119,7 @@ each_few f set made is = let long = each_length f set made is in omega (arith, l
 pub divide_few : (dividends divisors quotients : List SeriesValue) → divide dividends divisors ≡ Ok quotients → length quotients ≤ length dividends
 unfolding divide
 divide_few dividends [] quotients is = mapped_few _ dividends quotients is
-divide_few dividends (divisor ∷ []) quotients is = each_few _ dividends quotients is
+divide_few dividends (divisor ∷ []) quotients is = each_few _ dividends quotients (steps_stand _ _ quotients is)
 divide_few dividends (first ∷ second ∷ others) quotients is = mapped_few _ dividends quotients is
 
 moved_few : (f : SeriesValue → SeriesValue) (p : SeriesValue → Bool) (set made : List SeriesValue) → well (map f (filter p set)) ≡ Ok made → length made ≤ length set
@@ -166,7 +167,7 @@ groups_few of set =
 pub regroup_few : (kind : Regroup) (set regrouped : List SeriesValue) → regroup kind set ≡ Ok regrouped → length regrouped ≤ length set
 unfolding regroup
 regroup_few kind set regrouped is =
-    let long = each_length (combined_group (combine_of kind)) (groups_by (λ s. group_text kind s.path) set) regrouped is in
+    let long = each_length (combined_group (combine_of kind)) (groups_by (λ s. group_text kind s.path) set) regrouped (steps_stand _ _ regrouped is) in
     let few = groups_few (λ s. group_text kind s.path) set in
     omega (arith, long, few)
 

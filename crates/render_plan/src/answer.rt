@@ -12,14 +12,12 @@ ghost use Rattle.render_plan.specs.declared.settings.Format.TheVariants.{Csv};
 ghost use Rattle.render_plan.specs.Values.{Answers, most_of, thinned_all};
 
 use crate::apply::concat;
+use crate::needs::MOST_DEPTH;
 use crate::settings::{Format, Settings};
 use crate::target::Target;
 use crate::value::values_of;
 use series_set::{EvalFault, Series, SeriesSet, thin};
 use std::alloc::{AllocError, Global};
-
-// How deep calls nest.
-const MOST_DEPTH: u32 = 32;
 
 /// The series of targets in order, over a row of series for each of their paths.
 #[tactic(auto, using(crate::proofs::ValueLemmas::thinnable))]

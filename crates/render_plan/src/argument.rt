@@ -10,6 +10,7 @@ use crate::form::is_word;
 use crate::function::{Kind, Takes};
 use fixed_num::{Milli, all_digits, capped_number, read_milli, read_nano};
 use series_funcs::{Combine, Gather};
+use series_set::WIDEST_STEP;
 use std::alloc::{AllocError, Global};
 use target_parse::Expr;
 use time_range::{Span, read_span};
@@ -19,9 +20,6 @@ const MOST_COUNT: u64 = 1_000_000;
 
 /// The greatest number of a node, from either end.
 const MOST_NODE: u64 = 64;
-
-/// The widest step of a summary, in seconds: those of 365 days.
-const WIDEST_STEP: u64 = 31_536_000;
 
 /// An argument as a function takes it.
 #[derive(Clone, Copy, Debug, PartialEq, Eq)]

@@ -13,12 +13,10 @@ use crate::target::Target;
 use path_glob::Glob;
 use series_funcs::Shape;
 use std::alloc::{AllocError, Global};
-
-/// The latest moment.
-const LATEST: u64 = 4_000_000_000;
+use time_range::LATEST;
 
 // How deep calls nest.
-const MOST_DEPTH: u32 = 32;
+pub(crate) const MOST_DEPTH: u32 = 32;
 
 /// The first and the last moment that a query asks for, in seconds since the Unix epoch.
 #[derive(Clone, Copy)]

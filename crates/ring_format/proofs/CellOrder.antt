@@ -175,6 +175,16 @@ none_at : (place : ℕ × ℕ) (cells : Cells) → AllByRecursion (λ q. place_c
 none_at place [] all = refl
 none_at place (x ∷ cells) all = cond-false _ _ _ (ap is_eq all.0) ∙ none_at place cells all.1
 
+-- the cell that stands at a place
+pub laid_at : (cells : Cells) (place : ℕ × ℕ) (at : ℕ) (d : (ℕ × ℕ) × (ℕ × ℤ)) → IsStrictlySortedBy place_cmp (keys_of cells) → at < length cells → (get_or cells at d).0 ≡ place
+    → cell_at cells place ≡ Some (get_or cells at d).1
+laid_at [] place at d rise lt same = absurd (omega arith)
+laid_at (x ∷ cells) place zero d rise lt same = cond-true _ _ _ (ap is_eq (ap (λ (r : ℕ × ℕ). place_cmp place r) same ∙ tied_itself place_total place))
+laid_at (x ∷ cells) place (suc at) d rise lt same =
+    let less : place_cmp x.0 (get_or cells at d).0 ≡ Less = behind_first x.0 cells at d (sorted_head place_cmp x.0 (keys_of cells) rise) (omega arith) in
+    let under : place_cmp x.0 place ≡ Less = ap (λ (r : ℕ × ℕ). place_cmp x.0 r) (sym same) ∙ less in
+    cond-false _ _ _ (ap is_eq (turned x.0 place Less under)) ∙ laid_at cells place at d (sorted_tail place_cmp x.0 (keys_of cells) rise) (omega arith) same
+
 -- the place's own cell is that one, or there is none
 pub found_at : (cells : Cells) (place : ℕ × ℕ) (cell : (ℕ × ℕ) × (ℕ × ℤ)) → first_cell_from cells place ≡ Some cell → cell.0 ≡ place → cell_at cells place ≡ Some cell.1
 found_at [] place cell found same = absurd cc

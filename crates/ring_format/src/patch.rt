@@ -1,5 +1,5 @@
 //! Cells that are to be laid over a ring file.
-ghost use Rattle.std.specs.Prelude.{◌≡◌, ◌≢◌, ◌<◌, ◌≤◌, ◌^◌, ◌↔◌, ℕ, [], All, IfErr, IfOk, IfSome, IsTrue, OnErr, OnOk, Some, drop, length};
+ghost use Rattle.std.specs.Prelude.{◌≡◌, ◌≢◌, ◌<◌, ◌≤◌, ◌^◌, ◌↔◌, ℕ, [], All, IfErr, IfOk, IfSome, IsTrue, OnErr, OnOk, Some, length};
 ghost use Rattle.std.specs.List.Sorted.{IsStrictlySortedBy};
 ghost use Rattle.std.specs.Map.{keys_of};
 ghost use Rattle.std.specs.Ordering.{is_gt};
@@ -108,17 +108,6 @@ impl Patch {
         self.cells.as_slice()
     }
 
-    /// The cells at a place or behind it, in rising archive and slot: each place, and then its bucket and
-    /// value.
-    pub fn cells_from(&self, archive: u32, slot: u32) -> &[((u32, u32), (u32, Milli))]
-        ensures value { result.now ≡ drop (cells_before self.now.cells (archive, slot)) self.now.cells }
-        ensures rise { IsStrictlySortedBy place_cmp (keys_of self.now.cells) }
-        ensures placed { All (IsPlace self.now.layout) (keys_of self.now.cells) }
-    {
-        let before = cells_before(&self.cells, archive, slot);
-        &self.cells[before..]
-    }
-
     /// The first cell at a place or behind it, in rising archive and slot: its place, and then its bucket
     /// and value.
     pub fn first_cell_from(&self, archive: u32, slot: u32) -> Option<((u32, u32), (u32, Milli))>
@@ -198,9 +187,47 @@ fn cell_in(cells: &[((u32, u32), (u32, Milli))], archive: u32, slot: u32) -> Opt
     requires { IsStrictlySortedBy place_cmp (keys_of cells.now) }
     ensures { result ≡ cell_at cells.now (archive, slot) }
 {
+    if let Some(held) = near_cell(cells, archive, slot) {
+        return Some(held);
+    }
     let found = first_from(cells, archive, slot)?;
     if stands_at(&found, archive, slot) {
         return Some(found.1);
+    }
+    None
+}
+
+// A place's cell, if it is where it stands when no slot is free between it and the last cell, or the first one.
+// Cells of a drain mostly stand in neighbouring slots, so that the search is seldom needed.
+fn near_cell(cells: &[((u32, u32), (u32, Milli))], archive: u32, slot: u32) -> Option<(u32, Milli)>
+    requires { IsStrictlySortedBy place_cmp (keys_of cells.now) }
+    ensures { IfSome result (λ held. cell_at cells.now (archive, slot) ≡ Some held) }
+{
+    let count = cells.len();
+    if count == 0 {
+        return None;
+    }
+    let behind = cells[count - 1].0.1.saturating_sub(slot) as usize;
+    let near = held_at(cells, (count - 1).saturating_sub(behind), archive, slot);
+    if near.is_some() {
+        return near;
+    }
+    let before = slot.saturating_sub(cells[0].0.1) as usize;
+    held_at(cells, before, archive, slot)
+}
+
+// The bucket and the value of the cell at an index, where it stands at this place.
+fn held_at(
+    cells: &[((u32, u32), (u32, Milli))],
+    at: usize,
+    archive: u32,
+    slot: u32,
+) -> Option<(u32, Milli)>
+    requires { IsStrictlySortedBy place_cmp (keys_of cells.now) }
+    ensures { IfSome result (λ held. cell_at cells.now (archive, slot) ≡ Some held) }
+{
+    if at < cells.len() && stands_at(&cells[at], archive, slot) {
+        return Some(cells[at].1);
     }
     None
 }

@@ -1,5 +1,7 @@
 use super::*;
 use metric_path::MetricPath;
+use std::alloc::Global;
+use std::process::Abort;
 use std::test::Fail;
 
 fn archive(step: u32, points: u32) -> Archive {
@@ -252,5 +254,51 @@ fn a_patch_keeps_its_cells_in_order(rt: HostRuntime) -> Result<(), Fail> {
     assert!(rt; patch.fresh());
     assert_eq!(rt; patch.layout(), layout);
     assert_eq!(rt; patch.path().as_str(), "servers.web1.cpu");
+    Ok(())
+}
+
+// A patch with cells in rows of neighbouring slots and behind gaps, each with its slot as its value.
+fn patch_of_rows(rt: &impl Abort, alloc: Global) -> Result<Patch, Fail> {
+    let path = MetricPath::new(alloc, b"servers.web1.cpu")?;
+    let Ok(layout) = Layout::new(&[archive(60, 10), archive(300, 12)], Method::Average, 0) else {
+        panic!(rt; "the layout is lawful")
+    };
+    let mut patch = Patch::new(alloc, path, layout, false);
+    for (archive, slot) in ROWS {
+        let value = i64::from(slot);
+        let bucket = 60;
+        assert!(rt; patch.layout().has_slot(archive, slot));
+        patch.lay(CellWrite {
+            archive,
+            slot,
+            bucket,
+            value,
+        })?;
+    }
+    Ok(patch)
+}
+
+const ROWS: [(u32, u32); 8] = [
+    (0, 2),
+    (0, 3),
+    (0, 4),
+    (0, 7),
+    (1, 0),
+    (1, 1),
+    (1, 4),
+    (1, 5),
+];
+
+#[test]
+fn cells_are_found_in_rows_and_behind_gaps(rt: HostRuntime) -> Result<(), Fail> {
+    let patch = patch_of_rows(&rt, rt.alloc())?;
+    for archive in 0..3 {
+        for slot in 0..12 {
+            let held = ROWS
+                .contains(&(archive, slot))
+                .then_some((60, i64::from(slot)));
+            assert!(rt; patch.cell(archive, slot) == held, "{archive} {slot}");
+        }
+    }
     Ok(())
 }

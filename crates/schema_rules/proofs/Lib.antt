@@ -3,6 +3,5 @@ pub mod UnitLemmas
 pub mod SplitLemmas
 pub mod FactorLemmas
 pub mod LayoutLemmas
-pub mod FinderLemmas
 pub mod RetentionLemmas
 pub mod RulesCross

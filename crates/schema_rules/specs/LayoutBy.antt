@@ -1,5 +1,5 @@
 -- The layout that the rules give a path.
-use Rattle.std.specs.Prelude.{ℕ, List, [], ◌∷◌, find, map, Option}
+use Rattle.std.specs.Prelude.{ℕ, List, [], ◌∷◌, find, Option}
 use Rattle.std.specs.Option.{option_map_or}
 use Rattle.ring_format.specs.declared.archive.Archive.{Archive}
 use Rattle.ring_format.specs.Layout.{LayoutValue}
@@ -17,13 +17,6 @@ schema_for schemas path = find (λ schema. is_found schema.pattern path) schemas
 
 abbrev pub aggregation_for : List AggregationValue → List ℕ → Option AggregationValue
 aggregation_for aggregations path = find (λ aggregation. is_found aggregation.pattern path) aggregations
-
--- the patterns of sections
-abbrev pub patterns_of_schemas : List SchemaValue → List (List ℕ)
-patterns_of_schemas schemas = map (λ schema. schema.pattern) schemas
-
-abbrev pub patterns_of_aggregations : List AggregationValue → List (List ℕ)
-patterns_of_aggregations aggregations = map (λ aggregation. aggregation.pattern) aggregations
 
 -- the layout with the archives of a section, and the method and the factor of one, each with its default
 unfoldable pub layout_under : Option SchemaValue → Option AggregationValue → LayoutValue

@@ -9,7 +9,7 @@ use crate::schema::{DEFAULT_FACTOR, DEFAULT_METHOD, push_rule};
 use crate::section::Section;
 use fixed_num::read_millionths;
 use metric_path::MetricPath;
-use name_pattern::{NameTest, Search};
+use name_pattern::NameTest;
 use ring_format::Method;
 use std::alloc::{AllocError, Global};
 use std::marker::Model;
@@ -72,13 +72,6 @@ impl Aggregation {
         ensures { IfOk result (λ found. found ≡ is_found self.now.pattern path.now) }
     {
         self.pattern.is_found(alloc, path.as_str())
-    }
-
-    /// The section's pattern made ready to be searched in paths.
-    pub(crate) fn search(&self, alloc: Global) -> Result<Search<'_>, AllocError>
-        ensures { IfOk result (λ search. search ≡ self.now.pattern) }
-    {
-        self.pattern.pattern().search(alloc)
     }
 
     /// The section's factor, in millionths.

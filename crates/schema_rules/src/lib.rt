@@ -8,7 +8,6 @@
 mod aggregation;
 mod fault;
 mod file;
-mod finder;
 mod laws;
 mod lists;
 mod retention;
@@ -19,7 +18,6 @@ mod text;
 mod unit;
 
 pub use fault::{RuleCause, RuleFault, RuleFile};
-pub use finder::LayoutFinder;
 pub use laws::archives_are_those_of_the_pieces;
 pub use rules::Rules;
 

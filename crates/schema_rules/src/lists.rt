@@ -1,5 +1,5 @@
 //! The sections of both files that count, and the layouts that they give.
-ghost use Rattle.std.specs.Prelude.{◌≡◌, ◌≤◌, None, IfOk, option_copied, slice_get};
+ghost use Rattle.std.specs.Prelude.{◌≡◌, ◌≤◌, None, IfOk, option_copied};
 ghost use Rattle.std.specs.Option.{option_map_or};
 ghost use Rattle.ring_format.specs.Layout.{layout_fault};
 ghost use Rattle.schema_rules.specs.LayoutBy.{aggregation_for, default_archives, layout_by, layout_under, schema_for};
@@ -43,38 +43,18 @@ impl Lists {
         }
     }
 
-    /// The sections of the schema file.
-    pub(crate) fn schemas(&self) -> &[Schema]
+    // The sections of the schema file.
+    fn schemas(&self) -> &[Schema]
         ensures { result.now ≡ self.now.schemas }
     {
         self.schemas.as_slice()
     }
 
-    /// The sections of the aggregation file.
-    pub(crate) fn aggregations(&self) -> &[Aggregation]
+    // The sections of the aggregation file.
+    fn aggregations(&self) -> &[Aggregation]
         ensures { result.now ≡ self.now.aggregations }
     {
         self.aggregations.as_slice()
-    }
-
-    /// The section of the schema file at a place, from 0 on.
-    pub(crate) fn schema(&self, place: usize) -> Option<&Schema>
-        ensures { option_copied result ≡ slice_get self.now.schemas place }
-    {
-        match self.schemas.as_slice().get(place) {
-            Some(schema) => return Some(schema),
-            None => return None,
-        }
-    }
-
-    /// The section of the aggregation file at a place, from 0 on.
-    pub(crate) fn aggregation(&self, place: usize) -> Option<&Aggregation>
-        ensures { option_copied result ≡ slice_get self.now.aggregations place }
-    {
-        match self.aggregations.as_slice().get(place) {
-            Some(section) => return Some(section),
-            None => return None,
-        }
     }
 
     /// The layout of a path.
@@ -89,9 +69,9 @@ impl Lists {
     }
 }
 
-/// The layout by the sections whose patterns are found in a path, each with its default.
+// The layout by the sections whose patterns are found in a path, each with its default.
 #[tactic(auto, unfolding(crate::specs::LayoutBy::layout_under))]
-pub(crate) fn layout_under(schema: Option<&Schema>, aggregation: Option<&Aggregation>) -> Layout
+fn layout_under(schema: Option<&Schema>, aggregation: Option<&Aggregation>) -> Layout
     ensures value { result ≡
         layout_under (option_copied schema.entry) (option_copied aggregation.entry) }
     ensures lawful { layout_fault result.archives result.factor ≡ None }

@@ -7,7 +7,6 @@ ghost use Rattle.schema_rules.specs.RulesOf.{Stops, aggregations_result, most_fi
 use crate::aggregation::{Aggregation, aggregations_of};
 use crate::fault::{RuleCause, RuleFault, RuleFile, Stop};
 use crate::file::file_sections;
-use crate::finder::LayoutFinder;
 use crate::lists::Lists;
 use crate::schema::{Schema, schemas_of};
 use metric_path::MetricPath;
@@ -86,13 +85,6 @@ impl Rules {
             (λ layout. layout_fault layout.archives layout.factor ≡ None) }
     {
         self.lists.layout_of(alloc, path)
-    }
-
-    /// Makes the patterns of all sections ready, for the layouts of many paths.
-    pub fn finder(&self, alloc: Global) -> Result<LayoutFinder<'_>, AllocError>
-        ensures { IfOk result (λ finder. finder ≡ self.now) }
-    {
-        LayoutFinder::new(alloc, &self.lists)
     }
 }
 

@@ -7,7 +7,7 @@ use crate::fault::{RuleCause, Stop};
 use crate::retention::archives_of;
 use crate::section::Section;
 use metric_path::MetricPath;
-use name_pattern::{NameTest, Search};
+use name_pattern::NameTest;
 use ring_format::{Archive, Layout, Method};
 use std::alloc::{AllocError, Global};
 use std::marker::Model;
@@ -86,13 +86,6 @@ impl Schema {
         ensures { IfOk result (λ found. found ≡ is_found self.now.pattern path.now) }
     {
         self.pattern.is_found(alloc, path.as_str())
-    }
-
-    /// The section's pattern made ready to be searched in paths.
-    pub(crate) fn search(&self, alloc: Global) -> Result<Search<'_>, AllocError>
-        ensures { IfOk result (λ search. search ≡ self.now.pattern) }
-    {
-        self.pattern.pattern().search(alloc)
     }
 
     /// The section's archives from the finest to the coarsest.

@@ -1,15 +1,17 @@
 -- Values and those before them.
-use Rattle.std.proofs.Common.{◌≡◌, ℕ, ℤ, pos, ◌+◌, ◌+ℤ◌, ◌<◌, List, [], ◌∷◌, ◌++◌, length, get_or, take, fold, Option, Some, None, FitsSigned, w64, refl, sym, ap, ◌∙◌, arith, add-one}
-use Rattle.std.specs.List.{cons_option, last_or}
+use Rattle.std.proofs.Common.{◌≡◌, ℕ, ℤ, pos, ◌+◌, ◌+ℤ◌, ◌<◌, List, [], ◌∷◌, ◌++◌, length, get_or, take, fold, map, Option, Some, None, FitsSigned, w64, refl, sym, ap, ◌∙◌, arith, add-one}
+use Rattle.std.specs.List.{cons_option, last_or, range_with_len}
 use Rattle.std.specs.Option.{option_or}
 use Rattle.std.proofs.lemmas.Int.{ints}
 use Rattle.std.proofs.lemmas.List.{append-nil, get_or_read, take_more}
 use Rattle.std.proofs.lemmas.List.Elements.{filter_map-append}
 use Rattle.std.proofs.lemmas.List.Sums.{fold-append}
+use Rattle.std.proofs.lemmas.Simd.{map-map}
 use Rattle.series_set.specs.Average.{IsWithinSums, known, sum_of}
 use Rattle.series_set.proofs.SumLemmas.{within_more}
 use Rattle.series_funcs.specs.Quotients.{fitting}
-use Rattle.series_funcs.specs.Shaped.{at, before, change_at, differs, integral_at, last_known, one_where}
+use Rattle.series_funcs.specs.declared.changing.Change.TheVariants.{NotBelow}
+use Rattle.series_funcs.specs.Shaped.{at, before, change_at, changed_each, changed_value, derivative_at, differs, integral_at, last_known, minus, one_where, rises}
 use Rattle.series_funcs.proofs.PlaceByPlace.{Placed, length-placed, placed_next}
 
 -- what is read at the next place of a list that is changed in place
@@ -56,6 +58,19 @@ integral_missing values place is = rw is refl
 pub integral_known : (values : List (Option ℤ)) (place : ℕ) (sum v : ℤ) → at values place ≡ Some v → SumsUpTo values (place + 1) sum → fitting sum ≡ integral_at values place
 unfolding integral_at sum_of
 integral_known values place sum v is so_far = rw is (ap fitting so_far.is)
+
+-- ---- rises
+
+-- by how much a value is above another, where it is not below it
+abbrev pub risen_from : Option ℤ → Option ℤ → Option ℤ
+risen_from value other = changed_value (NotBelow (pos 0)) (minus value other)
+
+abbrev pub risen_at : List (Option ℤ) → ℕ → Option ℤ
+risen_at values place = risen_from (at values place) (before values place)
+
+pub rises_at : (values : List (Option ℤ)) → map (risen_at values) (range_with_len 0 (length values)) ≡ rises values
+unfolding changed_each
+rises_at values = sym (map-map (changed_value (NotBelow (pos 0))) (derivative_at values) (range_with_len 0 (length values)))
 
 -- ---- the last known value
 

@@ -13,7 +13,7 @@ use Rattle.series_set.specs.Series.{SeriesValue, end_of, latest_end, widest_step
 use Rattle.series_funcs.specs.Combined.{AreCombinable, IsSoonAfter}
 use Rattle.series_funcs.specs.declared.kinds.Regroup.{Regroup}
 use Rattle.series_funcs.specs.Each.{each_of}
-use Rattle.series_funcs.specs.Regrouped.{Groups, combine_of, combined_group, first_seen, group_text, groups_by, regroup, with_text}
+use Rattle.series_funcs.specs.Regrouped.{Groups, combine_of, combined_groups, first_seen, group_text, groups_by, regroup, with_text}
 
 same : (a b : List ℕ) → bytes_eq a b ≡ true → a ≡ b
 same a b is = (bytes_eq-Decides a b).0 is
@@ -246,6 +246,6 @@ groups_soon of set together zip =
 
 -- ---- by kind
 
-pub regroup_is : (kind : Regroup) (set : List SeriesValue) → each_of (combined_group (combine_of kind)) (groups_by (λ s. group_text kind s.path) set) ≡ regroup kind set
+pub regroup_is : (kind : Regroup) (set : List SeriesValue) → combined_groups (combine_of kind) (groups_by (λ s. group_text kind s.path) set) ≡ regroup kind set
 unfolding regroup
 regroup_is kind set = refl

@@ -1,5 +1,6 @@
 pub mod ColumnLemmas
 pub mod EachLemmas
+pub mod StepLemmas
 pub mod RatioLemmas
 pub mod PlaceByPlace
 pub mod BackLemmas

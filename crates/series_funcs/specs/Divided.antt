@@ -10,6 +10,7 @@ use Rattle.series_set.specs.CommonGrid.{common_grid, value_count}
 use Rattle.series_set.specs.OnGrid.{on_grid}
 use Rattle.series_funcs.specs.Combined.{value_at}
 use Rattle.series_funcs.specs.Each.{each_of}
+use Rattle.series_funcs.specs.StepsFirst.{steps_first}
 use Rattle.series_funcs.specs.Named.{call_text}
 use Rattle.series_funcs.specs.Quotients.{ratio}
 
@@ -46,8 +47,16 @@ divided divisor dividend = result_map_both (divided_on dividend divisor) (λ fau
 abbrev pub undivided : List ℕ → SeriesValue → SeriesValue
 undivided tail s = record s { name = quotient_name s.name tail; values = map (λ _. None) s.values }
 
+-- each of some series with another one
+abbrev pub pairs_with : SeriesValue → List SeriesValue → List (List SeriesValue)
+pairs_with other set = map (λ s. s ∷ other ∷ []) set
+
+-- Each of some series over one; or the first step of a pair that is too wide, from the left, and else the fault of the first pair that has one.
+abbrev pub divided_each : SeriesValue → List SeriesValue → Result (List SeriesValue) EvalFault
+divided_each divisor dividends = steps_first (pairs_with divisor dividends) (each_of (divided divisor) dividends)
+
 -- each series over the one divisor
 unfoldable pub divide : List SeriesValue → List SeriesValue → Result (List SeriesValue) EvalFault
 divide dividends [] = Ok (map (undivided missing_tail) dividends)
-divide dividends (divisor ∷ []) = each_of (divided divisor) dividends
+divide dividends (divisor ∷ []) = divided_each divisor dividends
 divide dividends (first ∷ second ∷ others) = Ok (map (undivided []) dividends)

@@ -1,6 +1,7 @@
 pub mod Quotients
 pub mod Combined
 pub mod Each
+pub mod StepsFirst
 pub mod Named
 pub mod Divided
 pub mod Shaped

@@ -10,6 +10,7 @@ use Rattle.series_funcs.specs.declared.kinds.Regroup.{Regroup}
 use Rattle.series_funcs.specs.declared.kinds.Regroup.TheVariants.{GroupByNode, SumSeriesWithWildcards, AverageSeriesWithWildcards}
 use Rattle.series_funcs.specs.Combined.{combined_series}
 use Rattle.series_funcs.specs.Each.{each_of}
+use Rattle.series_funcs.specs.StepsFirst.{steps_first}
 use Rattle.series_funcs.specs.NodeTexts.{node_text, text_without}
 
 -- ---- groups by a text
@@ -48,6 +49,14 @@ combine_of (AverageSeriesWithWildcards nodes) = combine.Average
 abbrev pub combined_group : Combine → List ℕ × List SeriesValue → Result SeriesValue EvalFault
 combined_group kind group = combined_series kind group.1 group.0 group.0
 
--- each group combined, or why the first has no values together of those that have none
+-- the series of each group
+abbrev pub members : Groups → List (List SeriesValue)
+members groups = map (λ group. group.1) groups
+
+-- each of some groups combined
+abbrev pub combined_groups : Combine → Groups → Result (List SeriesValue) EvalFault
+combined_groups kind groups = steps_first (members groups) (each_of (combined_group kind) groups)
+
+-- Each group combined; or the first step that is too wide, from the left, and else why the first group has no values together of those that have none.
 unfoldable pub regroup : Regroup → List SeriesValue → Result (List SeriesValue) EvalFault
-regroup kind set = each_of (combined_group (combine_of kind)) (groups_by (λ s. group_text kind s.path) set)
+regroup kind set = combined_groups (combine_of kind) (groups_by (λ s. group_text kind s.path) set)

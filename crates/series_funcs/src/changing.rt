@@ -6,7 +6,7 @@ ghost use Rattle.series_set.specs.Average.{known};
 ghost use Rattle.series_funcs.specs.Quotients.{fitting, floor_quotient};
 ghost use Rattle.series_funcs.specs.Shaped.{above_least, changed_each, changed_value, MayChange, magnitude, not_above, not_below, one_where, plus, ratio_to};
 
-use crate::quotients::{fitting, floor_quotient};
+use crate::quotients::{fitting, quotient};
 use fixed_num::{Milli, wide};
 
 /// What is made of each value by itself. A missing one stays missing where nothing else is said.
@@ -83,7 +83,7 @@ fn over(number: i128, divisor: u64) -> Option<Milli>
     requires above { unsigned_abs number < 2 ^ 127 }
     ensures { result ≡ fitting (floor_quotient number (pos divisor)) }
 {
-    fitting(floor_quotient(number, i128::from(divisor)))
+    quotient(number, i128::from(divisor))
 }
 
 #[tactic(auto, unfolding(crate::specs::Shaped::plus))]
@@ -103,7 +103,7 @@ fn not_above(most: Milli, value: Milli) -> Option<Milli>
     Some(value)
 }
 
-fn not_below(least: Milli, value: Milli) -> Option<Milli>
+pub(crate) fn not_below(least: Milli, value: Milli) -> Option<Milli>
     ensures { result ≡ not_below least value }
 {
     if value < least {

@@ -1,18 +1,18 @@
 //! Series over series.
-ghost use Rattle.std.specs.Prelude.{◌≡◌, ◌≢◌, ◌≤◌, [], ◌∷◌, ◌++◌, All, IfErr, IfOk, Ok, Err, length, map, string_bytes, ℤ, None};
-ghost use Rattle.series_set.specs.declared.grid.EvalFault.TheVariants.{NoMemory};
-ghost use Rattle.series_set.specs.Series.{latest_end, most_values};
-ghost use Rattle.series_set.specs.CommonGrid.{EndsSoonAfter, IsGrid, common_grid, value_count};
+ghost use Rattle.std.specs.Prelude.{◌≡◌, ◌≢◌, ◌≤◌, [], ◌∷◌, ◌++◌, All, IfErr, IfOk, Ok, Err, map, option_map, string_bytes, None, Some};
+ghost use Rattle.series_set.specs.declared.grid.EvalFault.TheVariants.{NoMemory, StepTooWide};
+ghost use Rattle.series_set.specs.Series.{latest_end};
+ghost use Rattle.series_set.specs.CommonGrid.{EndsSoonAfter, IsGrid, common_grid, first_wide, value_count};
 ghost use Rattle.series_set.specs.OnGrid.{on_grid};
 ghost use Rattle.series_funcs.specs.Combined.{AreCombinable, IsSoonAfter};
-ghost use Rattle.series_funcs.specs.Divided.{divide, divided, divided_on, quotient_name, missing_tail, ratio_of, ratios, undivided};
+ghost use Rattle.series_funcs.specs.Divided.{divide, divided, divided_each, divided_on, pairs_with, quotient_name, missing_tail, ratio_of, ratios, undivided};
 ghost use Rattle.series_funcs.specs.Each.{each_of};
 
 use crate::combining::value_at;
 use crate::naming::call_text;
 use crate::quotients::ratio;
 use fixed_num::Milli;
-use series_set::{EvalFault, Grid, Series, SeriesSet, common_grid, on_grid};
+use series_set::{EvalFault, Grid, Series, SeriesSet, common_grid, on_grid, pair_step};
 use std::alloc::{AllocError, Global};
 
 /// Each dividend over the one divisor, on the common grid of the two: the exact quotient in thousandths, rounded down, and missing where
@@ -23,7 +23,8 @@ use std::alloc::{AllocError, Global};
 ///
 /// The quotients may be combined again, and end less than 31,536,000 seconds after all of these series.
 ///
-/// Errors: those of [`common_grid`] for the first dividend that has none with the divisor, and want of memory.
+/// Errors: `StepTooWide` where a dividend's step and the divisor's have no common multiple up to the widest step, with that of the first
+/// such; else that of the first dividend that has no common grid with the divisor; and want of memory.
 #[tactic(auto, unfolding(crate::specs::Divided::divide))]
 pub fn divide(
     alloc: Global,
@@ -40,7 +41,7 @@ pub fn divide(
     let dividends = dividends.as_slice();
     match divisors.as_slice() {
         [] => Ok(undivided_all(alloc, dividends, missing_tail())?),
-        [divisor] => divide_each(alloc, dividends, divisor),
+        [divisor] => divide_by(alloc, dividends, divisor),
         _ => Ok(undivided_all(alloc, dividends, "")?),
     }
 }
@@ -50,6 +51,33 @@ fn missing_tail() -> &'static str
     ensures { result.now ≡ missing_tail }
 {
     ",MISSING"
+}
+
+// Each series over one, once each pair has a common step.
+fn divide_by(alloc: Global, dividends: &[Series], divisor: &Series) -> Result<SeriesSet, EvalFault>
+    requires dividends { AreCombinable dividends.now }
+    requires divisor { AreCombinable (divisor.now ∷ []) }
+    ensures ok { IfOk result (λ quotients. divided_each divisor.now dividends.now ≡ Ok quotients) }
+    ensures err { IfErr result (λ fault.
+        fault ≢ NoMemory → divided_each divisor.now dividends.now ≡ Err fault) }
+    ensures bounds { IfOk result (All (IsSoonAfter (dividends.now ++ divisor.now ∷ []))) }
+{
+    check_pairs(dividends, divisor)?;
+    divide_each(alloc, dividends, divisor)
+}
+
+// Refuses series of which one has no common step with another series.
+fn check_pairs(dividends: &[Series], divisor: &Series) -> Result<(), EvalFault>
+    requires dividends { AreCombinable dividends.now }
+    requires divisor { AreCombinable (divisor.now ∷ []) }
+    ensures ok { IfOk result (λ _. first_wide (pairs_with divisor.now dividends.now) ≡ None) }
+    ensures err { IfErr result (λ fault.
+        option_map StepTooWide (first_wide (pairs_with divisor.now dividends.now)) ≡ Some fault) }
+{
+    for dividend in dividends {
+        pair_step(dividend, divisor)?;
+    }
+    Ok(())
 }
 
 // Each series over one.

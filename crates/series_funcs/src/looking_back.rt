@@ -1,11 +1,12 @@
 //! What is made of each value and those before it.
-ghost use Rattle.std.specs.Prelude.{◌≡◌, ◌≤◌, IfOk, None, if◌then◌else◌, is_none, length};
+ghost use Rattle.std.specs.Prelude.{◌≡◌, ◌≤◌, IfOk, None, if◌then◌else◌, is_none, length, pos};
 ghost use Rattle.std.specs.List.{prefix_len};
 ghost use Rattle.series_set.specs.Series.{most_values};
-ghost use Rattle.series_funcs.specs.Shaped.{at_places, change_at, delayed_at, derivative_at, differs, integral_at, is_short, kept_at, minus};
+ghost use Rattle.series_funcs.specs.Shaped.{at_places, change_at, changed_value, delayed_at, derivative_at, differs, integral_at, is_short, kept_at, minus, rises};
+ghost use Rattle.series_funcs.specs.declared.changing.Change.TheVariants.{NotBelow};
 
-use crate::changing::one_where;
-use crate::quotients::fitting;
+use crate::changing::{not_below, one_where};
+use crate::quotients::{fitting, fitting_difference};
 use fixed_num::{Milli, wide};
 use std::alloc::{AllocError, Global};
 
@@ -25,7 +26,26 @@ pub(crate) fn differ(values: &mut Vec<Option<Milli>>)
 fn minus(value: Option<Milli>, other: Option<Milli>) -> Option<Milli>
     ensures { result ≡ minus value other }
 {
-    fitting(wide(value?) - wide(other?))
+    fitting_difference(value?, other?)
+}
+
+/// Makes of each value by how much it is above the one before, where it is not below it.
+pub(crate) fn rise(values: &mut Vec<Option<Milli>>)
+    ensures { values.new.items ≡ rises values.old.items }
+{
+    let mut before = None;
+    for place in 0..values.len() {
+        let value = values[place];
+        values[place] = risen(value, before);
+        before = value;
+    }
+}
+
+#[tactic(auto, unfolding(crate::specs::Shaped::changed_value))]
+fn risen(value: Option<Milli>, other: Option<Milli>) -> Option<Milli>
+    ensures { result ≡ changed_value (NotBelow (pos 0)) (minus value other) }
+{
+    not_below(0, minus(value, other)?)
 }
 
 /// Makes of each known value the sum of the known up to it.

@@ -1,25 +1,27 @@
 //! The functions that combine series by groups.
-ghost use Rattle.std.specs.Prelude.{◌≡◌, ◌≢◌, ◌<◌, ◌++◌, [], ◌∷◌, ℕ, List, All, IfErr, IfOk, Ok, Err, OnOk, length, string_bytes};
+ghost use Rattle.std.specs.Prelude.{◌≡◌, ◌≢◌, ◌<◌, ◌++◌, [], ◌∷◌, ℕ, List, All, IfErr, IfOk, None, Some, Ok, Err, OnOk, length, option_map};
 ghost use Rattle.std.specs.List.{AllZip};
-ghost use Rattle.series_set.specs.declared.grid.EvalFault.TheVariants.{NoMemory};
+ghost use Rattle.series_set.specs.declared.grid.EvalFault.TheVariants.{NoMemory, StepTooWide};
 ghost use Rattle.series_set.specs.Series.{SeriesValue};
+ghost use Rattle.series_set.specs.CommonGrid.{first_wide};
 ghost use Rattle.series_funcs.specs.Combined.{AreCombinable, IsSoonAfter};
 ghost use Rattle.series_funcs.specs.Each.{each_of};
-ghost use Rattle.series_funcs.specs.Regrouped.{combine_of, combined_group, group_text, groups_by, regroup};
+ghost use Rattle.series_funcs.specs.Regrouped.{combine_of, combined_group, combined_groups, group_text, groups_by, members, regroup};
 
 use crate::combining::combined_series;
 use crate::group_name::GroupName;
 use crate::kinds::{Combine, Regroup};
 use crate::node_texts::{node_text, text_without};
 use indexmap::IndexMap;
-use series_set::{EvalFault, Series, SeriesSet};
+use series_set::{EvalFault, Series, SeriesSet, common_step};
 use std::alloc::{AllocError, Global};
 
 /// The series in groups, in order of first appearance, each combined to one on its own common grid: see [`Regroup`]. The name and the
 /// path of each are the text by which its series are grouped. No series give none. They may be combined again, and end less than
 /// 31,536,000 seconds after all of these series. The work grows with the series and what it is to combine them.
 ///
-/// Errors: that of the first group that has no common grid, and want of memory.
+/// Errors: `StepTooWide` where the steps of a group have no common multiple up to the widest step, with that of the first such group;
+/// else that of the first group that has no common grid; and want of memory.
 #[tactic(auto, unfolding(crate::specs::Regrouped::regroup))]
 pub fn regroup(alloc: Global, kind: &Regroup, set: &SeriesSet) -> Result<SeriesSet, EvalFault>
     requires { AreCombinable set.now }
@@ -29,7 +31,7 @@ pub fn regroup(alloc: Global, kind: &Regroup, set: &SeriesSet) -> Result<SeriesS
     ensures bounds { IfOk result (All (IsSoonAfter set.now)) }
 {
     let groups = groups_of(alloc, kind, set.as_slice())?;
-    combine_each(alloc, combine_of(kind), &groups)
+    combine_groups(alloc, combine_of(kind), &groups)
 }
 
 // The series of each group, by its text.
@@ -92,6 +94,40 @@ fn add_to_group(
     let mut group = SeriesSet::new(alloc);
     group.push(series)?;
     groups.insert(name, group)?;
+    Ok(())
+}
+
+// Each group combined, once all have a common step.
+fn combine_groups(
+    alloc: Global,
+    kind: Combine,
+    groups: &IndexMap<GroupName, SeriesSet>,
+) -> Result<SeriesSet, EvalFault>
+    requires some { All (λ group. 0 < length group.1) groups.now.entries }
+    requires series { All (λ group. AreCombinable group.1) groups.now.entries }
+    ensures ok { IfOk result (λ together. combined_groups kind groups.now.entries ≡ Ok together) }
+    ensures err { IfErr result (λ fault.
+        fault ≢ NoMemory → combined_groups kind groups.now.entries ≡ Err fault) }
+    ensures bounds { IfOk result (λ together.
+        AllZip (λ group series. IsSoonAfter group.1 series) groups.now.entries together) }
+{
+    check_steps(groups)?;
+    combine_each(alloc, kind, groups)
+}
+
+// Refuses groups of which one has no common step.
+fn check_steps(groups: &IndexMap<GroupName, SeriesSet>) -> Result<(), EvalFault>
+    requires { All (λ group. AreCombinable group.1) groups.now.entries }
+    ensures ok { IfOk result (λ _. first_wide (members groups.now.entries) ≡ None) }
+    ensures err { IfErr result (λ fault.
+        option_map StepTooWide (first_wide (members groups.now.entries)) ≡ Some fault) }
+{
+    for place in 0..groups.len() {
+        let Some((_, group)) = groups.get_index(place) else {
+            unreachable!()
+        };
+        common_step(group.as_slice())?;
+    }
     Ok(())
 }
 

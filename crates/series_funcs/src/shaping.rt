@@ -4,11 +4,11 @@ ghost use Rattle.series_set.specs.declared.grid.EvalFault.TheVariants.{NoMemory}
 ghost use Rattle.series_set.specs.Series.{end_of, latest_end, most_values};
 ghost use Rattle.series_funcs.specs.Each.{each_of};
 ghost use Rattle.series_funcs.specs.Moved.{HasStep, IsSoLate, IsSummaryStep, later_by, lateness, moved_start, shape, shifted, stays, summarized};
-ghost use Rattle.series_funcs.specs.Shaped.{rises, shaped_series, shaped_values};
+ghost use Rattle.series_funcs.specs.Shaped.{shaped_series, shaped_values};
 
 use crate::changing::{Change, change_each, take_least};
 use crate::kinds::{Gather, Shape};
-use crate::looking_back::{add_up, delayed, differ, keep_last, tell_changes};
+use crate::looking_back::{add_up, delayed, differ, keep_last, rise, tell_changes};
 use crate::naming::{CallName, call_text};
 use crate::summary::summarized;
 use fixed_num::{Milli, wide};
@@ -213,12 +213,4 @@ fn shaped_values(
         Shape::Summarize { .. } | Shape::TimeShift { .. } => {}
     }
     Ok(values)
-}
-
-// Makes of each value by how much it is above the one before, where it is not below it.
-fn rise(values: &mut Vec<Option<Milli>>)
-    ensures { values.new.items ≡ rises values.old.items }
-{
-    differ(values);
-    change_each(values, &Change::NotBelow { least: 0 });
 }

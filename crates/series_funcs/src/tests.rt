@@ -211,7 +211,15 @@ fn series_are_brought_to_their_common_grid(rt: HostRuntime) -> Result<(), Fail> 
 
 // The first quotient of a row over rows.
 fn quotient(alloc: Global, row: Row, rows: &[Row]) -> Result<Option<Series>, EvalFault> {
-    let dividends = set_of(alloc, "x", &[row])?;
+    last_quotient(alloc, &[row], rows)
+}
+
+fn last_quotient(
+    alloc: Global,
+    dividends: &[Row],
+    rows: &[Row],
+) -> Result<Option<Series>, EvalFault> {
+    let dividends = set_of(alloc, "x", dividends)?;
     let divisors = set_of(alloc, "y", rows)?;
     if !are_combinable(dividends.as_slice()) || !are_combinable(divisors.as_slice()) {
         return Ok(None);
@@ -778,6 +786,28 @@ fn fault_is_that_of_the_first_group_that_has_none(rt: HostRuntime) -> Result<(),
         ("b", (0, 7, &[Some(7)])),
     ];
     let found = group_at(alloc, &kind, &rows, 0);
+    assert_fault(&rt, found, EvalFault::StepTooWide(220_752_000));
+    Ok(())
+}
+
+#[test]
+fn a_step_too_wide_is_told_before_a_grid_too_long(rt: HostRuntime) -> Result<(), Fail> {
+    let alloc = rt.alloc();
+    let kind = Regroup::GroupByNode {
+        node: 0,
+        combine: Combine::Max,
+    };
+    let early: Row = (0, 7, &[Some(1)]);
+    let late: Row = (70_000_000, 7, &[Some(1)]);
+    let wide: Row = (0, 31_536_000, &[Some(5)]);
+    let long = EvalFault::TooLong(10_000_001);
+    let found = group_at(alloc, &kind, &[("a", early), ("a", late)], 0);
+    assert_fault(&rt, found, long);
+    let rows = [("a", early), ("a", late), ("b", wide), ("b", early)];
+    let found = group_at(alloc, &kind, &rows, 0);
+    assert_fault(&rt, found, EvalFault::StepTooWide(220_752_000));
+    assert_fault(&rt, last_quotient(alloc, &[late], &[early]), long);
+    let found = last_quotient(alloc, &[late, wide], &[early]);
     assert_fault(&rt, found, EvalFault::StepTooWide(220_752_000));
     Ok(())
 }

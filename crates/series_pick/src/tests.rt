@@ -103,6 +103,7 @@ fn series_are_chosen_and_sorted(rt: HostRuntime) -> Result<(), Fail> {
     ];
     for (kind, want) in table {
         assert_chosen(&rt, rt.alloc(), &kind, &ROWS, want)?;
+        assert_chosen(&rt, rt.alloc(), &kind, &[], "")?;
     }
     Ok(())
 }

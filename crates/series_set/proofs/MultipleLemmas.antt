@@ -1,7 +1,7 @@
 -- The least common multiple: the first number that both divide, and what the greatest common divisor makes of it.
-use Rattle.std.proofs.Common.{◌≡◌, ℕ, zero, suc, ◌+◌, ◌*◌, ◌/◌, ◌%◌, ◌<◌, ◌≤◌, ◌==◌, Bool, true, false, ◌&&◌, find, Some, inl, inr, refl, sym, ap, subst, ◌∙◌, arith}
+use Rattle.std.proofs.Common.{◌≡◌, ℕ, zero, suc, ◌+◌, ◌*◌, ◌/◌, ◌%◌, ◌<◌, ◌≤◌, ◌==◌, Bool, true, false, ◌&&◌, find, Some, inl, inr, refl, sym, ap, subst, ◌∙◌, arith, mul-one}
 use Prim.Native.Nat.{◌∣◌}
-use Rattle.std.proofs.Math.Nat.{dvd-mod_iff, dvd_of_mod-eq-zero, mod-eq-zero_of_dvd, dvd_antisymm, dvd-mul_left, dvd-mul_right, pos_of_dvd_of_pos, div-mul_cancel, dvd_of_mul-dvd-mul_right, mul-dvd-mul_left, mul_assoc, mul_comm, mul-div_assoc}
+use Rattle.std.proofs.Math.Nat.{dvd-mod_iff, dvd_of_mod-eq-zero, mod-eq-zero_of_dvd, dvd_antisymm, dvd_refl, dvd-mul_left, dvd-mul_right, pos_of_dvd_of_pos, div-mul_cancel, dvd_of_mul-dvd-mul_right, mul-dvd-mul_left, mul_assoc, mul_comm, mul-div_assoc}
 use Rattle.std.proofs.lemmas.Bool.{cases_lt, false≢true}
 use Rattle.std.proofs.lemmas.Bool.Decides.{nat_tests}
 use Rattle.std.proofs.lemmas.Nat.{mod_below, mul-le}
@@ -94,6 +94,11 @@ lcm_is a b some also =
       least = least;
       divides = λ n one two. nothing_over a b m n common.0 common.1 is.behind least one two;
     })
+
+pub lcm_one : (a : ℕ) → 1 ≤ a → lcm 1 a ≡ a
+lcm_one a some =
+    let is = lcm_is 1 a (omega arith) some in
+    dvd_antisymm (is.divides a (subst (λ (n : ℕ). 1 ∣ n) (mul-one a) (dvd-mul_left 1 a)) (dvd_refl a)) is.second
 
 -- ---- by the greatest common divisor
 

@@ -2,7 +2,7 @@
 use Rattle.std.specs.Prelude.{◌≡◌, ℕ, ◌+◌, ◌-◌, ◌*◌, ◌/◌, ◌%◌, ◌==◌, ◌<◌, ◌≤◌, min, max, Bool, ◌&&◌, nat_lt, nat_le, List, [], ◌∷◌, All, map, Option, None, Result, Ok, Err, if◌then◌else◌}
 use Rattle.std.specs.Int.{next_multiple_of}
 use Rattle.std.specs.List.{find, fold, list_all, range_with_len, reduce}
-use Rattle.std.specs.Option.{option_map_or, unwrap_or}
+use Rattle.std.specs.Option.{option_map_or, option_or, unwrap_or}
 use Rattle.series_set.specs.declared.grid.Grid.{Grid}
 use Rattle.series_set.specs.declared.grid.EvalFault.{EvalFault}
 use Rattle.series_set.specs.declared.grid.EvalFault.TheVariants.{StepTooWide, TooLong}
@@ -32,6 +32,11 @@ wide_multiple steps = find is_too_wide (multiples_from 1 steps)
 
 abbrev pub steps_of : List SeriesValue → List ℕ
 steps_of set = map (λ s. s.step) set
+
+-- the first that is too wide of lists of series, from the left, each on a way of its own
+abbrev pub first_wide : List (List SeriesValue) → Option ℕ
+first_wide [] = None
+first_wide (set ∷ sets) = option_or (wide_multiple (steps_of set)) (first_wide sets)
 
 -- the step to which series can be brought: no multiple on the way is too wide
 pub record IsCommonStep (set : List SeriesValue) (step : ℕ) : Type 0 where

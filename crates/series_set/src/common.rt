@@ -1,5 +1,5 @@
 //! The common grid of series.
-ghost use Rattle.std.specs.Prelude.{◌≡◌, ◌<◌, ◌≤◌, All, IfErr, IfOk, Some, length, option_map};
+ghost use Rattle.std.specs.Prelude.{◌≡◌, ◌<◌, ◌≤◌, [], ◌∷◌, All, IfErr, IfOk, None, Some, length, option_map};
 ghost use Rattle.std.specs.List.{list_all};
 ghost use Rattle.series_set.specs.declared.grid.EvalFault.TheVariants.{StepTooWide};
 ghost use Rattle.series_set.specs.Series.{latest_end, widest_step};
@@ -31,8 +31,10 @@ pub fn common_grid(set: &SeriesSet) -> Result<Grid, EvalFault>
     grid_of(series, step).short()
 }
 
-// The least common multiple of the steps, or the first on the way to it that is too wide.
-fn common_step(series: &[Series]) -> Result<u64, EvalFault>
+/// The least common multiple of the steps of series. Takes no memory.
+///
+/// Errors: `StepTooWide` exactly where a multiple on the way from the first series to the last is above 31,536,000, with the first such.
+pub fn common_step(series: &[Series]) -> Result<u64, EvalFault>
     requires { All (λ s. s.step ≤ widest_step) series.now }
     ensures ok { IfOk result (IsCommonStep series.now) }
     ensures err { IfErr result (λ fault.
@@ -44,6 +46,24 @@ fn common_step(series: &[Series]) -> Result<u64, EvalFault>
         if step > WIDEST_STEP {
             return Err(EvalFault::StepTooWide(step));
         }
+    }
+    Ok(step)
+}
+
+/// The least common multiple of the steps of two series. Takes no memory.
+///
+/// Errors: `StepTooWide` exactly where it is above 31,536,000, with the multiple.
+#[tactic(auto, unfolding(crate::specs::CommonGrid::wide_multiple))]
+pub fn pair_step(one: &Series, other: &Series) -> Result<u64, EvalFault>
+    requires one { one.now.step ≤ widest_step }
+    requires other { other.now.step ≤ widest_step }
+    ensures ok { IfOk result (λ _. wide_multiple (steps_of (one.now ∷ other.now ∷ [])) ≡ None) }
+    ensures err { IfErr result (λ fault.
+        option_map StepTooWide (wide_multiple (steps_of (one.now ∷ other.now ∷ []))) ≡ Some fault) }
+{
+    let step = lcm(one.step(), other.step());
+    if step > WIDEST_STEP {
+        return Err(EvalFault::StepTooWide(step));
     }
     Ok(step)
 }

@@ -12,7 +12,7 @@ mod set;
 mod thinning;
 
 pub use averaging::average_known;
-pub use common::common_grid;
+pub use common::{common_grid, common_step, pair_step};
 pub use grid::{EvalFault, Grid};
 pub use laws::{
     agreeing_series_keep_their_grid, average_is_rounded_down, common_grid_holds_all_moments,

@@ -214,7 +214,7 @@ impl Series {
     {
         let name = self.name.clone()?;
         let path = self.path.clone()?;
-        let values = self.values.clone()?;
+        let values = Vec::from_slice(*self.values.allocator(), self.values.as_slice())?;
         Ok(Series {
             name,
             path,

@@ -14,7 +14,7 @@ use Rattle.metric_path.specs.Path.{path_fault}
 use Rattle.ring_format.specs.Layout.{LayoutValue, layout_fault}
 use Rattle.ring_format.specs.Patch.{PatchValue}
 use Rattle.ring_archive.specs.Ring.{IsRingFile, UnderPatch}
-use Rattle.archive_update.specs.Batch.{home_of}
+use Rattle.archive_update.specs.Batch.{archive_for}
 use Rattle.metric_index.specs.Index.{Sets, entry_of}
 use Rattle.metric_table.specs.declared.known.Known.{Known}
 use Rattle.metric_table.specs.Table.{drained as once_more}
@@ -161,15 +161,15 @@ needs_by false known P is some = absurd (subst (λ (o : Option LayoutValue). IsS
 pub needs_none : (shard : Inside) (path : List ℕ) (now : ℕ) (patch : PatchValue) → MakesBatch shard path now patch → LaysNothing patch → NeedsNoWrite shard path now
 needs_none shard path now patch makes none =
     let kept = kept_where_old makes.known.is_kept patch.fresh makes.plans.fresh none.0 in
-    subst (λ (o : Option LayoutValue). IsSomeAnd o (λ layout. All (λ p. home_of layout.archives now p.0 ≡ None) (points_of shard.cache.metrics path))) (sym (ap layout_kept makes.there ∙ kept_as makes.known kept))
-    (subst (λ (m : LayoutValue). All (λ p. home_of m.archives now p.0 ≡ None) (points_of shard.cache.metrics path)) makes.plans.layout (makes.plans.cells.0 none.1))
+    subst (λ (o : Option LayoutValue). IsSomeAnd o (λ layout. All (λ p. archive_for layout.archives now p.0 ≡ None) (points_of shard.cache.metrics path))) (sym (ap layout_kept makes.there ∙ kept_as makes.known kept))
+    (subst (λ (m : LayoutValue). All (λ p. archive_for m.archives now p.0 ≡ None) (points_of shard.cache.metrics path)) makes.plans.layout (makes.plans.cells.0 none.1))
 
 pub none_needed : (shard : Inside) (path : List ℕ) (now : ℕ) (patch : PatchValue) → MakesBatch shard path now patch → NeedsNoWrite shard path now → LaysNothing patch
 none_needed shard path now patch makes needs =
-    let some = needs_by makes.known.is_kept makes.known (λ layout. All (λ p. home_of layout.archives now p.0 ≡ None) (points_of shard.cache.metrics path)) refl
-    (subst (λ (o : Option Known). IsSomeAnd (layout_kept o) (λ layout. All (λ p. home_of layout.archives now p.0 ≡ None) (points_of shard.cache.metrics path))) makes.there needs) in (
+    let some = needs_by makes.known.is_kept makes.known (λ layout. All (λ p. archive_for layout.archives now p.0 ≡ None) (points_of shard.cache.metrics path)) refl
+    (subst (λ (o : Option Known). IsSomeAnd (layout_kept o) (λ layout. All (λ p. archive_for layout.archives now p.0 ≡ None) (points_of shard.cache.metrics path))) makes.there needs) in (
       makes.plans.fresh ∙ ap not some.0,
-      makes.plans.cells.1 (subst (λ (m : LayoutValue). All (λ p. home_of m.archives now p.0 ≡ None) (points_of shard.cache.metrics path)) (sym makes.plans.layout) some.1),
+      makes.plans.cells.1 (subst (λ (m : LayoutValue). All (λ p. archive_for m.archives now p.0 ≡ None) (points_of shard.cache.metrics path)) (sym makes.plans.layout) some.1),
     )
 
 pub begins : (old : Inside) (cache : Cache) (picker : Picking) (table : Table) (shelf : Option DrainValue) (path : List ℕ) (now : ℕ) (patch : PatchValue) → old.shelf ≡ None → IsOfClass old.class path → Leaves old cache picker path

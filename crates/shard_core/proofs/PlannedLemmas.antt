@@ -6,7 +6,7 @@ use Rattle.metric_path.specs.FileName.{file_name_of}
 use Rattle.ring_format.specs.Layout.{LayoutValue}
 use Rattle.ring_format.specs.Patch.{PatchValue}
 use Rattle.ring_archive.specs.Ring.{ReadsAs, Rings, UnderPatch}
-use Rattle.archive_update.specs.Batch.{batch, home_of}
+use Rattle.archive_update.specs.Batch.{batch, archive_for}
 use Rattle.archive_update.specs.Laid.{IsAlike}
 use Rattle.metric_table.specs.declared.known.Known.{Known}
 use Rattle.shard_core.specs.Plans.{PlansFor}
@@ -15,7 +15,7 @@ use Rattle.shard_core.specs.Plans.{PlansFor}
 pub plans_for : (known : Known) (image : Option Image) (name path : List ℕ) (given : LayoutValue) (old new : PatchValue) (now : ℕ) (points : List (ℕ × ℤ))
     → old ≡ record { path = path; layout = known.layout; fresh = not known.is_kept; cells = [] } → IsAlike old new → given ≡ known.layout → name ≡ file_name_of path
     → UnderPatch old.fresh image name (λ file. (rings : Rings) → ReadsAs old file rings → ReadsAs new file (batch given now points rings))
-    → ((new.cells ≡ []) ↔ All (λ p. home_of given.archives now p.0 ≡ None) points) → PlansFor known image path points now new
+    → ((new.cells ≡ []) ↔ All (λ p. archive_for given.archives now p.0 ≡ None) points) → PlansFor known image path points now new
 plans_for known image name path given old new now points is alike layout named plans cells =
     let own : new.path ≡ path = alike.path ∙ ap (λ (p : PatchValue). p.path) is in
     let laid : new.layout ≡ known.layout = alike.layout ∙ ap (λ (p : PatchValue). p.layout) is in
@@ -31,5 +31,5 @@ plans_for known image name path given old new now points is alike layout named p
       layout = laid;
       fresh = fresh;
       batch = subst (λ (o : PatchValue). UnderPatch o.fresh image (file_name_of path) (λ file. (rings : Rings) → ReadsAs o file rings → ReadsAs new file (batch new.layout now points rings))) old_is in_layout;
-      cells = subst (λ (m : LayoutValue). (new.cells ≡ []) ↔ All (λ p. home_of m.archives now p.0 ≡ None) points) both cells;
+      cells = subst (λ (m : LayoutValue). (new.cells ≡ []) ↔ All (λ p. archive_for m.archives now p.0 ≡ None) points) both cells;
     }

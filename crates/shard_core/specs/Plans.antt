@@ -8,7 +8,7 @@ use Rattle.metric_path.specs.FileName.{file_name_of}
 use Rattle.ring_format.specs.Layout.{layout_fault}
 use Rattle.ring_format.specs.Patch.{PatchValue}
 use Rattle.ring_archive.specs.Ring.{ReadsAs, Rings, UnderPatch}
-use Rattle.archive_update.specs.Batch.{batch, home_of}
+use Rattle.archive_update.specs.Batch.{batch, archive_for}
 use Rattle.metric_index.specs.Index.{entry_of}
 use Rattle.metric_table.specs.declared.known.Known.{Known}
 use Rattle.point_cache.specs.Pending.{Cache, points_of}
@@ -33,7 +33,7 @@ Drains old new path now =
 abbrev pub NeedsNoWrite : Inside → List ℕ → ℕ → Type 0
 NeedsNoWrite shard path now =
     IsSomeAnd (kept_layout shard.table path)
-    (λ layout. All (λ p. home_of layout.archives now p.0 ≡ None) (points_of shard.cache.metrics path))
+    (λ layout. All (λ p. archive_for layout.archives now p.0 ≡ None) (points_of shard.cache.metrics path))
 
 -- A drain of the metric begins: it is drained for all that the shard says from now on, and its
 -- patch is on the shelf, unless there is nothing to write.
@@ -83,7 +83,7 @@ pub record PlansFor (known : Known) (image : Option Image) (path : List ℕ) (po
   pub batch : UnderPatch patch.fresh image (file_name_of path) (λ file. (rings : Rings)
       → ReadsAs (record { path = path; layout = patch.layout; fresh = patch.fresh; cells = [] }) file rings
       → ReadsAs patch file (batch patch.layout now points rings))
-  pub cells : (patch.cells ≡ []) ↔ All (λ p. home_of patch.layout.archives now p.0 ≡ None) points
+  pub cells : (patch.cells ≡ []) ↔ All (λ p. archive_for patch.layout.archives now p.0 ≡ None) points
 
 -- the same of the pending points of a metric, which was not drained too often
 pub record MakesBatch (shard : Inside) (path : List ℕ) (now : ℕ) (patch : PatchValue) : Type 0 where

@@ -1,12 +1,14 @@
 -- A shard that started.
-use Rattle.std.specs.Prelude.{◌≡◌, ◌≤◌, ℕ, [], List, Option, None, Some, option_map}
+use Rattle.std.specs.Prelude.{◌≡◌, ◌≤◌, ℕ, [], List, Option, None, Some, option_map, slice_get}
 use Rattle.outside_io.specs.Image.{Image}
 use Rattle.outside_io.specs.declared.disk.Disk.{Ghosts}
 use Rattle.schema_rules.specs.LayoutBy.{layout_by}
 use Rattle.carbon_model.specs.RingFiles.{IsOfClass, Settings}
-use Rattle.carbon_model.specs.State.{Kept}
+use Rattle.carbon_model.specs.State.{Kept, State}
 use Rattle.shard_core.specs.Opened.{IsOpened, Opens}
+use Rattle.shard_core.specs.Shard.{Holds}
 use Rattle.shard_core.specs.Table.{Table, kept_layout}
+use Rattle.shard_core.specs.View.{inside_of}
 use Rattle.shard_core.specs.declared.shard.Shard.{Shard}
 
 -- the shard of a class started from this disk, with what is fixed for the run
@@ -30,3 +32,19 @@ KeepsLaidOut class None table kept =
     (path : List ℕ) → IsOfClass class path
     → kept_layout table path ≡ option_map (λ k. k.layout) (kept path)
 KeepsLaidOut class (Some image) table kept = Unit {0}
+
+-- The shard of this class stands for the part that the class has of a state, and writes no drain.
+-- So many calls of its disk have failed.
+pub record IsReadyShard {D : Type 0} {d : Ghosts D} (told : ℕ → Option Image) (start : State)
+    (earlier : ℕ → ℕ) (place : ℕ) (shard : Shard D d) : Type 0 where
+  pub class : shard.class ≡ place
+  pub empty : shard.shelf ≡ None
+  pub holds : Holds (told place) (inside_of shard) start
+  pub faults : earlier place ≡ d.faults shard.disk
+
+-- each shard does, at its place
+abbrev pub AreReadyShards : {D : Type 0} {d : Ghosts D} → (ℕ → Option Image) → State → (ℕ → ℕ)
+    → List (Shard D d) → Type 0
+AreReadyShards {D} {d} told start earlier shards =
+    (k : ℕ) (shard : Shard D d) → slice_get shards k ≡ Some shard
+    → IsReadyShard told start earlier k shard

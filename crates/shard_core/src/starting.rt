@@ -166,13 +166,13 @@ fn read_file_head<D: Disk>(disk: &mut D, name: &str) -> Result<FileHead, DiskFai
     let count = size.min(HEAD_BYTES as u64) as usize;
     let bytes = &mut front[..count];
     match disk.read_at(name, 0, bytes) {
-        Ok(()) => Ok(told_head(bytes, size)),
+        Ok(()) => Ok(classify_head(bytes, size)),
         Err(DiskFailed) => Err(DiskFailed),
     }
 }
 
 // What the first 316 bytes of a file of `size` bytes tell, or all where there are fewer.
-fn told_head(bytes: &[u8], size: u64) -> FileHead
+fn classify_head(bytes: &[u8], size: u64) -> FileHead
     requires { length bytes.now ≡ min 316 size }
     ensures { (file : List ℕ) → bytes.now ≡ take 316 file → size ≡ length file
         → TellsHead (Some file) result }

@@ -20,7 +20,8 @@ use Rattle.shard_core.specs.declared.shard.Shard.{Shard}
 use Rattle.shard_core.proofs.LawLemmas.{started_holds}
 use Rattle.shard_set.specs.Disks.{faults_at, told_of}
 use Rattle.shard_set.specs.Opening.{AreStarted}
-use Rattle.shard_set.specs.OpeningState.{AreReadyShards, IsReadyShard, kept_by, kept_from, opening_of, settings_in}
+use Rattle.shard_core.specs.Started.{AreReadyShards, IsReadyShard}
+use Rattle.shard_set.specs.OpeningState.{kept_by, kept_from, opening_of, settings_in}
 use Rattle.shard_set.proofs.ListLemmas.{there_below}
 
 -- ---- what is kept

@@ -1,5 +1,5 @@
 -- The state in which a run begins over shards that started.
-use Rattle.std.specs.Prelude.{◌≡◌, ℕ, List, [], ◌∷◌, Option, Some, None, option_and_then, option_map, slice_get}
+use Rattle.std.specs.Prelude.{ℕ, List, [], ◌∷◌, Option, Some, None, option_and_then, option_map, slice_get}
 use Rattle.outside_io.specs.Image.{Image}
 use Rattle.outside_io.specs.declared.disk.Disk.{Ghosts}
 use Rattle.metric_path.specs.Class.{class_of}
@@ -8,9 +8,7 @@ use Rattle.schema_rules.specs.LayoutBy.{layout_by}
 use Rattle.drain_order.specs.declared.strategy.Strategy.TheVariants.{Naive}
 use Rattle.carbon_model.specs.RingFiles.{Settings, kept_on, of_legal}
 use Rattle.carbon_model.specs.State.{Kept, State, no_rings}
-use Rattle.shard_core.specs.Shard.{Holds}
 use Rattle.shard_core.specs.Table.{Table, kept_layout}
-use Rattle.shard_core.specs.View.{inside_of}
 use Rattle.shard_core.specs.declared.shard.Shard.{Shard}
 
 -- What is kept of a path: what the disk shows of it. Where the disk does not tell its image, it is
@@ -49,19 +47,3 @@ opening_of shards = record {
   limit = (settings_in shards).limit;
   strategy = (settings_in shards).strategy;
 }
-
--- The shard of this class stands for the part that the class has of a state, and writes no drain.
--- So many calls of its disk have failed.
-pub record IsReadyShard {D : Type 0} {d : Ghosts D} (told : ℕ → Option Image) (start : State)
-    (earlier : ℕ → ℕ) (place : ℕ) (shard : Shard D d) : Type 0 where
-  pub class : shard.class ≡ place
-  pub empty : shard.shelf ≡ None
-  pub holds : Holds (told place) (inside_of shard) start
-  pub faults : earlier place ≡ d.faults shard.disk
-
--- each shard does, at its place
-abbrev pub AreReadyShards : {D : Type 0} {d : Ghosts D} → (ℕ → Option Image) → State → (ℕ → ℕ)
-    → List (Shard D d) → Type 0
-AreReadyShards {D} {d} told start earlier shards =
-    (k : ℕ) (shard : Shard D d) → slice_get shards k ≡ Some shard
-    → IsReadyShard told start earlier k shard

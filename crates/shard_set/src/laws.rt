@@ -5,7 +5,8 @@ ghost use Rattle.carbon_model.specs.RingFiles.{Opens, Settings};
 ghost use Rattle.shard_core.specs.declared.shard.Shard.{Shard};
 ghost use Rattle.shard_set.specs.Disks.{faults_at, told_of};
 ghost use Rattle.shard_set.specs.Opening.{AreStarted};
-ghost use Rattle.shard_set.specs.OpeningState.{AreReadyShards, opening_of};
+ghost use Rattle.shard_core.specs.Started.{AreReadyShards};
+ghost use Rattle.shard_set.specs.OpeningState.{opening_of};
 
 use outside_io::Disk;
 

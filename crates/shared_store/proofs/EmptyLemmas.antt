@@ -20,7 +20,7 @@ use Rattle.shard_core.specs.declared.shard.Shard.{Shard}
 use Rattle.shard_core.proofs.LawLemmas.{started_holds}
 use Rattle.shared_history.proofs.ListLemmas.{pushed}
 use Rattle.shared_store.specs.Empty.{AreEmptyShards, IsEmptyShard, failed_so_far, nothing_by, told_so_far}
-use Rattle.shared_store.specs.Starts.{AreFreshShards}
+use Rattle.shard_core.specs.Started.{AreReadyShards}
 
 none_kept : (f : Option PathFault) (o : Option Kept) → o ≡ None → None ≡ of_legal f o
 none_kept None o e = sym e
@@ -67,7 +67,7 @@ empty_more {D} {d} rules limit class shards shards' shard all one count is =
     (pushed (λ (k : ℕ) (s : Shard D d). IsEmptyShard rules limit k s) shards shard all (subst (λ (k : ℕ). IsEmptyShard rules limit k shard) (sym count) one))
 
 pub fresh_of : {D : Type 0} {d : Ghosts D} (rules : RulesValue) (limit : ℕ) (shards : List (Shard D d)) → AreEmptyShards rules limit shards
-    → AreFreshShards (told_so_far shards) (nothing_by rules limit) (failed_so_far shards) shards
+    → AreReadyShards (told_so_far shards) (nothing_by rules limit) (failed_so_far shards) shards
 fresh_of {D} {d} rules limit shards all k shard there =
     let it = all k shard there in record {
       class = it.class;

@@ -7,7 +7,7 @@ use Rattle.std.proofs.lemmas.Bool.Decides.{eqb_tells}
 use mathlib.Core.List.{IsPrefix}
 use Rattle.metric_path.specs.Path.{path_fault}
 use Rattle.metric_path.specs.Class.{class_of}
-use Rattle.archive_update.specs.Batch.{home_of}
+use Rattle.archive_update.specs.Batch.{archive_for}
 use Rattle.ring_format.specs.Layout.{LayoutValue}
 use Rattle.outside_io.specs.Image.{Image}
 use Rattle.atomic_table.specs.Seated.{TableId}
@@ -197,13 +197,13 @@ module _ (start : State) (told : Option Image) (shard : Inside) (tail : TailValu
       holds.kept.layouts path (record { legal = legal; here = here ∙ keeps }) ∙ ap (option_map (λ k. k.layout)) (sym (alike.kept path here))
 
   needs_of : (path : List ℕ) (now : ℕ) (layout : Option LayoutValue) (kept : Option Kept) → layout ≡ option_map (λ k. k.layout) kept
-      → IsSomeAnd layout (λ l. All (λ p. home_of l.archives now p.0 ≡ None) (points_in (replay start before) path))
-      ↔ IsSomeAnd kept (λ k. All (λ p. home_of k.layout.archives now p.0 ≡ None) (points_in (replay start before) path))
+      → IsSomeAnd layout (λ l. All (λ p. archive_for l.archives now p.0 ≡ None) (points_in (replay start before) path))
+      ↔ IsSomeAnd kept (λ k. All (λ p. archive_for k.layout.archives now p.0 ≡ None) (points_in (replay start before) path))
   needs_of path now layout None is =
-      (λ some. absurd (subst (λ (o : Option LayoutValue). IsSomeAnd o (λ l. All (λ p. home_of l.archives now p.0 ≡ None) (points_in (replay start before) path))) is some), λ none. absurd none)
+      (λ some. absurd (subst (λ (o : Option LayoutValue). IsSomeAnd o (λ l. All (λ p. archive_for l.archives now p.0 ≡ None) (points_in (replay start before) path))) is some), λ none. absurd none)
   needs_of path now layout (Some k) is = (
-    (λ some. subst (λ (o : Option LayoutValue). IsSomeAnd o (λ l. All (λ p. home_of l.archives now p.0 ≡ None) (points_in (replay start before) path))) is some),
-    (λ some. subst (λ (o : Option LayoutValue). IsSomeAnd o (λ l. All (λ p. home_of l.archives now p.0 ≡ None) (points_in (replay start before) path))) (sym is) some),
+    (λ some. subst (λ (o : Option LayoutValue). IsSomeAnd o (λ l. All (λ p. archive_for l.archives now p.0 ≡ None) (points_in (replay start before) path))) is some),
+    (λ some. subst (λ (o : Option LayoutValue). IsSomeAnd o (λ l. All (λ p. archive_for l.archives now p.0 ≡ None) (points_in (replay start before) path))) (sym is) some),
   )
 
   pub nothing_before : (path : List ℕ) (now : ℕ) → path_fault path ≡ None → class_of path ≡ tail.class
@@ -211,8 +211,8 @@ module _ (start : State) (told : Option Image) (shard : Inside) (tail : TailValu
   nothing_before path now legal here =
       let both = needs_of path now (kept_layout shard.table path) ((replay start before).kept path) (layout_before path legal here) in
       let points = points_before path here in (
-        (λ some. both.0 (subst (λ (ps : List (ℕ × ℤ)). IsSomeAnd (kept_layout shard.table path) (λ l. All (λ p. home_of l.archives now p.0 ≡ None) ps)) points some)),
-        (λ some. subst (λ (ps : List (ℕ × ℤ)). IsSomeAnd (kept_layout shard.table path) (λ l. All (λ p. home_of l.archives now p.0 ≡ None) ps)) (sym points) (both.1 some)),
+        (λ some. both.0 (subst (λ (ps : List (ℕ × ℤ)). IsSomeAnd (kept_layout shard.table path) (λ l. All (λ p. archive_for l.archives now p.0 ≡ None) ps)) points some)),
+        (λ some. subst (λ (ps : List (ℕ × ℤ)). IsSomeAnd (kept_layout shard.table path) (λ l. All (λ p. archive_for l.archives now p.0 ≡ None) ps)) (sym points) (both.1 some)),
       )
 
 -- ---- after a plan

@@ -8,7 +8,7 @@ use Rattle.schema_rules.specs.LayoutBy.{layout_by}
 use Rattle.schema_rules.specs.RulesOf.{RulesValue}
 use Rattle.carbon_model.specs.State.{State}
 use Rattle.shard_core.specs.declared.shard.Shard.{Shard}
-use Rattle.shared_store.specs.Starts.{IsFreshShard}
+use Rattle.shard_core.specs.Started.{IsReadyShard}
 
 -- Nothing is pending and nothing is kept. Of each class so many points may be pending, and they are drained in order of arrival.
 unfoldable pub nothing_by : RulesValue → ℕ → State
@@ -33,7 +33,7 @@ failed_so_far {D} {d} shards k = option_map_or (λ shard. d.faults shard.disk) (
 -- The shard of a class stands for that state, over its disk as it is.
 abbrev pub IsEmptyShard : {D : Type 0} {d : Ghosts D} → RulesValue → ℕ → ℕ → Shard D d → Type 0
 IsEmptyShard {D} {d} rules limit place shard =
-    IsFreshShard (λ k. d.image shard.disk) (nothing_by rules limit) (λ k. d.faults shard.disk) place shard
+    IsReadyShard (λ k. d.image shard.disk) (nothing_by rules limit) (λ k. d.faults shard.disk) place shard
 
 -- each shard does, at its place
 abbrev pub AreEmptyShards : {D : Type 0} {d : Ghosts D} → RulesValue → ℕ → List (Shard D d) → Type 0

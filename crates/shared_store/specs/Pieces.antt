@@ -1,9 +1,10 @@
 -- What the puts of a piece of points tell.
-use Rattle.std.specs.Prelude.{◌≡◌, ◌<◌, ◌≤◌, ◌+◌, ◌^◌, ℕ, Bool, true, false, List, [], ◌∷◌, length, count_by, slice_get, IfSome}
+use Rattle.std.specs.Prelude.{◌≡◌, ◌<◌, ◌≤◌, ◌+◌, ◌^◌, ℕ, Bool, true, false, List, [], ◌∷◌, length, count_by, map, slice_get, IfSome}
 use Rattle.carbon_history.specs.declared.entry.Entry.{Entry}
 use Rattle.carbon_history.specs.declared.entry.Entry.TheVariants as entry
 use Rattle.carbon_history.specs.declared.entry.PutEnd.{PutEnd}
 use Rattle.carbon_history.specs.declared.entry.PutEnd.TheVariants as end
+use Rattle.metric_path.specs.Class.{class_of}
 use Rattle.metric_line.specs.declared.datum.Datum.{Datum}
 use Rattle.point_cache.specs.declared.put.Put.{Put}
 use Rattle.point_cache.specs.declared.put.Put.TheVariants as put
@@ -42,7 +43,7 @@ pub record PutsFirst (start : State) (passes : ℕ) (points : List Datum) (count
   pub counted : counts ≡ counts_of ends
   pub memory : IfSome (slice_get points (length ends)) (λ datum. IsLegal (replay start new.seen) (put_by new.number datum end.Stored))
 
--- the same, or there was no memory for the locks of all classes, and none was put
+-- the same, or there was no memory for the classes of the points or for the locks of all, and none was put
 pub record PutsNone (start : State) (passes : ℕ) (counts : PutCounts) (old new : PassValue) : Type 0 where
   pub enters : Enters start passes [] old new
   pub counted : counts ≡ counts_of []
@@ -52,6 +53,10 @@ abbrev pub HasRoomFor : List Datum → PassValue → Type 0
 HasRoomFor points pass = length (own_entries pass) + (length points + 4) ≤ 2 ^ 48
 
 -- ---- inside a call
+
+-- the class of each of the points
+abbrev pub classes_in : List Datum → List ℕ
+classes_in points = map (λ datum. class_of datum.path) points
 
 -- the counts have room for one more
 pub record FewCounts (counts : PutCounts) : Type 0 where

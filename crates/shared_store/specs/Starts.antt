@@ -1,26 +1,13 @@
 -- What a store starts from.
-use Rattle.std.specs.Prelude.{◌≡◌, ◌<◌, ℕ, List, Option, Some, None, length, slice_get}
+use Rattle.std.specs.Prelude.{◌≡◌, ◌<◌, ℕ, List, Option, length}
 use Rattle.atomic_table.specs.Seated.{TableId}
 use Rattle.outside_io.specs.Image.{Image}
 use Rattle.outside_io.specs.declared.disk.Disk.{Ghosts}
 use Rattle.carbon_model.specs.State.{State}
-use Rattle.shard_core.specs.Shard.{Holds}
-use Rattle.shard_core.specs.View.{inside_of}
+use Rattle.shard_core.specs.Started.{AreReadyShards, IsReadyShard}
 use Rattle.shard_core.specs.declared.shard.Shard.{Shard}
 use Rattle.shared_history.specs.Parts.{AreNewTails, IsNewOrder, IsNewTail, TailValue}
 use Rattle.shared_store.specs.declared.start.Parts.{Parts}
-
--- The shard of a class stands for the class's part of the opening state, with no drain being written, and its disk had failed so often.
-pub record IsFreshShard {D : Type 0} {d : Ghosts D} (told : ℕ → Option Image) (start : State) (earlier : ℕ → ℕ) (place : ℕ) (shard : Shard D d) : Type 0 where
-  pub class : shard.class ≡ place
-  pub empty : shard.shelf ≡ None
-  pub holds : Holds (told place) (inside_of shard) start
-  pub faults : earlier place ≡ d.faults shard.disk
-
--- Each shard is, at its place.
-abbrev pub AreFreshShards : {D : Type 0} {d : Ghosts D} → (ℕ → Option Image) → State → (ℕ → ℕ) → List (Shard D d) → Type 0
-AreFreshShards {D} {d} told start earlier shards =
-    (k : ℕ) (shard : Shard D d) → slice_get shards k ≡ Some shard → IsFreshShard told start earlier k shard
 
 -- A new history with the tails of sixteen classes, and as many shards.
 pub record IsFresh {D : Type 0} {d : Ghosts D} (table : TableId) (passes : ℕ) (told : ℕ → Option Image) (start : State) (earlier : ℕ → ℕ) (parts : Parts D d) : Type 0 where
@@ -29,7 +16,7 @@ pub record IsFresh {D : Type 0} {d : Ghosts D} (table : TableId) (passes : ℕ) 
   pub sixteen_tails : length parts.tails.items ≡ 16
   pub new_tails : AreNewTails table parts.tails.items
   pub sixteen_shards : length parts.shards.items ≡ 16
-  pub fresh_shards : AreFreshShards told start earlier parts.shards.items
+  pub fresh_shards : AreReadyShards told start earlier parts.shards.items
 
 -- ---- inside a start
 
@@ -38,11 +25,11 @@ pub record IsFreshClass {D : Type 0} {d : Ghosts D} (table : TableId) (told : �
   pub place : ℕ
   pub within : place < 16
   pub new : IsNewTail table place tail
-  pub fresh : IsFreshShard told start earlier place shard
+  pub fresh : IsReadyShard told start earlier place shard
 
 -- those of the first classes, so many
 pub record AreFreshClasses {D : Type 0} {d : Ghosts D} (table : TableId) (told : ℕ → Option Image) (start : State) (earlier : ℕ → ℕ) (count : ℕ) (tails : List TailValue) (shards : List (Shard D d)) : Type 0 where
   pub tail_count : length tails ≡ count
   pub new_tails : AreNewTails table tails
   pub shard_count : length shards ≡ count
-  pub fresh_shards : AreFreshShards told start earlier shards
+  pub fresh_shards : AreReadyShards told start earlier shards

@@ -6,7 +6,7 @@ use Rattle.carbon_history.specs.declared.entry.PutEnd.TheVariants as end
 use Rattle.metric_path.specs.Class.{class_of}
 use Rattle.point_cache.specs.declared.put.Put.{Put}
 use Rattle.point_cache.specs.declared.put.Put.TheVariants as put
-use Rattle.archive_update.specs.Batch.{home_of}
+use Rattle.archive_update.specs.Batch.{archive_for}
 use Rattle.carbon_model.specs.State.{State, points_in}
 use Rattle.carbon_model.specs.Replay.{IsLegal, replay}
 use Rattle.shard_core.specs.declared.planned.Planned.{Planned}
@@ -52,7 +52,7 @@ AfterPut start path time value put.NoMemory new = IsLegal (replay start new.seen
 -- a drain of the metric has nothing to write: something is kept of it, and each of its pending points is older than all that its archives reach back
 abbrev pub NeedsNoWrite : State → List ℕ → ℕ → Type 0
 NeedsNoWrite s path now =
-    IsSomeAnd (s.kept path) (λ kept. All (λ p. home_of kept.layout.archives now p.0 ≡ None) (points_in s path))
+    IsSomeAnd (s.kept path) (λ kept. All (λ p. archive_for kept.layout.archives now p.0 ≡ None) (points_in s path))
 
 -- The metric of the class, of which something was pending, was drained as the last entry that the pass sees, and fewer are pending since. The drain
 -- is settled at once exactly where it has nothing to write.

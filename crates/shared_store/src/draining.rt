@@ -44,7 +44,7 @@ impl<D: Disk, N: Named> Store<D, N> {
 
     /// Drains all that is pending at the moment `now`: for the classes in order it finishes the
     /// drain that is being written, and then drains as many metrics as were pending when it came to
-    /// the class. It stops at the first fault.
+    /// the class, and one more if one is left. It stops at the first fault.
     pub fn drain_all(&self, rt: &impl Wait, pass: &mut Pass, now: u32) -> DrainEnd
         requires one { pass.old.table ≡ N.table }
         requires room { HasRoom pass.old }

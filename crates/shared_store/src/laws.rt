@@ -5,7 +5,7 @@ ghost use Rattle.carbon_model.specs.RingFiles.{Opens, Settings};
 ghost use Rattle.carbon_model.specs.State.{State};
 ghost use Rattle.shard_core.specs.Started.{KeepsLaidOut, StartedFrom};
 ghost use Rattle.shard_core.specs.declared.shard.Shard.{Shard};
-ghost use Rattle.shared_store.specs.Starts.{IsFreshShard};
+ghost use Rattle.shard_core.specs.Started.{IsReadyShard};
 
 use outside_io::Disk;
 
@@ -18,5 +18,5 @@ pub fn a_started_shard_is_fresh<D: Disk>()
         → StartedFrom class settings disk shard → Opens settings told s
         → D.image disk ≡ told class → KeepsLaidOut class (told class) shard.table s.kept
         → earlier class ≡ D.faults shard.disk
-        → IsFreshShard told s earlier class shard }
+        → IsReadyShard told s earlier class shard }
 {}

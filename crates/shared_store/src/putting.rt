@@ -1,9 +1,10 @@
 //! The points of a piece, put under the locks of all classes.
-ghost use Rattle.std.specs.Prelude.{◌≡◌, vec_len};
+ghost use Rattle.std.specs.Prelude.{◌≡◌, ◌<◌, IfOk, vec_len};
+ghost use Rattle.metric_path.specs.Class.{class_of};
 ghost use Rattle.carbon_history.specs.Entries.{listed};
 ghost use Rattle.shared_store.specs.Asking.{AreDesks};
 ghost use Rattle.shared_store.specs.Passes.{Enters, HasRoom, SameLooks};
-ghost use Rattle.shared_store.specs.Pieces.{HasRoomFor, PutsFirst};
+ghost use Rattle.shared_store.specs.Pieces.{HasRoomFor, PutsFirst, classes_in};
 ghost use Rattle.shared_store.specs.Steps.{AfterPut, put_entry};
 
 use crate::class_desk::ClassDesk;
@@ -16,7 +17,7 @@ use metric_line::Datum;
 use outside_io::Disk;
 use point_cache::Put;
 use shared_history::Pass;
-use std::alloc::Global;
+use std::alloc::{AllocError, Global};
 use std::sync::{MutexGuard, Wait};
 
 impl<D: Disk, N: Named> ClassDesk<D, N> {
@@ -50,14 +51,23 @@ impl<D: Disk, N: Named> ClassDesk<D, N> {
     }
 }
 
-// Puts a point, where the locks of all classes and that of the order are held.
+// The classes of points, for which their paths are hashed.
+fn classes_of(alloc: Global, points: &[Datum]) -> Result<Vec<u32>, AllocError>
+    ensures { IfOk result (λ classes. classes.items ≡ classes_in points.now) }
+{
+    points.iter().map(|datum| datum.path.class()).collect(alloc)
+}
+
+// Puts a point of a class, where the locks of all classes and that of the order are held.
 fn put_held<D: Disk, N: Named>(
     desks: &mut Vec<MutexGuard<'_, ClassDesk<D, N>>>,
     order: &mut OrderDesk<N>,
     pass: &mut Pass,
     datum: &Datum,
+    class: u32,
 ) -> Put
     requires desks { (vec_len desks.old ≡ 16) × AreDesks desks.old.items }
+    requires class { (class < 16) × (class_of datum.now.path ≡ class) }
     requires one { pass.old.table ≡ N.table }
     requires room { HasRoom pass.old }
     ensures enters { Enters N.start N.passes
@@ -67,19 +77,20 @@ fn put_held<D: Disk, N: Named>(
     ensures looks { SameLooks pass.old pass.new }
     ensures desks { (vec_len desks.new ≡ 16) × AreDesks desks.new.items }
 {
-    let class = datum.path.class();
     let desk = &mut desks[class as usize];
     desk.put_under(order, pass, datum)
 }
 
-// Puts points in order, up to the first for which there is no memory.
+// Puts points of these classes in order, up to the first for which there is no memory.
 fn put_each<D: Disk, N: Named>(
     desks: &mut Vec<MutexGuard<'_, ClassDesk<D, N>>>,
     order: &mut OrderDesk<N>,
     pass: &mut Pass,
     points: &[Datum],
+    classes: &[u32],
 ) -> PutCounts
     requires desks { (vec_len desks.old ≡ 16) × AreDesks desks.old.items }
+    requires classes { classes.now ≡ classes_in points.now }
     requires one { pass.old.table ≡ N.table }
     requires room { HasRoomFor points.now pass.old }
     ensures puts { PutsFirst N.start N.passes points.now result pass.old pass.new }
@@ -87,8 +98,8 @@ fn put_each<D: Disk, N: Named>(
 {
     order.see_all(pass);
     let mut counts = PutCounts::new();
-    for datum in points {
-        let put = put_held(desks, order, pass, datum);
+    for (i, datum) in points.iter().enumerate() {
+        let put = put_held(desks, order, pass, datum, classes[i]);
         if !counts.count(put) {
             return counts;
         }
@@ -101,9 +112,19 @@ impl<D: Disk, N: Named> Store<D, N> {
     ghost use Rattle.shared_store.specs.Passes.{SameLooks};
     ghost use Rattle.shared_store.specs.Pieces.{HasRoomFor, PutsFirst, PutsNone};
 
+    // No point is put, and the pass sees the whole history.
+    fn put_none(&self, rt: &impl Wait, pass: &mut Pass) -> PutCounts
+        requires one { pass.old.table ≡ N.table }
+        ensures puts { PutsNone N.start N.passes result pass.old pass.new }
+        ensures looks { SameLooks pass.old pass.new }
+    {
+        self.order.lock(rt).see_all(pass);
+        PutCounts::new()
+    }
+
     /// Puts the points of a piece in order, under the locks of all classes and that of the order,
-    /// which are taken once: one entry for each point, with its outcome. Want of memory ends it,
-    /// and what was put before stays.
+    /// which are taken once: one entry for each point, with its outcome. Their classes are found
+    /// before. Want of memory ends it, and what was put before stays.
     pub fn put_all(
         &self,
         rt: &impl Wait,
@@ -117,12 +138,14 @@ impl<D: Disk, N: Named> Store<D, N> {
             ⊎ PutsNone N.start N.passes result pass.old pass.new }
         ensures looks { SameLooks pass.old pass.new }
     {
+        let Ok(classes) = classes_of(alloc, points) else {
+            return self.put_none(rt, pass);
+        };
         let Ok(mut desks) = self.lock_all(rt, alloc) else {
-            self.order.lock(rt).see_all(pass);
-            return PutCounts::new();
+            return self.put_none(rt, pass);
         };
         let mut guard = self.order.lock(rt);
         let order = &mut *guard;
-        put_each(&mut desks, order, pass, points)
+        put_each(&mut desks, order, pass, points, classes.as_slice())
     }
 }

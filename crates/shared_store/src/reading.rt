@@ -46,7 +46,7 @@ fn series_of(alloc: Global, looked: &Looked, values: &Values) -> Result<Series, 
     let step = u64::from(looked.layout.archive(i).step);
     let name = looked.path.as_str().to_string(alloc)?;
     let path = looked.path.as_str().to_string(alloc)?;
-    let values = values.list().to_vec(alloc)?;
+    let values = Vec::from_slice(alloc, values.list())?;
     Ok(Series::from_legal(name, path, first, step, values))
 }
 

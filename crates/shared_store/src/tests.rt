@@ -1,4 +1,4 @@
-// Stores over disks in memory: puts, drains, questions, notes, and four threads.
+// Stores over disks in memory: puts, drains, questions and notes.
 ghost use Rattle.std.specs.Prelude.{◌≡◌, ◌<◌, All, IfOk, IsSomeAnd, length, true};
 ghost use Rattle.outside_io.specs.Image.{IsEmptyImage};
 ghost use Rattle.render_plan.specs.Needed.{AreEnds};

@@ -50,7 +50,7 @@ pub struct TcpLink<R: Clock + Copy> {
     rt: R,
     pub(crate) stream: TcpStream,
     shared: Arc<Shared>,
-    patience: Patience,
+    pub(crate) patience: Patience,
     // whether bytes were sent that the other end may lose if the connection is closed at once
     lingers: bool,
     read_faults: u64,

@@ -118,6 +118,8 @@ fn each_port_gives_its_links_and_then_refuses(rt: HostRuntime) -> Result<(), Fai
     let mut lines = net.next_lines().expect(&rt, "a link of lines");
     let mut http = net.next_http().expect(&rt, "a link of HTTP");
     assert!(rt; net.next_lines().is_none() && net.next_http().is_none() && is_refused(rt, ports));
+    assert!(rt; lines.patience.for_bytes == -1 && lines.patience.for_room == 75_000);
+    assert!(rt; http.patience.for_bytes == 75_000 && http.patience.for_room == 75_000);
     assert!(rt; keeps_alive(&lines) && lines.stream.nodelay()? && http.stream.nodelay()?);
     assert!(rt; gives(&mut lines, b"a.b 1.5 1700000000\n"));
     let mut method = [0u8; 3];
@@ -126,6 +128,15 @@ fn each_port_gives_its_links_and_then_refuses(rt: HostRuntime) -> Result<(), Fai
     // a reply arrives though bytes of the request were not read
     drop(http);
     assert!(rt; is_sent(&mut browser, b"404")?);
+    Ok(())
+}
+
+#[test]
+fn the_ports_are_those_that_are_asked_for(rt: HostRuntime) -> Result<(), Fail> {
+    let (net, free) = bound_net(rt, 0)?;
+    drop(net);
+    let mut net = TcpNet::new(rt.alloc(), rt, LOCAL)?;
+    assert!(rt; net.bind(free.lines, free.http, 0) == Ok(()) && net.ports() == Some(free));
     Ok(())
 }
 

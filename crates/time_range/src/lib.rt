@@ -14,7 +14,7 @@ mod unit;
 
 pub use fault::TimeFault;
 pub use laws::{dates_are_a_day_apart, spans_add_up};
-pub use span::{Span, read_span};
+pub use span::{LATEST, Span, read_span};
 pub use time::read_time;
 
 #[cfg(test)]

@@ -8,7 +8,7 @@ use crate::TimeFault;
 use crate::spans::seconds_of;
 
 /// The latest moment, and the most seconds of a span.
-pub(crate) const LATEST: u64 = 4_000_000_000;
+pub const LATEST: u64 = 4_000_000_000;
 
 /// A span of time.
 #[derive(Clone, Copy, Debug, PartialEq, Eq)]

@@ -1,5 +1,5 @@
-use Rattle.std.proofs.Common.{◌≡◌, Some, inl, inr, refl, sym}
-use Rattle.std.specs.Prelude.{FitsSigned, slice_get}
+use Rattle.std.proofs.Common.{inl, inr, refl, sym}
+use Rattle.std.specs.Prelude.{FitsSigned}
 use Rattle.std.specs.Int.{w64}
 use Rattle.std.proofs.lemmas.Int.{to_z-of_z}
 use Rattle.archive_update.proofs.LayLemmas.{lays_value, step_there}
@@ -9,14 +9,12 @@ pub returns-then-slot-eq0-clause-lays : goal.returns-then-slot-eq0-clause-lays
 returns-then-slot-eq0-clause-lays c =
     let fits : FitsSigned w64 c.args.value = c.ranges.value in
     let laid = simp to_z-of_z at c.in_ok-lay_cell.ensures.laid in
-    let found : slice_get c.args.patch.now.layout.archives c.args.archive ≡ Some c.archive-ring.result = rw (← c.layout.ensures) c.archive-ring.ensures.value in
-    lays_value c.args.patch.now c.lay_cell.new.patch c.args.archive c.args.base c.args.bucket c.slot_of-slot.result c.args.bucket c.args.value c.archive-ring.result found c.requires.archive c.archive-ring.ensures.step.0 c.archive-ring.ensures.points.0
-    (step_there c.args.patch.now.layout.archives c.args.archive c.args.bucket c.archive-ring.result found c.requires.bucket) (sym c.slot_of-slot.ensures.value) laid (inl (c.if-slot-eq0.true, refl))
+    lays_value c.args.patch.now c.lay_cell.new.patch c.args.archive c.args.base c.args.bucket c.slot_of-slot.result c.args.bucket c.args.value c.args.ring c.requires.ring.there c.requires.archive c.requires.ring.step c.requires.ring.points
+    (step_there c.args.patch.now.layout.archives c.args.archive c.args.bucket c.args.ring c.requires.ring.there c.requires.bucket) (sym c.slot_of-slot.ensures.value) laid (inl (c.if-slot-eq0.true, refl))
 
 pub returns-clause-lays : goal.returns-clause-lays
 returns-clause-lays c =
     let fits : FitsSigned w64 c.args.value = c.ranges.value in
     let laid = simp to_z-of_z at c.in_ok-lay_cell.ensures.laid in
-    let found : slice_get c.args.patch.now.layout.archives c.args.archive ≡ Some c.archive-ring.result = rw (← c.layout.ensures) c.archive-ring.ensures.value in
-    lays_value c.args.patch.now c.lay_cell.new.patch c.args.archive c.args.base c.args.bucket c.slot_of-slot.result c.args.base c.args.value c.archive-ring.result found c.requires.archive c.archive-ring.ensures.step.0 c.archive-ring.ensures.points.0
-    (step_there c.args.patch.now.layout.archives c.args.archive c.args.bucket c.archive-ring.result found c.requires.bucket) (sym c.slot_of-slot.ensures.value) laid (inr (c.if-slot-eq0.false, refl))
+    lays_value c.args.patch.now c.lay_cell.new.patch c.args.archive c.args.base c.args.bucket c.slot_of-slot.result c.args.base c.args.value c.args.ring c.requires.ring.there c.requires.archive c.requires.ring.step c.requires.ring.points
+    (step_there c.args.patch.now.layout.archives c.args.archive c.args.bucket c.args.ring c.requires.ring.there c.requires.bucket) (sym c.slot_of-slot.ensures.value) laid (inr (c.if-slot-eq0.false, refl))

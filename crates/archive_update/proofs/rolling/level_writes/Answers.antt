@@ -32,8 +32,8 @@ loop-k-preserved g c =
     record {
       writes = under_both c.args.patch.now.fresh (g.D.Disk.image c.args.disk.now) c.args.view.now.name.now _ _ _ c.loop-k.invariant.writes held (λ file before held rings reads.
           level_more c.args.view.now.layout rings c.args.finer c.args.buckets.now c.loop-k.k c.in_ok-value.value c.loop-k.writes.items _ lt (before rings reads)
-          (c.in_ok-value.ensures ∙ stretch_value c.args.patch.now c.args.view.now.layout file c.args.finer c.in_ok-stretch.stretch.first c.in_ok-stretch.stretch.count c.places_of-places.result c.archive-step.result.step (get_or c.args.buckets.now c.loop-k.k 0) rings c.in_ok-stretch.stretch.values.items
-          c.requires.layout c.requires.finer.archive reads held (rw steps at has) c.archive-step.ensures.step.0 (rw steps at c.in_ok-stretch.ensures.held.exact) (rw steps at shown.multiple.1) c.places_of-places.ensures.value (c.places_of-places.ensures.exact ∙ steps))
+          (c.in_ok-value.ensures ∙ stretch_value c.args.patch.now c.args.view.now.layout file c.args.finer c.in_ok-stretch.stretch.first c.in_ok-stretch.stretch.count c.points_per_bucket-places.result c.archive-step.result.step (get_or c.args.buckets.now c.loop-k.k 0) rings c.in_ok-stretch.stretch.values.items
+          c.requires.layout c.requires.finer.archive reads held (rw steps at has) c.archive-step.ensures.step.0 (rw steps at c.in_ok-stretch.ensures.held.exact) (rw steps at shown.multiple.1) c.points_per_bucket-places.ensures.value (c.points_per_bucket-places.ensures.exact ∙ steps))
           c.in_ok-push_given.ensures);
       shown = rw c.in_ok-push_given.ensures (given_shown (step_of c.args.view.now.layout.archives (c.args.finer + 1)) (get_or c.args.buckets.now c.loop-k.k 0) c.in_ok-value.value c.loop-k.writes.items c.loop-k.invariant.shown shown);
       held = record { exact = c.in_ok-stretch.ensures.held.exact; held = held };

@@ -4,11 +4,12 @@ use Rattle.outside_io.specs.declared.disk.Disk.{Ghosts}
 use Rattle.carbon_model.specs.State.{State}
 use Rattle.shard_core.specs.declared.shard.Shard.{Shard}
 use Rattle.shard_set.specs.Disks.{faults_at, told_at}
-use Rattle.shard_set.specs.OpeningState.{AreReadyShards, opening_of}
-use Rattle.shared_store.specs.Starts.{AreFreshShards}
+use Rattle.shard_core.specs.Started.{AreReadyShards}
+use Rattle.shard_set.specs.OpeningState.{opening_of}
+use Rattle.shard_core.specs.Started.{AreReadyShards}
 use Rattle.http_front.proofs.tests.serve_shards.Goals as goal
 
-fresh_from : {D : Type 0} {d : Ghosts D} (told : ℕ → Option Image) (start : State) (earlier : ℕ → ℕ) (shards : List (Shard D d)) → AreReadyShards told start earlier shards → AreFreshShards told start earlier shards
+fresh_from : {D : Type 0} {d : Ghosts D} (told : ℕ → Option Image) (start : State) (earlier : ℕ → ℕ) (shards : List (Shard D d)) → AreReadyShards told start earlier shards → AreReadyShards told start earlier shards
 fresh_from told start earlier shards ready k shard there =
     let one = ready k shard there in record { class = one.class; empty = one.empty; holds = one.holds; faults = one.faults }
 

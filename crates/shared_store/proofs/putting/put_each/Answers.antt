@@ -5,51 +5,51 @@ use Rattle.shared_store.proofs.PieceLemmas.{few_so_far, get_there, puts_short, p
 use Rattle.shared_store.proofs.putting.put_each.Goals as goal
 
 pub put_held-put-requires-clause-one : goal.put_held-put-requires-clause-one
-put_held-put-requires-clause-one g c = c.loop-datum.invariant.puts.enters.table ∙ c.requires.one
+put_held-put-requires-clause-one g c = c.loop-i.invariant.puts.enters.table ∙ c.requires.one
 
 pub put_held-put-requires-clause-room : goal.put_held-put-requires-clause-room
 put_held-put-requires-clause-room g c =
     let n = g.N.Named in
-    room_so_far n.start n.passes c.args.points.now c.args.pass.now c.loop-datum.datum-index c.loop-datum.counts c.loop-datum.pass c.requires.room c.loop-datum-test.true c.loop-datum.invariant.puts
+    room_so_far n.start n.passes c.args.points.now c.args.pass.now c.loop-i.i c.loop-i.counts c.loop-i.pass c.requires.room c.loop-i-test.true c.loop-i.invariant.puts
 
 pub count-requires : goal.count-requires
 count-requires g c =
     let n = g.N.Named in
-    few_so_far n.start n.passes c.args.points.now c.args.pass.now c.loop-datum.datum-index c.loop-datum.counts c.loop-datum.pass c.requires.room c.loop-datum-test.true c.loop-datum.invariant.puts
+    few_so_far n.start n.passes c.args.points.now c.args.pass.now c.loop-i.i c.loop-i.counts c.loop-i.pass c.requires.room c.loop-i-test.true c.loop-i.invariant.puts
 
-pub loop-datum-preserved : goal.loop-datum-preserved
-loop-datum-preserved g c =
+pub loop-i-preserved : goal.loop-i-preserved
+loop-i-preserved g c =
     let n = g.N.Named in
-    let v = c.loop-datum.invariant in
+    let v = c.loop-i.invariant in
     let points : List Datum = c.args.points.now in
-    let i : ℕ = c.loop-datum.datum-index in
-    let datum : Datum = c.datum-item.result in
-    let there : slice_get points i ≡ Some datum = get_there points i datum c.loop-datum-test.true (sym c.datum-item.is) in
+    let i : ℕ = c.loop-i.i in
+    let datum : Datum = c.index-points-i.result in
+    let there : slice_get points i ≡ Some datum = get_there points i datum c.loop-i-test.true (sym c.index-points-i.is) in
     let more : c.count.result ≡ true = search rules in
     let put = c.put_held-put.result in
     record {
       sixteen = c.put_held-put.ensures.desks.0;
       desks = c.put_held-put.ensures.desks.1;
-      puts = so_far_more n.start n.passes points c.args.pass.now i c.loop-datum.counts c.count.new.self datum c.loop-datum.pass c.put_held-put.new.pass v.puts there put
-          c.put_held-put.ensures.enters (subst (λ (b : Bool). CountsPut put b c.loop-datum.counts c.count.new.self) more c.count.ensures);
-      looks = same_both c.args.pass.now c.loop-datum.pass c.put_held-put.new.pass v.looks c.put_held-put.ensures.looks;
+      puts = so_far_more n.start n.passes points c.args.pass.now i c.loop-i.counts c.count.new.self datum c.loop-i.pass c.put_held-put.new.pass v.puts there put
+          c.put_held-put.ensures.enters (subst (λ (b : Bool). CountsPut put b c.loop-i.counts c.count.new.self) more c.count.ensures);
+      looks = same_both c.args.pass.now c.loop-i.pass c.put_held-put.new.pass v.looks c.put_held-put.ensures.looks;
     }
 
 pub returns-then-not-count-clause-puts : goal.returns-then-not-count-clause-puts
 returns-then-not-count-clause-puts g c =
     let n = g.N.Named in
-    let v = c.loop-datum.invariant in
+    let v = c.loop-i.invariant in
     let points : List Datum = c.args.points.now in
-    let i : ℕ = c.loop-datum.datum-index in
-    let datum : Datum = c.datum-item.result in
-    let there : slice_get points i ≡ Some datum = get_there points i datum c.loop-datum-test.true (sym c.datum-item.is) in
+    let i : ℕ = c.loop-i.i in
+    let datum : Datum = c.index-points-i.result in
+    let there : slice_get points i ≡ Some datum = get_there points i datum c.loop-i-test.true (sym c.index-points-i.is) in
     let none : c.count.result ≡ false = search rules in
     let put = c.put_held-put.result in
-    puts_short n.start n.passes points c.args.pass.now i c.loop-datum.counts c.count.new.self datum c.loop-datum.pass c.put_held-put.new.pass v.puts there put
-    c.put_held-put.ensures.enters c.put_held-put.ensures.after (subst (λ (b : Bool). CountsPut put b c.loop-datum.counts c.count.new.self) none c.count.ensures) c.loop-datum-test.true
+    puts_short n.start n.passes points c.args.pass.now i c.loop-i.counts c.count.new.self datum c.loop-i.pass c.put_held-put.new.pass v.puts there put
+    c.put_held-put.ensures.enters c.put_held-put.ensures.after (subst (λ (b : Bool). CountsPut put b c.loop-i.counts c.count.new.self) none c.count.ensures) c.loop-i-test.true
 
 pub returns-clause-puts : goal.returns-clause-puts
 returns-clause-puts g c =
     let n = g.N.Named in
-    let all : c.loop-datum.datum-index ≡ length c.args.points.now = omega (arith, c.loop-datum-test.false, c.loop-datum.auto.datum-index-end) in
-    puts_whole n.start n.passes c.args.points.now c.args.pass.now c.loop-datum.datum-index c.loop-datum.counts c.loop-datum.pass c.loop-datum.invariant.puts all
+    let all : c.loop-i.i ≡ length c.args.points.now = omega (arith, c.loop-i-test.false, c.loop-i.auto.i-end) in
+    puts_whole n.start n.passes c.args.points.now c.args.pass.now c.loop-i.i c.loop-i.counts c.loop-i.pass c.loop-i.invariant.puts all
