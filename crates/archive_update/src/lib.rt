@@ -11,5 +11,3 @@ mod rolling;
 
 pub use planning::plan;
 
-#[cfg(test)]
-mod tests;

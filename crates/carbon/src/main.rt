@@ -5,11 +5,10 @@
 
 ghost use Rattle.std.specs.Prelude.{◌≡◌, IfOk, vec_len};
 
-mod arguments;
 mod host_net;
 
-use arguments::words;
 use carbon_run::run;
+use carbon_words::words;
 use host_net::{HostNet, close_at_stop};
 use outside_io::{FolderDisk, StdSink, StdSource};
 use std::alloc::AllocError;
@@ -66,6 +65,3 @@ fn folders(rt: &HostRuntime) -> Result<Vec<FolderDisk<HostRuntime>>, AllocError>
     }
     Ok(disks)
 }
-
-#[cfg(test)]
-mod tests;

@@ -15,7 +15,3 @@ mod top;
 pub use report::Report;
 pub use top::run;
 
-#[cfg(test)]
-mod serve_tests;
-#[cfg(test)]
-mod tests;

@@ -2,11 +2,10 @@
 #![tactic(auto)]
 
 mod app;
+mod arguments;
 mod command;
 mod reading;
 
+pub use arguments::words;
 pub use command::{Command, Options, SampleOptions, ServeOptions};
 pub use reading::{WordsFault, read_words};
-
-#[cfg(test)]
-mod tests;

@@ -11,7 +11,3 @@ mod waiting;
 pub use picker::Picker;
 pub use strategy::Strategy;
 
-#[cfg(test)]
-mod slow_model;
-#[cfg(test)]
-mod tests;

@@ -18,5 +18,3 @@ pub use gate_link::GateLink;
 pub use mem_net::{Bound, MemNet};
 pub use sent::Sent;
 
-#[cfg(test)]
-mod tests;

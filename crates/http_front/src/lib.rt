@@ -16,11 +16,3 @@ pub use ends::HttpEnd;
 pub use outcome::Outcome;
 pub use serve::serve_http;
 
-#[cfg(test)]
-mod cut_tests;
-#[cfg(test)]
-mod name_tests;
-#[cfg(test)]
-mod reason_tests;
-#[cfg(test)]
-mod tests;

@@ -26,5 +26,3 @@ pub use reply::{MediaType, Reply, push_reply};
 pub use routing::{Endpoint, query_of, route};
 pub use std::alloc::AllocError as NoMemory;
 
-#[cfg(test)]
-mod tests;

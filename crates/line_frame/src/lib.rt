@@ -11,5 +11,3 @@ mod framer;
 pub use framer::{Framed, Framer, MOST_LINE_BYTES};
 pub use std::alloc::AllocError as NoMemory;
 
-#[cfg(test)]
-mod tests;

@@ -14,5 +14,3 @@ pub use counts::Counts;
 pub use ends::LineCause;
 pub use serve::{Served, serve_lines};
 
-#[cfg(test)]
-mod tests;

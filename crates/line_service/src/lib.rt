@@ -14,5 +14,3 @@ pub use serve::{MOST_INPUT_BYTES, serve_lines};
 pub use server::{LineServer, WaitingServer};
 pub use waiting::serve_each;
 
-#[cfg(test)]
-mod tests;

@@ -9,5 +9,3 @@ mod index;
 pub use hit::Hit;
 pub use index::Index;
 
-#[cfg(test)]
-mod tests;

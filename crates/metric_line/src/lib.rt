@@ -16,5 +16,3 @@ pub use laws::{
 pub use line::read_line;
 pub use stamp::StampFault;
 
-#[cfg(test)]
-mod tests;

@@ -13,5 +13,3 @@ pub use check::{fault_of, legal_front};
 pub use path::{CLASSES, MetricPath, PathFault};
 pub use std::alloc::AllocError as NoMemory;
 
-#[cfg(test)]
-mod tests;

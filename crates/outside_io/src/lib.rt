@@ -41,5 +41,3 @@ pub use sink::{Sink, WriteEnd, WriteFault, write_all};
 pub use source::{ReadEnd, Source};
 pub use std_streams::{StdSink, StdSource};
 
-#[cfg(test)]
-mod tests;

@@ -17,8 +17,6 @@ mod fault;
 mod glob;
 mod laws;
 mod positions;
-#[cfg(test)]
-mod slow;
 
 pub use fault::GlobFault;
 pub use glob::Glob;
@@ -28,5 +26,3 @@ pub use laws::{
     values_are_closed, wildcards_stay_within_a_node,
 };
 
-#[cfg(test)]
-mod tests;

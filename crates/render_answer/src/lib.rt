@@ -9,5 +9,3 @@ pub use answer::{Answer, Text};
 pub use answering::answer_rows;
 pub use refusal::Refusal;
 
-#[cfg(test)]
-mod tests;

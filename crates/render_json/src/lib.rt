@@ -11,5 +11,3 @@ pub use csv_form::{LATEST_CSV_END, csv_text};
 pub use json_form::json_text;
 pub use raw_form::raw_text;
 
-#[cfg(test)]
-mod tests;

@@ -26,7 +26,3 @@ pub use need::Need;
 pub use plan::RenderPlan;
 pub use settings::Format;
 
-#[cfg(test)]
-mod answer_tests;
-#[cfg(test)]
-mod tests;

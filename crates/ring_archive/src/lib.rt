@@ -16,5 +16,3 @@ pub use fault::RingFault;
 pub use laws::laid_cells_hide_those_of_the_file;
 pub use view::RingView;
 
-#[cfg(test)]
-mod tests;

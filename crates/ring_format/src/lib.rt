@@ -30,5 +30,3 @@ pub use patch::{CellWrite, Patch};
 pub use slot::slot_of;
 pub use std::alloc::AllocError as NoMemory;
 
-#[cfg(test)]
-mod tests;

@@ -19,5 +19,3 @@ mod sample_source;
 pub use question_source::{QuestionSource, question};
 pub use sample_source::SampleSource;
 
-#[cfg(test)]
-mod tests;

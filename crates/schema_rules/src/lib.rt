@@ -21,5 +21,3 @@ pub use fault::{RuleCause, RuleFault, RuleFile};
 pub use laws::archives_are_those_of_the_pieces;
 pub use rules::Rules;
 
-#[cfg(test)]
-mod tests;

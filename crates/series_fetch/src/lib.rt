@@ -10,5 +10,3 @@ mod range;
 pub use fetching::fetch;
 pub use range::{Window, window_of};
 
-#[cfg(test)]
-mod tests;

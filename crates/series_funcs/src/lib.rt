@@ -25,5 +25,3 @@ pub use node_numbers::NodeNumbers;
 pub use regrouping::regroup;
 pub use shaping::shape;
 
-#[cfg(test)]
-mod tests;

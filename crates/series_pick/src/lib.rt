@@ -14,6 +14,3 @@ mod words;
 pub use choosing::choose;
 pub use kinds::Choose;
 pub use words::{Name, SignedNodes};
-
-#[cfg(test)]
-mod tests;

@@ -23,5 +23,3 @@ pub use series::{LATEST_END, MOST_VALUES, Series, WIDEST_STEP};
 pub use set::{SeriesRows, SeriesSet};
 pub use thinning::thin;
 
-#[cfg(test)]
-mod tests;

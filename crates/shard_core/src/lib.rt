@@ -23,8 +23,3 @@ pub use laws::{
 pub use looked::{LookCount, LookFault, Looked};
 pub use planned::{Planned, Wrote};
 pub use shard::Shard;
-
-#[cfg(test)]
-mod start_tests;
-#[cfg(test)]
-mod tests;

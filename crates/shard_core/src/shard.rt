@@ -90,6 +90,13 @@ impl<D: Disk> Shard<D> {
         self.cache.metrics()
     }
 
+    /// The class whose metrics it has.
+    pub fn class(&self) -> u32
+        ensures { result ≡ self.now.class }
+    {
+        self.class
+    }
+
     /// Whether a drain is being written.
     pub fn shelved(&self) -> bool
         ensures { result ≡ is_some self.now.shelf }

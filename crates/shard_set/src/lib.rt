@@ -13,5 +13,3 @@ pub use refused::{Refusal, Refused};
 pub use setup::Setup;
 pub use started::Started;
 
-#[cfg(test)]
-mod tests;

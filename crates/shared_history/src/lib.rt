@@ -12,8 +12,6 @@ mod rights;
 mod rule;
 mod seeing;
 mod settling;
-#[cfg(test)]
-mod tests;
 mod view;
 
 pub use closing::{History, close};

@@ -42,5 +42,3 @@ pub use step::Step;
 pub use store::Store;
 pub use tally::Tally;
 
-#[cfg(test)]
-mod tests;

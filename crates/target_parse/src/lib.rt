@@ -29,6 +29,3 @@ pub use laws::{
 pub use print::text_of;
 pub use read::parse;
 pub use word::Word;
-
-#[cfg(test)]
-mod tests;

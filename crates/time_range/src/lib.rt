@@ -17,5 +17,3 @@ pub use laws::{dates_are_a_day_apart, spans_add_up};
 pub use span::{LATEST, Span, read_span};
 pub use time::read_time;
 
-#[cfg(test)]
-mod tests;

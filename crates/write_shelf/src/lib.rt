@@ -16,5 +16,3 @@ pub use laws::{each_cell_has_its_bytes, runs_are_those_of_their_patch};
 pub use run::Run;
 pub use shelf::Shelf;
 
-#[cfg(test)]
-mod tests;

@@ -1,0 +1,355 @@
+// Links in memory, whose lines go into a store over disks in memory.
+ghost use Rattle.std.specs.Prelude.{◌≡◌, ◌<◌, IfOk, vec_len};
+ghost use Rattle.shard_set.specs.Disks.{faults_at, told_at};
+ghost use Rattle.shard_core.specs.Started.{AreReadyShards};
+ghost use Rattle.shard_set.specs.OpeningState.{opening_of};
+ghost use Rattle.shared_history.specs.Parts.{AreNewPasses};
+ghost use Rattle.shared_store.specs.Starts.{IsFresh};
+
+use drain_order::Strategy;
+use line_front::*;
+use line_service::{ServiceEnd, Stop};
+use metric_path::CLASSES;
+use outside_io::{FixedClock, MemDisk, MemLink, MemSink, MemSource};
+use schema_rules::Rules;
+use shard_set::{Setup, Started, start_all};
+use shared_history::{Pass, make};
+use shared_store::{Named, Parts, Store, Tally};
+use std::alloc::{AllocError, Global};
+use std::marker::Brand;
+use std::process::Abort;
+use std::sync::Wait;
+use std::test::Fail;
+
+// The moment of the clock.
+const NOW: u64 = 1_700_000_030;
+
+// What the links of a run came to.
+#[derive(Drop)]
+struct Came {
+    // Why the last link ended, and its lines.
+    cause: LineCause,
+    counts: Counts,
+    // The entries of the history.
+    tally: Tally,
+    // How many bytes were written to the links.
+    written: usize,
+}
+
+// ---- a run
+
+fn sixteen_disks(alloc: Global) -> Result<Vec<MemDisk>, AllocError>
+    ensures { IfOk result (λ disks. vec_len disks ≡ 16) }
+{
+    let mut disks = Vec::new(alloc);
+    for _k in 0..CLASSES {
+        disks.push(MemDisk::new(alloc, 0))?;
+    }
+    Ok(disks)
+}
+
+// The shards of all classes over empty disks. So many points of a class may be pending.
+fn start_shards(alloc: Global, limit: u64) -> Result<Started<MemDisk>, Fail>
+    requires { 0 < limit }
+    ensures { IfOk result (λ started. AreReadyShards (told_at started.shards.items)
+        (opening_of started.shards.items) (faults_at started.shards.items) started.shards.items) }
+{
+    let setup = Setup {
+        rules: Rules::read(alloc, b"", b"")?,
+        limit,
+        strategy: Strategy::Naive,
+    };
+    match start_all(alloc, sixteen_disks(alloc)?, &setup) {
+        Ok(started) => Ok(started),
+        Err(_) => Err(Fail::new("empty disks can be started from")),
+    }
+}
+
+// Serves the links one after the other, by one pass.
+fn serve_all<N: Named, R: Wait>(
+    rt: &R,
+    alloc: Global,
+    store: &Store<MemDisk, N>,
+    pass: Pass,
+    links: Vec<MemLink>,
+) -> Came
+    requires { pass.table ≡ N.table }
+{
+    let clock = FixedClock::new(NOW);
+    let mut pass = pass;
+    let mut cause = LineCause::Closed;
+    let mut counts = Counts::none();
+    let mut written: usize = 0;
+    for link in links {
+        let mut link = link;
+        let served = serve_lines(rt, alloc, store, pass, &mut link, &clock);
+        pass = served.pass;
+        cause = served.cause;
+        counts = served.counts;
+        written = written.saturating_add(link.sink.bytes().len());
+    }
+    Came {
+        cause,
+        counts,
+        tally: store.tally(rt, &mut pass),
+        written,
+    }
+}
+
+fn run_store<N: Named, R: Wait>(
+    rt: &R,
+    alloc: Global,
+    parts: Parts<MemDisk>,
+    passes: Vec<Pass>,
+    links: Vec<MemLink>,
+) -> Result<Came, Fail>
+    requires fresh { IsFresh N.table N.passes N.told N.start N.faults parts }
+    requires new { AreNewPasses N.table passes.items }
+{
+    let mut passes = passes;
+    let Some(pass) = passes.pop() else {
+        return Err(Fail::new("there is a pass"));
+    };
+    match Store::<MemDisk, N>::start(alloc, parts) {
+        Ok(store) => Ok(serve_all(rt, alloc, &store, pass, links)),
+        Err(_) => Err(Fail::new("there is memory for a store")),
+    }
+}
+
+// Serves the links into a store that keeps nothing yet.
+fn run<R: Wait>(rt: &R, alloc: Global, limit: u64, links: Vec<MemLink>) -> Result<Came, Fail>
+    requires { 0 < limit }
+{
+    let Started { shards, .. } = start_shards(alloc, limit)?;
+    let (order, tails, passes) = make(alloc, CLASSES, 1)?;
+    let parts = Parts {
+        order,
+        tails,
+        shards,
+    };
+    run_store::<Brand, R>(rt, alloc, parts, passes, links)
+}
+
+// ---- links
+
+fn link_of(alloc: Global, source: MemSource) -> MemLink {
+    MemLink {
+        source,
+        sink: MemSink::new(alloc),
+    }
+}
+
+fn source_of(alloc: Global, text: &[u8]) -> Result<MemSource, AllocError> {
+    Ok(MemSource::new(alloc, Vec::from_slice(alloc, text)?))
+}
+
+fn run_one<R: Wait>(rt: &R, alloc: Global, limit: u64, source: MemSource) -> Result<Came, Fail>
+    requires { 0 < limit }
+{
+    let mut links = Vec::new(alloc);
+    links.push(link_of(alloc, source))?;
+    run(rt, alloc, limit, links)
+}
+
+// ---- what is wanted
+
+// The link ended so, with these counts, and its puts alone were entered.
+fn assert_came(rt: &impl Abort, came: &Came, cause: LineCause, counts: Counts, case: usize) {
+    let tally = Tally {
+        stored: counts.stored,
+        replaced: counts.replaced,
+        full: counts.full,
+        drains: 0,
+    };
+    assert!(rt; came.cause == cause && came.written == 0, "{case}");
+    assert_eq!(rt; came.counts, counts, "{case}");
+    assert!(rt; came.tally == tally, "{case}");
+}
+
+fn stored(count: u64) -> Counts {
+    let mut counts = Counts::none();
+    counts.stored = count;
+    counts
+}
+
+// ---- the tests
+
+// Two points that are stored, each replaced by the next; the clock gives the moment of the second.
+// Then two lines that have not three fields, one without a legal path, one without a value, two
+// without a time, and one that has not ended when the link ends.
+const LINES: &[u8] = b"a.b 1500 1700000000\na.b 7 1700000000.9\na.b 1 -1\r\na.b 2 1700000030\n\n\
+    a b\na..b 1 1\na.b x 1700000000\na.b 1 x\na.b 1 5000000000\na.c 5 1700000000";
+
+fn assert_cut<R: Wait + Abort>(rt: &R, alloc: Global, cut: usize) -> Result<(), Fail> {
+    let source = source_of(alloc, LINES)?.cut_at(Vec::from_slice(alloc, &[cut])?);
+    let came = run_one(rt, alloc, 1_000, source)?;
+    let counts = Counts {
+        stored: 2,
+        replaced: 2,
+        full: 0,
+        fields: 2,
+        path: 1,
+        value: 1,
+        time: 2,
+        long: 0,
+    };
+    assert_came(rt, &came, LineCause::Closed, counts, cut);
+    Ok(())
+}
+
+#[test]
+fn lines_are_put_or_counted_wherever_the_link_is_cut(rt: HostRuntime) -> Result<(), Fail> {
+    for cut in 0..=LINES.len() {
+        assert_cut(&rt, rt.alloc(), cut)?;
+    }
+    Ok(())
+}
+
+// Two lines of 15 bytes each, of which a read brings two bytes.
+const PAIRS: &[u8] = b"a 1 1700000000\nb 1 1700000000\n";
+
+// The lines that have ended before the read with this number are stored, if it fails.
+fn assert_failing<R: Wait + Abort>(rt: &R, alloc: Global, read: u64) -> Result<(), Fail> {
+    let failing = Vec::from_slice(alloc, &[read])?;
+    let source = source_of(alloc, PAIRS)?.at_most(2).failing(failing);
+    let came = run_one(rt, alloc, 1_000, source)?;
+    let lines = match read {
+        0..=8 => 0,
+        9..=15 => 1,
+        _ => 2,
+    };
+    assert_came(
+        rt,
+        &came,
+        LineCause::ReadFault,
+        stored(lines),
+        read as usize,
+    );
+    Ok(())
+}
+
+#[test]
+fn a_failed_read_ends_the_link_behind_its_lines(rt: HostRuntime) -> Result<(), Fail> {
+    for read in 1..=16 {
+        assert_failing(&rt, rt.alloc(), read)?;
+    }
+    Ok(())
+}
+
+// A line of so many bytes, and then one that is stored.
+fn assert_long<R: Wait + Abort>(
+    rt: &R,
+    alloc: Global,
+    size: usize,
+    fields: u64,
+    long: u64,
+) -> Result<(), Fail> {
+    let mut text = vec![in alloc; b'x'; size]?;
+    text.extend_from_slice(b"\na 1 1700000000\n")?;
+    let came = run_one(rt, alloc, 1_000, MemSource::new(alloc, text))?;
+    let mut counts = stored(1);
+    counts.fields = fields;
+    counts.long = long;
+    assert_came(rt, &came, LineCause::Closed, counts, size);
+    Ok(())
+}
+
+#[test]
+fn a_line_that_is_too_long_is_counted(rt: HostRuntime) -> Result<(), Fail> {
+    for (size, fields, long) in [(16_384, 1, 0), (16_385, 0, 1), (200_000, 0, 1)] {
+        assert_long(&rt, rt.alloc(), size, fields, long)?;
+    }
+    Ok(())
+}
+
+#[test]
+fn a_point_that_finds_its_class_full_is_counted(rt: HostRuntime) -> Result<(), Fail> {
+    let text = b"a 1 1700000000\na 2 1700000000\na 3 1700000060\n";
+    let came = run_one(&rt, rt.alloc(), 1, source_of(rt.alloc(), text)?)?;
+    let mut counts = stored(1);
+    counts.replaced = 1;
+    counts.full = 1;
+    assert_came(&rt, &came, LineCause::Closed, counts, 0);
+    Ok(())
+}
+
+// Serves so many copies of some lines, of which at most so many bytes come at once, with a line that has not three fields
+// behind the second copy.
+fn run_copies<R: Wait>(
+    rt: &R,
+    alloc: Global,
+    limit: u64,
+    lines: &[u8],
+    copies: usize,
+    most: usize,
+) -> Result<Came, Fail>
+    requires limit { 0 < limit }
+    requires most { 0 < most }
+{
+    let mut text = Vec::new(alloc);
+    for k in 0..copies {
+        if k == 2 {
+            text.extend_from_slice(b"a b\n")?;
+        }
+        text.extend_from_slice(lines)?;
+    }
+    run_one(rt, alloc, limit, MemSource::new(alloc, text).at_most(most))
+}
+
+// Ten points of ten metrics.
+const TEN: &[u8] = b"a.a 1 1700000000\na.b 1 1700000000\na.c 1 1700000000\na.d 1 1700000000\n\
+    a.e 1 1700000000\na.f 1 1700000000\na.g 1 1700000000\na.h 1 1700000000\n\
+    a.i 1 1700000000\na.j 1 1700000000\n";
+
+#[test]
+fn many_lines_of_a_piece_are_handled_as_if_one_by_one(rt: HostRuntime) -> Result<(), Fail> {
+    let cases = [
+        (4, 65_536, 30),
+        (30, 65_536, 290),
+        (30, 700, 290),
+        (30, 64, 290),
+    ];
+    for (copies, most, replaced) in cases {
+        let came = run_copies(&rt, rt.alloc(), 1_000, TEN, copies, most)?;
+        let mut counts = stored(10);
+        counts.replaced = replaced;
+        counts.fields = 1;
+        assert_came(&rt, &came, LineCause::Closed, counts, most);
+    }
+    Ok(())
+}
+
+#[test]
+fn points_of_a_piece_that_find_their_class_full_are_counted(rt: HostRuntime) -> Result<(), Fail> {
+    let lines = b"a 1 1700000000\na 2 1700000060\n";
+    let came = run_copies(&rt, rt.alloc(), 1, lines, 40, 65_536)?;
+    let mut counts = stored(1);
+    counts.replaced = 39;
+    counts.full = 40;
+    counts.fields = 1;
+    assert_came(&rt, &came, LineCause::Closed, counts, 0);
+    Ok(())
+}
+
+// Two links one after the other.
+fn run_two<R: Wait>(rt: &R, alloc: Global, first: &[u8], second: &[u8]) -> Result<Came, Fail> {
+    let mut links = Vec::new(alloc);
+    links.push(link_of(alloc, source_of(alloc, first)?))?;
+    links.push(link_of(alloc, source_of(alloc, second)?))?;
+    run(rt, alloc, 1_000, links)
+}
+
+#[test]
+fn a_pass_serves_one_link_after_the_other(rt: HostRuntime) -> Result<(), Fail> {
+    let came = run_two(
+        &rt,
+        rt.alloc(),
+        b"a 1 1700000000\nx\n",
+        b"a 2 1700000000\na 3 -1\n",
+    )?;
+    let mut counts = stored(1);
+    counts.replaced = 1;
+    assert_eq!(rt; came.counts, counts);
+    assert!(rt; came.tally.stored == 2 && came.tally.replaced == 1);
+    Ok(())
+}

@@ -1,5 +1,0 @@
-use Rattle.shared_history.specs.Parts.{PassesOfTable}
-use Rattle.shared_history.proofs.tests.passes_of.Given as goal
-
-abbrev pub invariant-loop-worker : goal.invariant-loop-worker
-invariant-loop-worker g l = PassesOfTable g.N.Named.table l.passes.items

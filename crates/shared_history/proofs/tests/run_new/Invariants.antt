@@ -1,4 +1,0 @@
-use Rattle.shared_history.proofs.tests.run_new.Given as goal
-
-abbrev pub ghosts-run_all : goal.ghosts-run_all
-ghosts-run_all g a = record { table = a.order.table }

@@ -1,5 +1,0 @@
-use Rattle.shared_history.specs.Parts.{TailsOfTable}
-use Rattle.shared_history.proofs.tests.tails_of.Given as goal
-
-abbrev pub invariant-loop-class : goal.invariant-loop-class
-invariant-loop-class g l = TailsOfTable g.N.Named.table l.tails.items

@@ -1,0 +1,575 @@
+// Shards over disks in memory: puts, plans, runs, looks and reads.
+ghost use Rattle.std.specs.Prelude.{◌≡◌, ◌<◌, ◌≤◌, All, IfOk};
+ghost use Rattle.shard_core.specs.Looks.{MayRead};
+ghost use Rattle.shard_core.specs.View.{inside_of};
+
+use drain_order::Strategy;
+use fixed_num::Milli;
+use metric_line::read_line;
+use outside_io::{Disk, MemDisk};
+use path_glob::Glob;
+use point_cache::Put;
+use schema_rules::Rules;
+use shard_core::*;
+use std::alloc::Global;
+use std::process::Abort;
+use std::test::Fail;
+
+// A minute and five minutes begin here.
+const START: u32 = 1_700_000_100;
+
+// Four minutes later, the moment of most questions.
+const NOW: u32 = START + 240;
+
+// Ten minutes by minutes.
+const ONE: &[u8] = b"[all]\npattern = .*\nretentions = 60:10\n";
+
+// And an hour by five minutes.
+const TWO: &[u8] = b"[all]\npattern = .*\nretentions = 60:10,300:12\n";
+
+// And a day by hours.
+const THREE: &[u8] = b"[all]\npattern = .*\nretentions = 60:10,300:12,3600:24\n";
+
+// What is done to a shard, and what comes of it.
+#[derive(Clone, Copy)]
+enum Act<'a> {
+    // A line is put, and ends so.
+    Put(&'a [u8], Put),
+    // A drain is planned at a moment: the path of its metric, or how else the plan ends.
+    Plan(u32, &'static str),
+    // A run is written, and ends so.
+    Write(Wrote),
+    // These are the metrics that are pending or kept.
+    Names(&'a [&'static str]),
+    // A glob finds these metrics, in a question from one moment until another, asked at `NOW`.
+    Found(&'a [u8], u32, u32, &'a [&'static str]),
+    // The values of the first metric that it finds, up to `NOW`.
+    Shown(&'a [u8], u32, &'a [Option<Milli>]),
+    // A metric is looked at, a drain is planned, and a read tells so many drains, if it has moved.
+    Moved(&'a [u8], Option<u64>),
+}
+
+// The shard of class 12, in which are `a.b`, `a.r` and `a.2`, over a disk.
+fn start_over(
+    alloc: Global,
+    disk: MemDisk,
+    schemas: &[u8],
+    limit: u64,
+    strategy: Strategy,
+) -> Result<Shard<MemDisk>, Fail>
+    requires { 0 < limit }
+{
+    let rules = Rules::read(alloc, schemas, b"")?;
+    match Shard::start(alloc, 12, disk, rules, limit, strategy) {
+        Ok(shard) => Ok(shard),
+        Err(_) => Err(Fail::new("no file is damaged")),
+    }
+}
+
+// ---- what is done
+
+fn put<D: Disk>(alloc: Global, shard: &mut Shard<D>, line: &[u8]) -> Result<Put, Fail> {
+    let datum = read_line(alloc, line, START)?;
+    if datum.path.class() != shard.class() {
+        return Err(Fail::new("the metric is of the class"));
+    }
+    Ok(shard.put(&datum))
+}
+
+fn has_end(planned: &Planned, end: &str) -> bool {
+    match planned {
+        Planned::Took(path) => path.as_str() == end,
+        Planned::Busy => end == "busy",
+        Planned::Idle => end == "idle",
+        Planned::DiskFault => end == "disk fault",
+        Planned::NoMemory => end == "no memory",
+    }
+}
+
+fn are_names<D: Disk>(shard: &Shard<D>, paths: &[&'static str]) -> Result<bool, Fail> {
+    let names = shard.names()?;
+    Ok(
+        names.len() == paths.len()
+            && names
+                .iter()
+                .zip(paths.iter())
+                .all(|(name, path)| name.as_str() == *path),
+    )
+}
+
+// What a glob finds in a question from a moment until another, asked at `NOW`.
+fn look<D: Disk>(
+    alloc: Global,
+    shard: &Shard<D>,
+    glob: &[u8],
+    from: u32,
+    until: u32,
+) -> Result<Vec<Looked>, Fail>
+    ensures { IfOk result (λ looked. All (MayRead (inside_of shard.now)) looked.items) }
+{
+    let glob = Glob::new(alloc, glob)?;
+    let until = u64::from(until);
+    Ok(shard.look(&glob, until.min(u64::from(from)), until, u64::from(NOW))?)
+}
+
+fn are_found(looked: &[Looked], paths: &[&'static str]) -> bool {
+    looked.len() == paths.len()
+        && looked
+            .iter()
+            .zip(paths.iter())
+            .all(|(one, path)| one.path.as_str() == *path)
+}
+
+// The values of the first metric that a glob finds.
+fn shows<D: Disk>(
+    alloc: Global,
+    shard: &mut Shard<D>,
+    glob: &[u8],
+    from: u32,
+    values: &[Option<Milli>],
+) -> Result<bool, Fail> {
+    let looked = look(alloc, shard, glob, from, NOW)?;
+    let Some(one) = looked.first() else {
+        return Err(Fail::new("the metric is found"));
+    };
+    match shard.read(one) {
+        Ok(read) => Ok(read.list() == values),
+        Err(_) => Err(Fail::new("the metric is read")),
+    }
+}
+
+// What a read tells of the drains of a metric, where one is planned since it was looked at.
+fn moved<D: Disk>(alloc: Global, shard: &mut Shard<D>, glob: &[u8]) -> Result<Option<u64>, Fail> {
+    let looked = look(alloc, shard, glob, START, NOW)?;
+    let Some(one) = looked.first() else {
+        return Err(Fail::new("the metric is found"));
+    };
+    let _ = shard.plan(NOW);
+    match shard.read(one) {
+        Err(LookFault::Moved(drains)) => Ok(Some(drains)),
+        _ => Ok(None),
+    }
+}
+
+// Whether what comes of an act is what is to come.
+fn obey<D: Disk>(alloc: Global, shard: &mut Shard<D>, act: Act<'_>) -> Result<bool, Fail> {
+    match act {
+        Act::Put(line, end) => Ok(put(alloc, shard, line)? == end),
+        Act::Plan(now, end) => Ok(has_end(&shard.plan(now), end)),
+        Act::Write(end) => Ok(shard.write_next() == end),
+        Act::Names(paths) => are_names(shard, paths),
+        Act::Found(glob, from, until, paths) => {
+            Ok(are_found(&look(alloc, shard, glob, from, until)?, paths))
+        }
+        Act::Shown(glob, from, values) => shows(alloc, shard, glob, from, values),
+        Act::Moved(glob, drains) => Ok(moved(alloc, shard, glob)? == drains),
+    }
+}
+
+fn assert_all<D: Disk>(
+    rt: &impl Abort,
+    alloc: Global,
+    shard: &mut Shard<D>,
+    acts: &[Act<'_>],
+) -> Result<(), Fail> {
+    for (n, act) in acts.iter().enumerate() {
+        assert!(rt; obey(alloc, shard, *act)?, "act {n}");
+    }
+    Ok(())
+}
+
+// ---- drains
+
+// Five minutes of `a.b` from the start on, with the values from 1 to 5.
+const FIVE: [Act<'static>; 5] = [
+    Act::Put(b"a.b 1 1700000100", Put::Stored),
+    Act::Put(b"a.b 2 1700000160", Put::Stored),
+    Act::Put(b"a.b 3 1700000220", Put::Stored),
+    Act::Put(b"a.b 4 1700000280", Put::Stored),
+    Act::Put(b"a.b 5 1700000340", Put::Stored),
+];
+
+// The five minutes by minutes, and the two five minutes up to them: 3 is the average of the second.
+const FINE: Act<'static> = Act::Shown(
+    b"a.b",
+    START - 60,
+    &[
+        Some(1_000),
+        Some(2_000),
+        Some(3_000),
+        Some(4_000),
+        Some(5_000),
+    ],
+);
+
+const COARSE: Act<'static> = Act::Shown(b"*.*", START - 460, &[None, Some(3_000)]);
+
+// A file of `a.b` with one other point.
+const BEFORE: [Act<'static>; 5] = [
+    Act::Put(b"a.b 9 1700000160", Put::Stored),
+    Act::Plan(START + 60, "a.b"),
+    Act::Write(Wrote::Run),
+    Act::Write(Wrote::Run),
+    Act::Write(Wrote::Finished),
+];
+
+// The drain of the five minutes, of which one writing call fails.
+#[derive(Drop)]
+struct Drained<'a> {
+    schemas: &'a [u8],
+    before: &'a [Act<'a>],
+    asks: &'a [Act<'a>],
+    failing: u64,
+    is_torn: bool,
+}
+
+// Writes what is on the shelf run by run, with questions before each run and behind the last: how
+// many were written, and how many failed.
+fn write_all<D: Disk>(
+    rt: &impl Abort,
+    alloc: Global,
+    shard: &mut Shard<D>,
+    asks: &[Act<'_>],
+) -> Result<(u32, u32), Fail> {
+    let mut runs = 0u32;
+    let mut faults = 0u32;
+    for _ in 0..20u32 {
+        assert_all(rt, alloc, shard, asks)?;
+        match shard.write_next() {
+            Wrote::Run | Wrote::Finished => runs = runs.saturating_add(1),
+            Wrote::DiskFault => faults = faults.saturating_add(1),
+            Wrote::Nothing => return Ok((runs, faults)),
+        }
+    }
+    Err(Fail::new("the shelf is empty at last"))
+}
+
+fn drain(rt: &impl Abort, alloc: Global, drained: &Drained<'_>) -> Result<(u32, u32), Fail> {
+    let disk = MemDisk::new(alloc, 10_000).failing(vec![in alloc; drained.failing]?);
+    let disk = if drained.is_torn {
+        disk.tearing()
+    } else {
+        disk
+    };
+    let mut shard = start_over(alloc, disk, drained.schemas, 100, Strategy::Naive)?;
+    assert_all(rt, alloc, &mut shard, drained.before)?;
+    assert_all(rt, alloc, &mut shard, &FIVE)?;
+    assert_all(rt, alloc, &mut shard, drained.asks)?;
+    assert_all(rt, alloc, &mut shard, &[Act::Plan(NOW, "a.b")])?;
+    write_all(rt, alloc, &mut shard, drained.asks)
+}
+
+// A file that is to be created is, then its cells are written, those of each archive at once, and
+// then its head. Each run fails once, and leaves its place as it was, or torn.
+#[test]
+fn a_metric_shows_the_same_between_any_two_runs(rt: HostRuntime) -> Result<(), Fail> {
+    let both = [FINE, COARSE];
+    // the rules, what is done before, the questions, the first writing call of the drain, and its
+    // runs
+    let table: [(&[u8], &[Act<'_>], &[Act<'_>], u64, u32); 6] = [
+        (ONE, &[], &[FINE], 1, 3),
+        (TWO, &[], &both, 1, 4),
+        (THREE, &[], &both, 1, 4),
+        // the first slot is that of the second minute, so that the first minute has the last
+        (ONE, &BEFORE, &[FINE], 4, 2),
+        (TWO, &BEFORE, &both, 4, 3),
+        (THREE, &BEFORE, &both, 4, 3),
+    ];
+    for (schemas, before, asks, first, runs) in table {
+        for call in 0..=runs {
+            for is_torn in [false, true] {
+                let drained = Drained {
+                    schemas,
+                    before,
+                    asks,
+                    failing: u64::from(call).saturating_add(first),
+                    is_torn,
+                };
+                let faults = u32::from(call < runs);
+                assert!(rt;
+                    drain(&rt, rt.alloc(), &drained)? == (runs, faults),
+                    "call {call} of {runs}"
+                );
+            }
+        }
+    }
+    Ok(())
+}
+
+// ---- whole tables
+
+// A shard with rules, so many points at most and an order, and what is done to it.
+#[derive(Drop)]
+struct Case<'a> {
+    schemas: &'a [u8],
+    limit: u64,
+    strategy: Strategy,
+    acts: &'a [Act<'a>],
+}
+
+fn assert_case(rt: &impl Abort, alloc: Global, disk: MemDisk, case: &Case<'_>) -> Result<(), Fail> {
+    let limit = case.limit.max(1);
+    let mut shard = start_over(alloc, disk, case.schemas, limit, case.strategy)?;
+    assert_all(rt, alloc, &mut shard, case.acts)
+}
+
+// The same over a disk without files, of which one reading call fails, if it comes so far.
+fn assert_without_files(
+    rt: &impl Abort,
+    alloc: Global,
+    failing: u64,
+    case: &Case<'_>,
+) -> Result<(), Fail> {
+    let disk = MemDisk::new(alloc, 1_000_000).failing_reads(vec![in alloc; failing]?);
+    assert_case(rt, alloc, disk, case)
+}
+
+// The start lists the names. A file that is there is read for the plan, and each look before that
+// reads nothing.
+#[test]
+fn a_plan_that_cannot_read_leaves_all(rt: HostRuntime) -> Result<(), Fail> {
+    let acts = [
+        Act::Put(b"a.b 9 1700000100", Put::Stored),
+        Act::Plan(START, "a.b"),
+        Act::Plan(START, "busy"),
+        Act::Write(Wrote::Run),
+        Act::Write(Wrote::Run),
+        Act::Write(Wrote::Finished),
+        Act::Put(b"a.b 7 1700000160", Put::Stored),
+        Act::Put(b"a.b 2 1700000160", Put::Replaced),
+        FIVE[0],
+        FIVE[2],
+        FIVE[3],
+        FIVE[4],
+        Act::Plan(NOW, "disk fault"),
+        Act::Write(Wrote::Nothing),
+        FINE,
+        COARSE,
+        Act::Plan(NOW, "a.b"),
+        FINE,
+        COARSE,
+        Act::Write(Wrote::Run),
+        FINE,
+        COARSE,
+        Act::Write(Wrote::Finished),
+        FINE,
+        COARSE,
+        Act::Plan(NOW, "idle"),
+    ];
+    let case = Case {
+        schemas: TWO,
+        limit: 100,
+        strategy: Strategy::Naive,
+        acts: &acts,
+    };
+    assert_without_files(&rt, rt.alloc(), 2, &case)
+}
+
+// Points that are put while a drain is written show over it, and a drain of points that are older
+// than all that the archives reach back to writes nothing.
+#[test]
+fn points_come_between_two_runs(rt: HostRuntime) -> Result<(), Fail> {
+    let acts = [
+        FIVE[0],
+        FIVE[1],
+        Act::Plan(NOW, "a.b"),
+        Act::Write(Wrote::Run),
+        FIVE[2],
+        Act::Write(Wrote::Run),
+        FIVE[3],
+        FIVE[4],
+        FINE,
+        Act::Write(Wrote::Finished),
+        FINE,
+        Act::Plan(NOW, "a.b"),
+        Act::Write(Wrote::Finished),
+        Act::Put(b"a.b 1 1699996000", Put::Stored),
+        Act::Plan(NOW, "a.b"),
+        Act::Write(Wrote::Nothing),
+        FINE,
+        Act::Plan(NOW, "idle"),
+    ];
+    let case = Case {
+        schemas: ONE,
+        limit: 100,
+        strategy: Strategy::Naive,
+        acts: &acts,
+    };
+    assert_without_files(&rt, rt.alloc(), 0, &case)
+}
+
+// Ten minutes for `a.r`, and else as `TWO`.
+const SHORT: &[u8] =
+    b"[r]\npattern = r$\nretentions = 60:10\n[all]\npattern = .*\nretentions = 60:10,300:12\n";
+
+const PENDING: [Act<'static>; 16] = [
+    Act::Put(b"a.r 1 1700000100", Put::Stored),
+    Act::Names(&["a.r"]),
+    Act::Put(b"a.b 1 1700000100", Put::Stored),
+    Act::Put(b"a.2 1 1700000100", Put::Full),
+    Act::Names(&["a.b", "a.r"]),
+    Act::Put(b"a.b 2 1700000100", Put::Replaced),
+    Act::Found(b"a.*", START, NOW, &["a.b", "a.r"]),
+    Act::Plan(START, "a.r"),
+    Act::Names(&["a.b", "a.r"]),
+    Act::Found(b"*.*", START, NOW, &["a.b", "a.r"]),
+    Act::Found(b"a.[q-r]", START, NOW, &["a.r"]),
+    Act::Found(b"a.2", START, NOW, &[]),
+    Act::Found(b"a.*", NOW - 3_000, NOW - 601, &["a.b"]),
+    Act::Found(b"a.*", NOW - 5_000, NOW - 3_601, &[]),
+    Act::Found(b"a.*", NOW + 1, NOW + 2, &[]),
+    Act::Shown(
+        b"a.{b,r}",
+        START - 60,
+        &[Some(2_000), None, None, None, None],
+    ),
+];
+
+// A full class refuses a new metric, and does not know it then. A metric is found as long as it is
+// pending or kept, where its archives reach back to the question.
+#[test]
+fn pending_metrics_are_found(rt: HostRuntime) -> Result<(), Fail> {
+    let case = Case {
+        schemas: SHORT,
+        limit: 2,
+        strategy: Strategy::Naive,
+        acts: &PENDING,
+    };
+    assert_without_files(&rt, rt.alloc(), 0, &case)
+}
+
+// A head of one archive of 10 minutes, and its zero cells.
+const HEAD: [u8; 28] = [
+    0, 0, 0, 1, 0, 0, 2, 0x58, 0, 0x07, 0xa1, 0x20, 0, 0, 0, 1, 0, 0, 0, 28, 0, 0, 0, 60, 0, 0, 0,
+    10,
+];
+
+// A disk with an empty ring file of `a.b` and a zero file of `a.r`.
+fn disk_with_two(alloc: Global) -> Result<MemDisk, Fail> {
+    let mut ring = Vec::from_slice(alloc, &HEAD)?;
+    ring.resize(148, 0)?;
+    let mut disk = MemDisk::new(alloc, 1_000);
+    disk.put_file("a/b.ring", ring)?;
+    disk.put_file("a/r.ring", vec![in alloc; 0; 28]?)?;
+    Ok(disk)
+}
+
+const KEPT: [Act<'static>; 12] = [
+    Act::Names(&["a.b"]),
+    Act::Found(b"a.*", START, NOW, &["a.b"]),
+    // the layout is that of the file
+    Act::Found(b"a.*", NOW - 3_000, NOW - 601, &[]),
+    Act::Shown(b"a.*", START - 60, &[None, None, None, None, None]),
+    Act::Put(b"a.r 1.5 1700000100", Put::Stored),
+    Act::Names(&["a.b", "a.r"]),
+    Act::Plan(NOW, "a.r"),
+    Act::Write(Wrote::Run),
+    Act::Write(Wrote::Run),
+    Act::Write(Wrote::Finished),
+    Act::Found(b"*.*", START, NOW, &["a.b", "a.r"]),
+    Act::Shown(b"a.r", START - 60, &[Some(1_500), None, None, None, None]),
+];
+
+// A metric that is kept alone is found; a zero file counts as none, and is created by its drain.
+#[test]
+fn kept_metrics_are_found(rt: HostRuntime) -> Result<(), Fail> {
+    let case = Case {
+        schemas: TWO,
+        limit: 100,
+        strategy: Strategy::Naive,
+        acts: &KEPT,
+    };
+    assert_case(&rt, rt.alloc(), disk_with_two(rt.alloc())?, &case)
+}
+
+#[test]
+fn a_metric_that_was_drained_since_the_look_has_moved(rt: HostRuntime) -> Result<(), Fail> {
+    let acts = [
+        FIVE[0],
+        Act::Moved(b"a.b", Some(1)),
+        Act::Write(Wrote::Run),
+        Act::Write(Wrote::Run),
+        Act::Write(Wrote::Finished),
+        FIVE[1],
+        Act::Moved(b"a.b", Some(2)),
+        Act::Write(Wrote::Finished),
+        // nothing is pending, and so nothing is drained
+        Act::Moved(b"a.b", None),
+    ];
+    let case = Case {
+        schemas: TWO,
+        limit: 100,
+        strategy: Strategy::Naive,
+        acts: &acts,
+    };
+    assert_without_files(&rt, rt.alloc(), 0, &case)
+}
+
+// ---- orders
+
+// Three points of `a.r`.
+const THREE_OF_R: [Act<'static>; 3] = [
+    Act::Put(b"a.r 1 1700000100", Put::Stored),
+    Act::Put(b"a.r 2 1700000160", Put::Stored),
+    Act::Put(b"a.r 3 1700000220", Put::Stored),
+];
+
+// Of two metrics with as many points the first in byte order is drained.
+#[test]
+fn the_most_points_are_drained_first(rt: HostRuntime) -> Result<(), Fail> {
+    let acts = [
+        THREE_OF_R[0],
+        THREE_OF_R[1],
+        THREE_OF_R[2],
+        FIVE[0],
+        FIVE[1],
+        FIVE[2],
+        Act::Plan(NOW, "a.b"),
+    ];
+    let case = Case {
+        schemas: b"",
+        limit: 100,
+        strategy: Strategy::Max,
+        acts: &acts,
+    };
+    assert_without_files(&rt, rt.alloc(), 0, &case)
+}
+
+// The queue is made at the first plan, whatever is put later, and a plan that cannot read leaves
+// it.
+#[test]
+fn a_queue_is_drained_to_its_end(rt: HostRuntime) -> Result<(), Fail> {
+    let acts = [
+        Act::Put(b"a.b 9 1700000040", Put::Stored),
+        Act::Plan(START, "a.b"),
+        Act::Write(Wrote::Run),
+        Act::Write(Wrote::Run),
+        Act::Write(Wrote::Finished),
+        THREE_OF_R[0],
+        THREE_OF_R[1],
+        THREE_OF_R[2],
+        FIVE[0],
+        FIVE[1],
+        Act::Put(b"a.2 1 1700000100", Put::Stored),
+        Act::Plan(NOW, "a.r"),
+        Act::Put(b"a.2 1 1700000160", Put::Stored),
+        Act::Put(b"a.2 1 1700000220", Put::Stored),
+        Act::Put(b"a.2 1 1700000280", Put::Stored),
+        Act::Put(b"a.2 1 1700000340", Put::Stored),
+        Act::Put(b"a.2 1 1700000400", Put::Stored),
+        Act::Write(Wrote::Run),
+        Act::Write(Wrote::Run),
+        Act::Write(Wrote::Finished),
+        Act::Plan(START + 300, "disk fault"),
+        Act::Plan(START + 300, "a.b"),
+        Act::Write(Wrote::Finished),
+        Act::Plan(START + 300, "a.2"),
+    ];
+    let case = Case {
+        schemas: b"",
+        limit: 100,
+        strategy: Strategy::Sorted,
+        acts: &acts,
+    };
+    assert_without_files(&rt, rt.alloc(), 2, &case)
+}

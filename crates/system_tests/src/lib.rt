@@ -1,0 +1,6 @@
+#![tactic(auto)]
+
+#[cfg(test)]
+mod gate_io_tests;
+#[cfg(test)]
+mod outside_io_tests;
