@@ -10,4 +10,3 @@ mod planning;
 mod rolling;
 
 pub use planning::plan;
-

@@ -14,4 +14,3 @@ mod top;
 
 pub use report::Report;
 pub use top::run;
-

@@ -10,4 +10,3 @@ mod waiting;
 
 pub use picker::Picker;
 pub use strategy::Strategy;
-

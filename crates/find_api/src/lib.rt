@@ -17,4 +17,3 @@ pub use fault::FindFault;
 pub use laws::branches_are_the_first_nodes;
 pub use query::read_queries;
 pub use text::{expand_text, find_text, index_text};
-

@@ -17,4 +17,3 @@ pub use gate_disk::GateDisk;
 pub use gate_link::GateLink;
 pub use mem_net::{Bound, MemNet};
 pub use sent::Sent;
-

@@ -15,4 +15,3 @@ mod serve;
 pub use ends::HttpEnd;
 pub use outcome::Outcome;
 pub use serve::serve_http;
-

@@ -25,4 +25,3 @@ pub use refusal::Refusal;
 pub use reply::{MediaType, Reply, push_reply};
 pub use routing::{Endpoint, query_of, route};
 pub use std::alloc::AllocError as NoMemory;
-

@@ -10,4 +10,3 @@ mod framer;
 
 pub use framer::{Framed, Framer, MOST_LINE_BYTES};
 pub use std::alloc::AllocError as NoMemory;
-

@@ -13,4 +13,3 @@ mod waiting;
 pub use counts::Counts;
 pub use ends::LineCause;
 pub use serve::{Served, serve_lines};
-

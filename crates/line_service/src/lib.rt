@@ -13,4 +13,3 @@ pub use ends::{ServiceEnd, Stop};
 pub use serve::{MOST_INPUT_BYTES, serve_lines};
 pub use server::{LineServer, WaitingServer};
 pub use waiting::serve_each;
-

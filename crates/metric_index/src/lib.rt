@@ -8,4 +8,3 @@ mod index;
 
 pub use hit::Hit;
 pub use index::Index;
-

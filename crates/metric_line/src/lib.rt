@@ -15,4 +15,3 @@ pub use laws::{
 };
 pub use line::read_line;
 pub use stamp::StampFault;
-

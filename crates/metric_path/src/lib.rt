@@ -12,4 +12,3 @@ mod path;
 pub use check::{fault_of, legal_front};
 pub use path::{CLASSES, MetricPath, PathFault};
 pub use std::alloc::AllocError as NoMemory;
-

@@ -14,6 +14,7 @@ use Rattle.regex.specs.contracts.pattern.Pattern as Compiled
 use Rattle.regex.specs.contracts.string.regex.Regex as Regex
 use Rattle.name_pattern.specs.contracts.pattern.Pattern as Pattern
 use Rattle.name_pattern.specs.contracts.pattern.Pattern.TheInside as PatternInside
+use Rattle.name_pattern.specs.contracts.plain.Plain as Plain
 use Rattle.name_pattern.specs.contracts.name_test.Steps as Steps
 use Rattle.name_pattern.specs.contracts.name_test.NameTest as NameTest
 use Rattle.name_pattern.specs.contracts.name_test.NameTest.TheInside as NameTestInside
@@ -46,11 +47,17 @@ pattern-send = let inside : IsSend PatternInside.the_row = declared_send Pattern
 pub pattern-sync : IsSync Pattern.the_row
 pattern-sync = let inside : IsSync PatternInside.the_row = declared_sync PatternInside.the_type (regex-sync, tt) in search (inside, sendable) depth 10
 
+plain-send : IsSend Plain.the_row
+plain-send = declared_send Plain.the_type (search parts depth 60 fits 20000, (search parts depth 60 fits 20000, (search parts depth 60 fits 20000, tt)))
+
+plain-sync : IsSync Plain.the_row
+plain-sync = declared_sync Plain.the_type (search parts depth 60 fits 20000, (search parts depth 60 fits 20000, (search parts depth 60 fits 20000, tt)))
+
 steps-send : IsSend Steps.the_row
-steps-send = declared_send Steps.the_type (search parts depth 60 fits 20000, (search parts depth 60 fits 20000, tt))
+steps-send = declared_send Steps.the_type (search parts depth 60 fits 20000, (search parts depth 60 fits 20000, (search (plain-send, parts) depth 60 fits 20000, tt)))
 
 steps-sync : IsSync Steps.the_row
-steps-sync = declared_sync Steps.the_type (search parts depth 60 fits 20000, (search parts depth 60 fits 20000, tt))
+steps-sync = declared_sync Steps.the_type (search parts depth 60 fits 20000, (search parts depth 60 fits 20000, (search (plain-sync, parts) depth 60 fits 20000, tt)))
 
 pub name_test-send : IsSend NameTest.the_row
 name_test-send = let inside : IsSend NameTestInside.the_row = declared_send NameTestInside.the_type (pattern-send, (steps-send, tt)) in search (inside, sendable) depth 10

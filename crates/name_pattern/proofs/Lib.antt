@@ -1,4 +1,5 @@
 pub mod PatternLemmas
 pub mod SubstitutionLemmas
 pub mod Cross
+mod PlainLemmas
 mod WalkLemmas

@@ -11,11 +11,11 @@ use Rattle.regex_nfa.specs.declared.nfa.Nfa.{Nfa}
 use Rattle.regex_compile.specs.Implements.{Implements}
 use Rattle.regex_vm.specs.Found.{first_match, span}
 
-masked_none : (b : Bool) (o : Option Trace) → o ≡ None → (if b then o else None) ≡ None
+pub masked_none : (b : Bool) (o : Option Trace) → o ≡ None → (if b then o else None) ≡ None
 masked_none true o none = none
 masked_none false o none = refl
 
-masked_some : (b : Bool) (o : Option Trace) → b ≡ true → (if b then o else None) ≡ o
+pub masked_some : (b : Bool) (o : Option Trace) → b ≡ true → (if b then o else None) ≡ o
 masked_some b o is = rw is refl
 
 -- the states find what the pattern finds in bytes

@@ -3,6 +3,7 @@
 
 mod name_test;
 mod pattern;
+mod plain;
 mod substitution;
 
 pub use name_test::NameTest;

@@ -6,8 +6,10 @@ ghost use Rattle.regex_hir.specs.Meaning.{meaning};
 ghost use Rattle.regex_hir.specs.Re.{Re};
 ghost use Rattle.regex_hir.specs.Text.{is_boundary};
 ghost use Rattle.name_pattern.specs.Patterns.{SearchesFor, is_found, is_readable};
+ghost use Rattle.name_pattern.specs.PlainTexts.{Asks};
 
 use crate::pattern::Pattern;
+use crate::plain::Plain;
 use regex_compile::compile;
 use regex_hir::Hir;
 use regex_nfa::Nfa;
@@ -19,11 +21,12 @@ use std::marker::Model;
 // The most bytes of the states of a pattern, as for a pattern that is searched.
 const MOST_STATE_BYTES: usize = 10 << 20;
 
-// What a text is read as, and the states by which it is walked.
+// What a text is read as, the states by which it is walked, and the text that it asks for if it asks for no more.
 #[derive(Drop)]
 struct Steps {
     hir: Hir,
     nfa: Nfa,
+    plain: Option<Plain>,
 }
 
 /// A pattern that is asked of one name now and then whether it is found there: nothing is made ready for
@@ -44,17 +47,19 @@ impl Drop for NameTest {
 }
 
 impl Model for NameTest {
-    ghost use Rattle.std.specs.Prelude.{List, ℕ};
+    ghost use Rattle.std.specs.Prelude.{List, ℕ, IfSome};
     ghost use Rattle.regex_compile.specs.Implements.{Implements};
     ghost use Rattle.regex_hir.specs.Meaning.{meaning};
     ghost use Rattle.name_pattern.specs.Patterns.{SearchesFor};
+    ghost use Rattle.name_pattern.specs.PlainTexts.{Asks};
 
     ghost Value = { List ℕ };
 
     ghost view = { λ t. t.pattern };
 
     ghost invariant = { λ t. Implements t.steps.nfa (meaning t.steps.hir)
-        × SearchesFor t.pattern (meaning t.steps.hir) };
+        × SearchesFor t.pattern (meaning t.steps.hir)
+        × IfSome t.steps.plain (Asks (meaning t.steps.hir)) };
 }
 
 impl NameTest {
@@ -82,7 +87,7 @@ impl NameTest {
     pub fn is_found(&self, alloc: Global, name: &str) -> Result<bool, AllocError>
         ensures { IfOk result (λ found. found ≡ is_found self.now name.now) }
     {
-        if let Some(found) = walk(alloc, &self.steps.nfa, name.as_bytes()) {
+        if let Some(found) = tell(alloc, &self.steps, name.as_bytes()) {
             return Ok(found);
         }
         let mut search = self.pattern.search(alloc)?;
@@ -94,6 +99,7 @@ impl NameTest {
 fn steps_of(alloc: Global, text: &str) -> Result<Steps, AllocError>
     ensures implements { IfOk result (λ steps. Implements steps.nfa (meaning steps.hir)) }
     ensures searches { IfOk result (λ steps. SearchesFor text.now (meaning steps.hir)) }
+    ensures plain { IfOk result (λ steps. IfSome steps.plain (Asks (meaning steps.hir))) }
 {
     let Ok(Parsed { hir, names }) = parse(alloc, text, &Config::default()) else {
         return Err(AllocError);
@@ -104,7 +110,34 @@ fn steps_of(alloc: Global, text: &str) -> Result<Steps, AllocError>
     let Ok(nfa) = compile(alloc, &hir, groups, MOST_STATE_BYTES) else {
         return Err(AllocError);
     };
-    Ok(Steps { hir, nfa })
+    let plain = Plain::of(alloc, &hir)?;
+    Ok(Steps { hir, nfa, plain })
+}
+
+// Whether what a text is read as is found in a name: `None` where that was not told.
+fn tell(alloc: Global, steps: &Steps, name: &[u8]) -> Option<bool>
+    ensures { IfSome result (λ found. Implements steps.now.nfa (meaning steps.now.hir)
+        → IfSome steps.now.plain (Asks (meaning steps.now.hir))
+        → found ≡ is_some (find_str (meaning steps.now.hir) name.now 0)) }
+{
+    match &steps.plain {
+        Some(plain) => return ask(plain, name),
+        None => return walk(alloc, &steps.nfa, name),
+    }
+}
+
+// Whether a pattern that asks for a text is found in a name: `None` where the text stands inside a character.
+fn ask(plain: &Plain, name: &[u8]) -> Option<bool>
+    ensures { IfSome result (λ found. (re : Re) → Asks re plain.now
+        → found ≡ is_some (find_str re name.now 0)) }
+{
+    let Some(at) = plain.place_in(name) else {
+        return Some(false);
+    };
+    if is_cut(name, at) {
+        return Some(true);
+    }
+    None
 }
 
 // Whether states find a match in a name: `None` where the name is too long to tell, where memory ran out,

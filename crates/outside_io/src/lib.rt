@@ -40,4 +40,3 @@ pub use net::{Net, NetFailed};
 pub use sink::{Sink, WriteEnd, WriteFault, write_all};
 pub use source::{ReadEnd, Source};
 pub use std_streams::{StdSink, StdSource};
-

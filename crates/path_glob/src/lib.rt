@@ -25,4 +25,3 @@ pub use laws::{
     globs_are_whole_stretches, lists_stand_for_one_byte, texts_with_one_front_stand_together,
     values_are_closed, wildcards_stay_within_a_node,
 };
-

@@ -8,4 +8,3 @@ mod refusal;
 pub use answer::{Answer, Text};
 pub use answering::answer_rows;
 pub use refusal::Refusal;
-

@@ -10,4 +10,3 @@ mod raw_form;
 pub use csv_form::{LATEST_CSV_END, csv_text};
 pub use json_form::json_text;
 pub use raw_form::raw_text;
-

@@ -25,4 +25,3 @@ pub use laws::the_last_text_of_a_parameter_holds;
 pub use need::Need;
 pub use plan::RenderPlan;
 pub use settings::Format;
-

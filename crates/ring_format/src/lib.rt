@@ -29,4 +29,3 @@ pub use layout::Layout;
 pub use patch::{CellWrite, Patch};
 pub use slot::slot_of;
 pub use std::alloc::AllocError as NoMemory;
-

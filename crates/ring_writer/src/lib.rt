@@ -9,4 +9,3 @@ mod run_writing;
 
 pub use laws::{a_file_with_no_run_left_stands_alone, every_drain_may_begin};
 pub use run_writing::write_run;
-

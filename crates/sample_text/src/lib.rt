@@ -18,4 +18,3 @@ mod sample_source;
 
 pub use question_source::{QuestionSource, question};
 pub use sample_source::SampleSource;
-

@@ -20,4 +20,3 @@ mod unit;
 pub use fault::{RuleCause, RuleFault, RuleFile};
 pub use laws::archives_are_those_of_the_pieces;
 pub use rules::Rules;
-

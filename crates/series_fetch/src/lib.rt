@@ -9,4 +9,3 @@ mod range;
 
 pub use fetching::fetch;
 pub use range::{Window, window_of};
-

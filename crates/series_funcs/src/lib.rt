@@ -24,4 +24,3 @@ pub use naming::CallName;
 pub use node_numbers::NodeNumbers;
 pub use regrouping::regroup;
 pub use shaping::shape;
-

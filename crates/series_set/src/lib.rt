@@ -22,4 +22,3 @@ pub use regrid::on_grid;
 pub use series::{LATEST_END, MOST_VALUES, Series, WIDEST_STEP};
 pub use set::{SeriesRows, SeriesSet};
 pub use thinning::thin;
-

@@ -12,4 +12,3 @@ pub use opening::{hand_back, start_all};
 pub use refused::{Refusal, Refused};
 pub use setup::Setup;
 pub use started::Started;
-

@@ -41,4 +41,3 @@ pub use start::Parts;
 pub use step::Step;
 pub use store::Store;
 pub use tally::Tally;
-

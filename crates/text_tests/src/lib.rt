@@ -19,6 +19,8 @@ mod metric_line_tests;
 #[cfg(test)]
 mod metric_path_tests;
 #[cfg(test)]
+mod name_pattern_tests;
+#[cfg(test)]
 mod path_glob_slow;
 #[cfg(test)]
 mod path_glob_tests;

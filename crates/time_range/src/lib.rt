@@ -16,4 +16,3 @@ pub use fault::TimeFault;
 pub use laws::{dates_are_a_day_apart, spans_add_up};
 pub use span::{LATEST, Span, read_span};
 pub use time::read_time;
-

@@ -15,4 +15,3 @@ mod shelf;
 pub use laws::{each_cell_has_its_bytes, runs_are_those_of_their_patch};
 pub use run::Run;
 pub use shelf::Shelf;
-
