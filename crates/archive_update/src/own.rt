@@ -30,7 +30,7 @@ pub(crate) fn bucket_writes(
 {
     let step = layout.archive(archive).step;
     let span = HomeSpan::new(layout.archives(), archive as usize, now);
-    let mut writes = Vec::new(alloc);
+    let mut writes = Vec::with_capacity(alloc, points.len())?;
     for point in points {
         if span.holds(point.0) {
             put_latest(&mut writes, step, point)?;

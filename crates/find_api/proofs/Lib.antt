@@ -2,5 +2,5 @@ mod AsciiLemmas
 pub mod NodeLemmas
 pub mod RunLemmas
 mod FindLemmas
-mod OrderLemmas
+pub mod OrderLemmas
 mod QueryLemmas

@@ -1,7 +1,7 @@
 pub mod LinkLemmas
 mod ServiceLemmas
 mod SessionLemmas
-mod StoreLemmas
+pub mod StoreLemmas
 mod SplitLemmas
 mod CountLemmas
 mod PutLemmas

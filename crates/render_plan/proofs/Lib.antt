@@ -9,4 +9,4 @@ mod SoundLemmas
 mod RangeLemmas
 mod TakenLemmas
 mod ValueLemmas
-mod RowLemmas
+pub mod RowLemmas

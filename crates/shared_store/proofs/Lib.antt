@@ -13,7 +13,7 @@ mod AskCountLemmas
 mod AskChainLemmas
 mod AskReadLemmas
 mod AskSeriesLemmas
-mod EmptyLemmas
+pub mod EmptyLemmas
 mod NoteLemmas
 mod NameLemmas
 mod PieceLemmas
