@@ -19,6 +19,7 @@ SCHEMAS = (
     b"[carbon]\npattern = ^carbon\\.\nretentions = 60:90d\n\n"
     b"[default]\npattern = .*\nretentions = 60s:1d,5m:30d,1h:5y\n"
 )
+ONE_SECTION = b"[all]\npattern = .*\nretentions = 60s:1d,5m:30d,1h:5y\n"
 AGGREGATIONS = (
     b"[min]\npattern = \\.min$\nxFilesFactor = 0.1\naggregationMethod = min\n\n"
     b"[all]\npattern = .*\nxFilesFactor = 0.5\naggregationMethod = average\n"
@@ -63,11 +64,17 @@ def count_drains(script, what, metrics):
     row("  the writing of its runs", written / len(metrics))
 
 
-def over_rules(place, counts, what):
+def over_new(place, counts, what):
+    """A script that runs already, of which the lines of new metrics were counted."""
     script = Counted(place, os.path.join(counts, "rules"))
     script.tell(CLOCK + points(names(b"web", 100), OLD, 1))
     script.settle()
     count_lines(script, "a line of a new metric, with %s" % what, points(names(b"new", 200), OLD, 1))
+    return script
+
+
+def over_rules(place, counts, what):
+    script = over_new(place, counts, what)
     script.ask(b"!drain\n")
     for many, times in (("one point", 1), ("100 points", 100)):
         metrics = one_a_class(b"n%d" % times)
@@ -111,6 +118,9 @@ def main():
         over_lines(place, counts)
     with folder() as place, folder() as counts:
         over_rules(place, counts, "one archive")
+    with folder() as place, folder() as counts:
+        write_rules(place, ONE_SECTION)
+        over_new(place, counts, "a rule file of one section").leave()
     with folder() as place, folder() as counts:
         write_rules(place, SCHEMAS, AGGREGATIONS)
         over_rules(place, counts, "three archives by rule files")
