@@ -5,8 +5,8 @@ here=$(cd "$(dirname "$0")" && pwd) || exit 1
 program=$here/crates/carbon/out/carbon
 
 # what the proofs of all crates take from nothing, and the longest chain of crates that wait for one another, in minutes
-PROCESSOR_MINUTES=120
-LONGEST_CHAIN=40
+PROCESSOR_MINUTES=80
+LONGEST_CHAIN=45
 
 is_stale() {
     [ ! -x "$program" ] && return 0
@@ -41,16 +41,18 @@ serve() {
     exit "$status"
 }
 
-# Proves the crates side by side, and says after each how many are done. The last is that of the program.
+# Proves the program's crate and those below it side by side, and says after each how many are done. The last is the program's.
 build() {
     processors=$(nproc)
-    all=$(grep -c '^[a-z]' "$here/crates.txt")
+    # a crate stands above those that use it
+    all=$(tac "$here/crates.txt" |
+        awk -F '[: ]' '$1 == "carbon" || used[$1] { n++; for (i = 2; i <= NF; i++) used[$i] = 1 } END { print n }')
     minutes=$((PROCESSOR_MINUTES / processors))
     [ "$minutes" -lt "$LONGEST_CHAIN" ] && minutes=$LONGEST_CHAIN
     echo "carbon: building the program; each of $all crates is proved first, on $processors processors" >&2
     echo "carbon: from nothing that takes about $minutes minutes" >&2
     done=0
-    coproc proofs { cd "$here/crates" && exec setsid rt all check --jobs "$processors" 2>&1; }
+    coproc proofs { cd "$here/crates/carbon" && exec setsid rt all check --jobs "$processors" 2>&1; }
     rt=$proofs_PID
     trap 'kill -- "-$rt" 2>/dev/null; exit 130' INT TERM
     while read -r mark crate _ <&"${proofs[0]}"; do

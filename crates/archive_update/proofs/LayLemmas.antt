@@ -256,6 +256,10 @@ pub writes_prepared : (a b c : PatchValue) (layout : LayoutValue) (i base later 
 writes_prepared a b c layout i base later writes file same prepared lays = λ rings reads k bucket.
     (lays file rings prepared.0 (prepared.1 rings reads)).1 k bucket ∙ ap (λ (layout : LayoutValue). with_writes layout.archives rings i writes k bucket) same
 
+-- the base afterwards is that of the file under the later patch
+pub base_prepared : (a b c : PatchValue) (i base later : ℕ) (writes : List (ℕ × ℤ)) (file : List ℕ) → Prepares a b i base file → Lays b c i base later writes → later ≡ base_of c file i
+base_prepared a b c i base later writes file prepared lays = sym (lays file (value_of b file) prepared.0 (λ k bucket. refl)).0.first
+
 pub step_there : (archives : List Archive) (i b : ℕ) (archive : Archive) → slice_get archives i ≡ Some archive → IsBucketOf (step_of archives i) b → IsBucketOf archive.step b
 step_there archives i b archive found bucket = (bucket.0, rw found at bucket.1)
 

@@ -4,7 +4,7 @@ ghost use Rattle.std.specs.List.{list_any};
 ghost use Rattle.outside_io.specs.Frames.{ReadsOnly};
 ghost use Rattle.ring_format.specs.Patch.{IsPlace};
 ghost use Rattle.ring_archive.specs.Ring.{base_of};
-ghost use Rattle.ring_archive.specs.View.{IsThere, OnRing};
+ghost use Rattle.ring_archive.specs.View.{IsBased, IsThere, OnRing};
 ghost use Rattle.archive_update.specs.Batch.{step_of};
 ghost use Rattle.archive_update.specs.Laid.{IsAlike, IsBucketOf, IsCleared, IsLaid, IsRing, IsZeroed, Lays, Prepares, Writes};
 
@@ -14,7 +14,7 @@ use ring_archive::{RingFault, RingView};
 use ring_format::{Archive, CellWrite, NoMemory, Patch, slot_of};
 use std::alloc::Global;
 
-/// Writes values under their buckets into an archive, in order.
+/// Writes values under their buckets into an archive, in order, and answers the base that it has then.
 pub(crate) fn write_values<D: Disk>(
     alloc: Global,
     view: &RingView<'_>,
@@ -22,7 +22,7 @@ pub(crate) fn write_values<D: Disk>(
     patch: &mut Patch,
     archive: u32,
     writes: &[(u32, Milli)],
-) -> Result<(), RingFault>
+) -> Result<u32, RingFault>
     requires layout { patch.old.layout ≡ view.now.layout }
     requires archive { archive < length view.now.layout.archives }
     requires buckets { All
@@ -31,13 +31,15 @@ pub(crate) fn write_values<D: Disk>(
     ensures writes { OnOk result
         (OnRing view.now patch.old.fresh (D.image disk.old)
         (Writes view.now.layout.archives patch.old patch.new archive writes.now)) }
+    ensures based { IfOk result
+        (λ base. IsBased view.now patch.new (D.image disk.old) archive base) }
     ensures alike { IsAlike patch.old patch.new }
     ensures filled { OnOk result (patch.new.cells ≡ [] → writes.now ≡ []) }
     ensures frame { ReadsOnly D.Disk disk.old disk.new (IsErrOf result RingFault.DiskFault) }
 {
     let base = prepared(alloc, view, disk, patch, archive)?;
-    lay_all(patch, archive, base, writes)?;
-    Ok(())
+    let later = lay_all(patch, archive, base, writes)?;
+    Ok(later)
 }
 
 // The base of an archive, 0 where it is empty. Then each slot holds zero afterwards, so that no old cell comes back.

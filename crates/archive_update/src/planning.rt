@@ -14,7 +14,7 @@ use crate::own::bucket_writes;
 use crate::rolling::roll_up;
 use fixed_num::Milli;
 use outside_io::Disk;
-use ring_archive::{RingFault, RingView};
+use ring_archive::{BasedArchive, RingFault, RingView};
 use ring_format::Patch;
 use std::alloc::Global;
 
@@ -26,9 +26,10 @@ use std::alloc::Global;
 /// counts. From its archive on, each coarser one gets the rollup of what the one before it knows in the bucket,
 /// as far as enough is known, which is Whisper's rule. A bucket that shares its slot with a new one is forgotten.
 ///
-/// The disk is only read: a few times for each archive that gets anything, and once more for each stretch of
-/// coarse buckets. At an error the patch comes back with some of its cells laid; it is of no use then, but for
-/// its path.
+/// The disk is only read. For each archive that points go to, the base of it and of each coarser one that then
+/// gets anything is read once, and all cells of one that is empty in a file that is there; and each stretch of
+/// coarse buckets once, or twice where it goes round the ring's end. At an error the patch comes back with some
+/// of its cells laid; it is of no use then, but for its path.
 pub fn plan<D: Disk>(
     alloc: Global,
     view: &RingView<'_>,
@@ -116,7 +117,8 @@ fn plan_archive<D: Disk>(
     if own.is_empty() {
         return Ok(());
     }
-    write_values(alloc, view, disk, patch, archive, &own)?;
-    roll_up(alloc, view, disk, patch, archive, &own)?;
+    let base = write_values(alloc, view, disk, patch, archive, &own)?;
+    let based = BasedArchive { archive, base };
+    roll_up(alloc, view, disk, patch, based, &own)?;
     Ok(())
 }

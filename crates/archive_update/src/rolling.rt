@@ -1,9 +1,9 @@
 //! Values of an archive rolled up into the coarser ones.
-ghost use Rattle.std.specs.Prelude.{◌≡◌, ◌<◌, ◌≤◌, ◌↔◌, ◌+◌, ◌-◌, ◌*◌, ◌/◌, ◌%◌, ◌++◌, [], ◌∷◌, All, IfOk, IsErrOf, IsTrue, OnOk, drop, length, map, max, slice_index, take};
+ghost use Rattle.std.specs.Prelude.{◌≡◌, ◌<◌, ◌≤◌, ◌↔◌, ◌+◌, ◌-◌, ◌*◌, ◌/◌, ◌%◌, ◌++◌, [], ◌∷◌, All, IfOk, IfSome, IsErrOf, IsTrue, OnOk, drop, is_some, length, map, max, slice_index, take};
 ghost use Rattle.std.specs.List.{filter_map};
 ghost use Rattle.outside_io.specs.Frames.{ReadsOnly};
 ghost use Rattle.ring_archive.specs.Ring.{ReadsAs, Rings};
-ghost use Rattle.ring_archive.specs.View.{IsThere, OnRing};
+ghost use Rattle.ring_archive.specs.View.{IsBased, IsThere, OnRing};
 ghost use Rattle.archive_update.specs.Batch.{bucket_of, buckets_of_writes, itself, level_writes, rolled_from, step_of, value_from_finer};
 ghost use Rattle.archive_update.specs.Buckets.{AreShown, IsOwn, IsShown};
 ghost use Rattle.archive_update.specs.Laid.{IsAlike};
@@ -12,7 +12,7 @@ ghost use Rattle.archive_update.specs.Rolled.{AreNear, HasCoarser, HoldsStretch,
 use crate::laying::write_values;
 use fixed_num::Milli;
 use outside_io::Disk;
-use ring_archive::{RingFault, RingView};
+use ring_archive::{BasedArchive, RingFault, RingView};
 use ring_format::{Layout, Patch};
 use rollup::{enough, roll};
 use std::alloc::{AllocError, Global};
@@ -38,63 +38,71 @@ impl Stretch {
     }
 }
 
-/// From an archive on, gives each coarser archive what the one before it has in the buckets that hold one
-/// of these writes; ends where nothing is known well enough.
+/// From an archive on, whose base is known, gives each coarser archive what the one before it has in the
+/// buckets that hold one of these writes; ends where nothing is known well enough.
 pub(crate) fn roll_up<D: Disk>(
     alloc: Global,
     view: &RingView<'_>,
     disk: &mut D,
     patch: &mut Patch,
-    archive: u32,
+    from: BasedArchive,
     own: &[(u32, Milli)],
 ) -> Result<(), RingFault>
     requires layout { patch.old.layout ≡ view.now.layout }
-    requires archive { archive < length view.now.layout.archives }
-    requires own { All (λ write. IsOwn (step_of view.now.layout.archives archive) write.0) own.now }
+    requires based { IsBased view.now patch.old (D.image disk.old) from.archive from.base }
+    requires own { All (λ write. IsOwn
+        (step_of view.now.layout.archives from.archive) write.0) own.now }
     requires file { IsThere view.now patch.old.fresh (D.image disk.old) }
     ensures rolls { OnOk result
         (OnRing view.now patch.old.fresh (D.image disk.old)
-        (RollsUp view.now.layout own.now patch.old patch.new archive)) }
+        (RollsUp view.now.layout own.now patch.old patch.new from.archive)) }
     ensures alike { IsAlike patch.old patch.new }
     ensures frame { ReadsOnly D.Disk disk.old disk.new (IsErrOf result RingFault.DiskFault) }
 {
-    for finer in archive..view.layout.archive_count() - 1 {
-        let more = roll_level(alloc, view, disk, patch, finer, own)?;
-        if !more {
+    let mut base = from.base;
+    for archive in from.archive..view.layout.archive_count() - 1 {
+        let finer = BasedArchive { archive, base };
+        let Some(coarser) = roll_level(alloc, view, disk, patch, finer, own)? else {
             return Ok(());
-        }
+        };
+        base = coarser;
     }
     Ok(())
 }
 
-// Gives the archive behind `finer` what that has in the buckets that hold one of these writes, and answers
-// whether there is anything.
+// Gives the archive behind `finer` what that has in the buckets that hold one of these writes, and answers the
+// base that it has then; `None` where there is nothing to give.
 fn roll_level<D: Disk>(
     alloc: Global,
     view: &RingView<'_>,
     disk: &mut D,
     patch: &mut Patch,
-    finer: u32,
+    finer: BasedArchive,
     own: &[(u32, Milli)],
-) -> Result<bool, RingFault>
+) -> Result<Option<u32>, RingFault>
     requires layout { patch.old.layout ≡ view.now.layout }
-    requires finer { HasCoarser view.now.layout finer }
+    requires finer { HasCoarser view.now.layout finer.archive }
+    requires based { IsBased view.now patch.old (D.image disk.old) finer.archive finer.base }
     requires own { All (λ write. IsReached
-        (step_of view.now.layout.archives (finer + 1)) write.0) own.now }
+        (step_of view.now.layout.archives (finer.archive + 1)) write.0) own.now }
     requires file { IsThere view.now patch.old.fresh (D.image disk.old) }
     ensures level { IfOk result
-        (λ more. OnRing view.now patch.old.fresh (D.image disk.old)
-        (Level view.now.layout own.now patch.old patch.new finer more)) }
+        (λ coarser. OnRing view.now patch.old.fresh (D.image disk.old)
+        (Level view.now.layout own.now patch.old patch.new finer.archive (is_some coarser))) }
+    ensures based { IfOk result
+        (λ coarser. IfSome coarser
+        (λ base. IsBased view.now patch.new (D.image disk.old) (finer.archive + 1) base)) }
     ensures alike { IsAlike patch.old patch.new }
     ensures frame { ReadsOnly D.Disk disk.old disk.new (IsErrOf result RingFault.DiskFault) }
 {
-    let buckets = coarse_buckets(alloc, &view.layout, finer + 1, own)?;
+    let coarser = finer.archive + 1;
+    let buckets = coarse_buckets(alloc, &view.layout, coarser, own)?;
     let writes = level_writes(alloc, view, disk, patch, finer, &buckets)?;
     if writes.is_empty() {
-        return Ok(false);
+        return Ok(None);
     }
-    write_values(alloc, view, disk, patch, finer + 1, &writes)?;
-    Ok(true)
+    let base = write_values(alloc, view, disk, patch, coarser, &writes)?;
+    Ok(Some(base))
 }
 
 // The buckets of an archive that hold one of these writes.
@@ -134,25 +142,26 @@ fn level_writes<D: Disk>(
     view: &RingView<'_>,
     disk: &mut D,
     patch: &Patch,
-    finer: u32,
+    finer: BasedArchive,
     buckets: &[u32],
 ) -> Result<Vec<(u32, Milli)>, RingFault>
     requires layout { patch.now.layout ≡ view.now.layout }
-    requires finer { HasCoarser view.now.layout finer }
-    requires shown { All (IsShown (step_of view.now.layout.archives (finer + 1))) buckets.now }
+    requires finer { HasCoarser view.now.layout finer.archive }
+    requires based { IsBased view.now patch.now (D.image disk.old) finer.archive finer.base }
+    requires shown { All (IsShown (step_of view.now.layout.archives (finer.archive + 1))) buckets.now }
     requires file { IsThere view.now patch.now.fresh (D.image disk.old) }
     ensures writes { IfOk result
         (λ writes. OnRing view.now patch.now.fresh (D.image disk.old)
         (λ file. (rings : Rings) → ReadsAs patch.now file rings
-        → writes.items ≡ level_writes view.now.layout rings finer buckets.now)) }
+        → writes.items ≡ level_writes view.now.layout rings finer.archive buckets.now)) }
     ensures shown { IfOk result
         (λ writes. All (λ write. IsShown
-        (step_of view.now.layout.archives (finer + 1)) write.0) writes.items) }
+        (step_of view.now.layout.archives (finer.archive + 1)) write.0) writes.items) }
     ensures frame { ReadsOnly D.Disk disk.old disk.new (IsErrOf result RingFault.DiskFault) }
 {
-    let places = points_per_bucket(&view.layout, finer);
-    let step = view.layout.archive(finer + 1).step;
-    let mut writes = Vec::new(alloc);
+    let places = points_per_bucket(&view.layout, finer.archive);
+    let step = view.layout.archive(finer.archive + 1).step;
+    let mut writes = Vec::with_capacity(alloc, buckets.len())?;
     let mut known = Vec::new(alloc);
     let mut stretch = Stretch {
         first: 0,
@@ -187,25 +196,26 @@ fn stretch_at<D: Disk>(
     view: &RingView<'_>,
     disk: &mut D,
     patch: &Patch,
-    finer: u32,
+    finer: BasedArchive,
     buckets: &[u32],
     stretch: Stretch,
 ) -> Result<Stretch, RingFault>
     requires layout { patch.now.layout ≡ view.now.layout }
-    requires finer { HasCoarser view.now.layout finer }
-    requires shown { AreShown (step_of view.now.layout.archives (finer + 1)) buckets.now }
+    requires finer { HasCoarser view.now.layout finer.archive }
+    requires based { IsBased view.now patch.now (D.image disk.old) finer.archive finer.base }
+    requires shown { AreShown (step_of view.now.layout.archives (finer.archive + 1)) buckets.now }
     requires file { IsThere view.now patch.now.fresh (D.image disk.old) }
     requires held { IsRead view.now patch.now
-        (D.image disk.old) finer stretch.first stretch.count stretch.values.items }
+        (D.image disk.old) finer.archive stretch.first stretch.count stretch.values.items }
     ensures held { IfOk result (λ stretch.
-        IsRead view.now patch.now (D.image disk.old) finer stretch.first stretch.count stretch.values.items) }
+        IsRead view.now patch.now (D.image disk.old) finer.archive stretch.first stretch.count stretch.values.items) }
     ensures has { IfOk result
         (λ stretch. IsInStretch
-        (step_of view.now.layout.archives (finer + 1)) stretch.first stretch.count
+        (step_of view.now.layout.archives (finer.archive + 1)) stretch.first stretch.count
         (slice_index buckets.now 0)) }
     ensures frame { ReadsOnly D.Disk disk.old disk.new (IsErrOf result RingFault.DiskFault) }
 {
-    let step = view.layout.archive(finer + 1).step;
+    let step = view.layout.archive(finer.archive + 1).step;
     if stretch.has(step, buckets[0]) {
         return Ok(stretch);
     }
@@ -218,28 +228,29 @@ fn read_stretch<D: Disk>(
     view: &RingView<'_>,
     disk: &mut D,
     patch: &Patch,
-    finer: u32,
+    finer: BasedArchive,
     buckets: &[u32],
 ) -> Result<Stretch, RingFault>
     requires layout { patch.now.layout ≡ view.now.layout }
-    requires finer { HasCoarser view.now.layout finer }
-    requires shown { AreShown (step_of view.now.layout.archives (finer + 1)) buckets.now }
+    requires finer { HasCoarser view.now.layout finer.archive }
+    requires based { IsBased view.now patch.now (D.image disk.old) finer.archive finer.base }
+    requires shown { AreShown (step_of view.now.layout.archives (finer.archive + 1)) buckets.now }
     requires file { IsThere view.now patch.now.fresh (D.image disk.old) }
     ensures held { IfOk result (λ stretch.
-        IsRead view.now patch.now (D.image disk.old) finer stretch.first stretch.count stretch.values.items) }
+        IsRead view.now patch.now (D.image disk.old) finer.archive stretch.first stretch.count stretch.values.items) }
     ensures has { IfOk result
         (λ stretch. IsInStretch
-        (step_of view.now.layout.archives (finer + 1)) stretch.first stretch.count
+        (step_of view.now.layout.archives (finer.archive + 1)) stretch.first stretch.count
         (slice_index buckets.now 0)) }
-    ensures near { IfOk result (λ stretch. AreNear view.now.layout finer stretch.count) }
+    ensures near { IfOk result (λ stretch. AreNear view.now.layout finer.archive stretch.count) }
     ensures frame { ReadsOnly D.Disk disk.old disk.new (IsErrOf result RingFault.DiskFault) }
 {
-    let places = points_per_bucket(&view.layout, finer);
-    let step = view.layout.archive(finer + 1).step;
-    let most = most_near(view.layout.archive(finer).points, places);
+    let places = points_per_bucket(&view.layout, finer.archive);
+    let step = view.layout.archive(finer.archive + 1).step;
+    let most = most_near(view.layout.archive(finer.archive).points, places);
     let first = buckets[0];
     let count = buckets_near(step, most, buckets);
-    let values = view.cells(alloc, disk, patch, finer, first, count * places)?;
+    let values = view.cells_from(alloc, disk, patch, finer, first, count * places)?;
     Ok(Stretch {
         first,
         count,

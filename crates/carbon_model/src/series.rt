@@ -31,6 +31,13 @@ impl Values {
     {
         self.items.as_slice()
     }
+
+    /// The values, which are not copied.
+    pub fn into_vec(self) -> Vec<Option<Milli>>
+        ensures { result.items ≡ self }
+    {
+        self.items
+    }
 }
 
 /// What is shown of a metric: the values of buckets, a step apart.

@@ -8,12 +8,18 @@ ghost use Rattle.carbon_script.specs.SeenCommand.{seen_command, IsSound};
 
 use crate::command::Command;
 use fixed_num::{legal_moment, read_whole};
-use metric_line::{LineFault, read_line};
+use metric_line::{LineFault, read_line_over};
+use metric_path::MetricPath;
 use std::alloc::{AllocError, Global};
 
 /// Reads a line of a script, while its clock stands at `now`. Memory is taken for the path of a metric line that is accepted, and for
-/// nothing else.
-pub fn read_command(alloc: Global, line: &[u8], now: u32) -> Result<Command<'_>, AllocError>
+/// nothing else: that of the spare path, where there is one.
+pub fn read_command<'a>(
+    alloc: Global,
+    spare: &mut Option<MetricPath>,
+    line: &'a [u8],
+    now: u32,
+) -> Result<Command<'a>, AllocError>
     requires { is_moment now ≡ true }
     ensures command { IfOk result
         (λ command. seen_command command ≡ command_of (Whole line.now) now) }
@@ -23,7 +29,7 @@ pub fn read_command(alloc: Global, line: &[u8], now: u32) -> Result<Command<'_>,
     if is_command(line) {
         return Ok(read_command_in(line));
     }
-    match read_line(alloc, line, now) {
+    match read_line_over(alloc, spare, line, now) {
         Ok(datum) => Ok(Command::Metric(datum)),
         Err(LineFault::NoMemory) => Err(AllocError),
         Err(fault) => Ok(Command::Refused(fault)),

@@ -181,27 +181,27 @@ fn drain_fault_reply(alloc: Global, class: u32) -> Result<Reply, Shortage>
 pub fn found_reply(
     alloc: Global,
     plan: &RenderPlan,
-    found: &Result<SeriesRows, AskFault>,
+    found: Result<SeriesRows, AskFault>,
 ) -> Result<Reply, Shortage>
-    requires { IfOk found.now AreRows }
-    ensures { SaysFound (plan_seen plan.now) found.now result }
+    requires { IfOk found AreRows }
+    ensures { SaysFound (plan_seen plan.now) found result }
 {
     match found {
         Ok(rows) => rows_reply(alloc, plan, rows),
-        Err(AskFault::DiskFault(class)) => fault_reply(alloc, *class),
+        Err(AskFault::DiskFault(class)) => fault_reply(alloc, class),
         Err(AskFault::TooManySeries(count)) => {
-            refused_reply(alloc, &Refusal::TooManySeries(*count))
+            refused_reply(alloc, &Refusal::TooManySeries(count))
         }
         Err(AskFault::TooManyPoints(count)) => {
-            refused_reply(alloc, &Refusal::TooManyPoints(*count))
+            refused_reply(alloc, &Refusal::TooManyPoints(count))
         }
         Err(AskFault::NoMemory) => Err(Shortage::Memory),
     }
 }
 
-fn rows_reply(alloc: Global, plan: &RenderPlan, rows: &SeriesRows) -> Result<Reply, Shortage>
-    requires { AreRows rows.now }
-    ensures { SaysRows (plan_seen plan.now) rows.now result }
+fn rows_reply(alloc: Global, plan: &RenderPlan, rows: SeriesRows) -> Result<Reply, Shortage>
+    requires { AreRows rows }
+    ensures { SaysRows (plan_seen plan.now) rows result }
 {
     let answer = answer_rows(alloc, plan, rows)?;
     answer_reply(alloc, answer)

@@ -14,12 +14,13 @@ use carbon_history::PutEnd;
 use line_frame::Framer;
 use line_service::{LineServer, Stop, WaitingServer, serve_each};
 use metric_line::Datum;
+use metric_path::MetricPath;
 use outside_io::{Disk, Sink};
 use point_cache::Put;
 use render_plan::RenderPlan;
 use shared_history::Pass;
 use shared_store::{DrainEnd, MOST_CALL_ENTRIES, Named, Store};
-use std::alloc::Global;
+use std::alloc::{AllocError, Global};
 use std::marker::Model;
 use std::sync::Wait;
 
@@ -35,6 +36,8 @@ pub struct Session<'a, R: Wait, D: Disk, N: Named> {
     clock: u32,
     counts: Counts,
     alloc: Global,
+    // The path of a metric line that was put, whose memory the next one takes.
+    spare: Option<MetricPath>,
 }
 
 impl<'a, R: Wait, D: Disk, N: Named> Model for Session<'a, R, D, N> {
@@ -52,7 +55,8 @@ impl<'a, R: Wait, D: Disk, N: Named> Model for Session<'a, R, D, N> {
 }
 
 impl<'a, R: Wait, D: Disk, N: Named> Session<'a, R, D, N> {
-    ghost use Rattle.std.specs.Prelude.{◌≡◌, Err, []};
+    ghost use Rattle.std.specs.Prelude.{◌≡◌, Err, IfOk, OnErr, []};
+    ghost use Rattle.line_frame.specs.Lines.{Whole};
     ghost use Rattle.outside_io.specs.Frames.{CountsWrites};
     ghost use Rattle.line_service.specs.declared.ends.Stop.TheVariants.{WriteFault};
     ghost use Rattle.metric_line.specs.Seen.{seen};
@@ -60,7 +64,7 @@ impl<'a, R: Wait, D: Disk, N: Named> Session<'a, R, D, N> {
     ghost use Rattle.shared_store.specs.Passes.{HasRoom};
     ghost use Rattle.render_plan.specs.Asked.{plan_seen};
     ghost use Rattle.carbon_script.specs.Alone.{IsOnly};
-    ghost use Rattle.carbon_script.specs.Command.{Ask, DrainAll, Metric, Plan, Write};
+    ghost use Rattle.carbon_script.specs.Command.{Ask, DrainAll, Metric, Plan, TakesMemory, Write, command_of};
     ghost use Rattle.carbon_script.specs.Counts.{no_counts};
     ghost use Rattle.carbon_script.specs.Replies.{DrainsAlone, Replies, RepliesTo, Summarises, TellsRoom, counting};
     ghost use Rattle.carbon_script.specs.SeenCommand.{IsSound, seen_command};
@@ -80,6 +84,7 @@ impl<'a, R: Wait, D: Disk, N: Named> Session<'a, R, D, N> {
             clock: FIRST_CLOCK,
             counts: Counts::none(),
             alloc,
+            spare: None,
         }
     }
 
@@ -92,7 +97,7 @@ impl<'a, R: Wait, D: Disk, N: Named> Session<'a, R, D, N> {
         ensures writes { CountsWrites K.Sink out.old out.new (result ≡ Err WriteFault) }
     {
         match command {
-            Command::Metric(datum) => return say(out, self.put(&datum)),
+            Command::Metric(datum) => return say(out, self.put_line(datum)),
             Command::Refused(fault) => self.counts.count_refused(&fault),
             Command::Long => self.counts.count_long(),
             Command::Clock(moment) => self.clock = moment,
@@ -114,6 +119,26 @@ impl<'a, R: Wait, D: Disk, N: Named> Session<'a, R, D, N> {
         } else {
             Ok(())
         }
+    }
+
+    // Reads a line at the moment of the clock.
+    fn read<'l>(&mut self, line: &'l [u8]) -> Result<Command<'l>, AllocError>
+        ensures same { self.new ≡ self.old }
+        ensures command { IfOk result
+            (λ command. seen_command command ≡ command_of (Whole line.now) self.old.clock) }
+        ensures sound { IfOk result IsSound }
+        ensures memory { OnErr result (TakesMemory (command_of (Whole line.now) self.old.clock)) }
+    {
+        read_command(self.alloc, &mut self.spare, line, self.clock)
+    }
+
+    // Puts the point of a metric line, which says nothing, and keeps the memory of its path for the next.
+    fn put_line(&mut self, datum: Datum) -> Result<Reply, Shortage>
+        ensures { Replies N.told N.start (Metric (seen datum)) result self.old self.new }
+    {
+        let said = self.put(&datum);
+        self.spare = Some(datum.path);
+        said
     }
 
     // Puts the point of a metric line, which says nothing.
@@ -157,7 +182,7 @@ impl<'a, R: Wait, D: Disk, N: Named> Session<'a, R, D, N> {
         let found = self
             .store
             .ask(self.rt, self.alloc, &mut self.pass, needs, self.clock);
-        found_reply(self.alloc, plan, &found)
+        found_reply(self.alloc, plan, found)
     }
 
     // Begins the drain of the metric that goes next.
@@ -236,7 +261,7 @@ impl<'a, R: Wait, D: Disk, N: Named> LineServer for Session<'a, R, D, N> {
     ghost stops = { Stops N.told N.start };
 
     fn serve_line<K: Sink>(&mut self, line: &[u8], out: &mut K) -> Result<(), Stop> {
-        match read_command(self.alloc, line, self.clock) {
+        match self.read(line) {
             Ok(command) => self.obey(command, out),
             Err(_) => Err(Stop::NoMemory),
         }

@@ -1,5 +1,6 @@
 pub mod DigitLemmas
 pub mod FitLemmas
+mod FrontLemmas
 pub mod GrammarLemmas
 pub mod PrintLemmas
 pub mod ReachLemmas

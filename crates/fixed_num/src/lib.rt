@@ -6,6 +6,7 @@ ghost use Rattle.std.specs.Prelude.{◌≡◌, SomeIff};
 ghost use Rattle.fixed_num.specs.Milli.{IsMilli, milli_bytes, milli_of_bytes};
 
 mod digits;
+mod front;
 mod grammar;
 mod laws;
 mod moment;
@@ -15,6 +16,7 @@ mod reading;
 mod scaling;
 
 pub use digits::{all_digits, capped_number, read_whole};
+pub use front::{MilliFront, milli_front};
 pub use grammar::first_point;
 pub use laws::{printed_text_is_read_back, read_text_has_its_value, values_are_what_fits};
 pub use moment::{GREATEST_MOMENT, LEAST_MOMENT, legal_moment};

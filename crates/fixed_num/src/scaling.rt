@@ -50,8 +50,8 @@ fn reached_shortly(mantissa: &[u8], places: usize) -> Option<Reached>
     Some(reached_parts(before, behind, fraction.len(), places))
 }
 
-// What the number before a point and the one behind it reach, which has so many digits.
-fn reached_parts(whole: u64, fraction: u64, digits: usize, places: usize) -> Reached
+/// What the number before a point and the one behind it reach, which has so many digits.
+pub(crate) fn reached_parts(whole: u64, fraction: u64, digits: usize, places: usize) -> Reached
     requires places { places ≤ 9 }
     requires digits { digits ≤ 18 }
     requires whole { whole < 10 ^ (18 - places) }

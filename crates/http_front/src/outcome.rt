@@ -54,19 +54,19 @@ pub(crate) fn refused(alloc: Global, why: &render_answer::Refusal) -> Result<Out
 pub(crate) fn found(
     alloc: Global,
     plan: &RenderPlan,
-    found: &Result<SeriesRows, AskFault>,
+    found: Result<SeriesRows, AskFault>,
 ) -> Result<Outcome, AllocError>
-    requires { IfOk found.now AreRows }
-    ensures found { IfOk result (IsFound (plan_seen plan.now) found.now) }
-    ensures short { OnErr result (IsNoFault found.now) }
+    requires { IfOk found AreRows }
+    ensures found { IfOk result (IsFound (plan_seen plan.now) found) }
+    ensures short { OnErr result (IsNoFault found) }
 {
     match found {
         Ok(rows) => made(alloc, plan, rows),
         Err(AskFault::TooManySeries(count)) => {
-            refused(alloc, &render_answer::Refusal::TooManySeries(*count))
+            refused(alloc, &render_answer::Refusal::TooManySeries(count))
         }
         Err(AskFault::TooManyPoints(count)) => {
-            refused(alloc, &render_answer::Refusal::TooManyPoints(*count))
+            refused(alloc, &render_answer::Refusal::TooManyPoints(count))
         }
         Err(AskFault::DiskFault(_)) => Ok(Outcome::DiskFault),
         Err(AskFault::NoMemory) => Err(AllocError),
@@ -74,9 +74,9 @@ pub(crate) fn found(
 }
 
 // What comes of a plan with these rows.
-fn made(alloc: Global, plan: &RenderPlan, rows: &SeriesRows) -> Result<Outcome, AllocError>
-    requires { AreRows rows.now }
-    ensures { IfOk result (IsFound (plan_seen plan.now) (Ok rows.now)) }
+fn made(alloc: Global, plan: &RenderPlan, rows: SeriesRows) -> Result<Outcome, AllocError>
+    requires { AreRows rows }
+    ensures { IfOk result (IsFound (plan_seen plan.now) (Ok rows)) }
 {
     match answer_rows(alloc, plan, rows)? {
         Answer::Body(form, text) => Ok(Outcome::Found(media_of(form), text)),

@@ -93,7 +93,7 @@ impl<'a, R: Wait, D: Disk, N: Named, C: Clock> Renderer<'a, R, D, N, C> {
         ensures pass { SamePass pass.old pass.new }
     {
         let rows = self.store.ask(self.rt, self.alloc, pass, plan.needs(), now);
-        found(self.alloc, plan, &rows)
+        found(self.alloc, plan, rows)
     }
 }
 

@@ -4,7 +4,8 @@ ghost use Rattle.line_front.specs.Batches.{AddsPoint, ReadsNext, ReadsPoint, Rea
 
 use crate::session::moment;
 use line_frame::{Framed, Framer};
-use metric_line::{Datum, LineFault, read_line};
+use metric_line::{Datum, LineFault, read_line_over};
+use metric_path::MetricPath;
 use outside_io::Clock;
 use std::alloc::Global;
 
@@ -22,11 +23,22 @@ pub(crate) enum NoPoint {
     Long,
 }
 
+/// Takes the points out of a batch, and keeps their paths for the memory that they have.
+pub(crate) fn empty(points: &mut Vec<Datum>, spares: &mut Vec<MetricPath>)
+    ensures { points.new.items ≡ [] }
+{
+    while let Some(datum) = points.pop() {
+        // Where there is no room for a path its memory is given back.
+        let _ = spares.push(datum.path);
+    }
+}
+
 /// Reads the first lines that wait as points, up to one that has none, or as many as a batch has.
-/// It takes that one too.
+/// It takes that one too. Their paths take the memory of those that are spare.
 pub(crate) fn read_points<C: Clock>(
     alloc: Global,
     clock: &C,
+    spares: &mut Vec<MetricPath>,
     framer: &mut Framer,
     points: &mut Vec<Datum>,
 ) -> Result<(), NoPoint>
@@ -35,7 +47,7 @@ pub(crate) fn read_points<C: Clock>(
     ensures few { length points.new.items ≤ 256 }
 {
     while points.len() < MOST_BATCH_POINTS {
-        match read_next(alloc, clock, framer, points) {
+        match read_next(alloc, clock, spares, framer, points) {
             Ok(()) => {}
             Err(none) => return Err(none),
         }
@@ -47,6 +59,7 @@ pub(crate) fn read_points<C: Clock>(
 fn read_next<C: Clock>(
     alloc: Global,
     clock: &C,
+    spares: &mut Vec<MetricPath>,
     framer: &mut Framer,
     points: &mut Vec<Datum>,
 ) -> Result<(), NoPoint>
@@ -55,7 +68,7 @@ fn read_next<C: Clock>(
     ensures open_line { framer.new.open_line ≡ framer.old.open_line }
 {
     match framer.next_line() {
-        Some(Framed::Line) => read_point(alloc, clock, framer.line(), points),
+        Some(Framed::Line) => read_point(alloc, clock, spares, framer.line(), points),
         Some(Framed::TooLong) => Err(NoPoint::Long),
         None => Err(NoPoint::NoLine),
     }
@@ -66,12 +79,13 @@ fn read_next<C: Clock>(
 fn read_point<C: Clock>(
     alloc: Global,
     clock: &C,
+    spares: &mut Vec<MetricPath>,
     line: &[u8],
     points: &mut Vec<Datum>,
 ) -> Result<(), NoPoint>
     ensures { ReadsPoint (C.moments clock.now) line.now result points.old.items points.new.items }
 {
-    match read_line(alloc, line, moment(clock)) {
+    match read_line_over(alloc, &mut spares.pop(), line, moment(clock)) {
         Ok(datum) => add_point(points, datum),
         Err(fault) => Err(NoPoint::Refused(fault)),
     }

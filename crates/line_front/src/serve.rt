@@ -55,6 +55,7 @@ pub fn serve_lines<R: Wait, D: Disk, N: Named, L: Link, C: Clock>(
         counts: Counts::none(),
         alloc,
         points: Vec::new(alloc),
+        spares: Vec::new(alloc),
     };
     let cause = serve_link(&mut session, alloc, link);
     let LineSession { pass, counts, .. } = session;

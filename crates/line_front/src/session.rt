@@ -7,6 +7,7 @@ use crate::counts::Counts;
 use carbon_history::PutEnd;
 use line_service::{LineServer, Stop};
 use metric_line::{Datum, LineFault, read_line};
+use metric_path::MetricPath;
 use outside_io::{Clock, Disk, Sink};
 use point_cache::Put;
 use shared_history::Pass;
@@ -26,6 +27,8 @@ pub(crate) struct LineSession<'a, R: Wait, D: Disk, N: Named, C: Clock> {
     pub(crate) alloc: Global,
     // The buffer for the points of a batch.
     pub(crate) points: Vec<Datum>,
+    // The paths of the points before, whose memory the next ones take.
+    pub(crate) spares: Vec<MetricPath>,
 }
 
 impl<'a, R: Wait, D: Disk, N: Named, C: Clock> Model for LineSession<'a, R, D, N, C> {

@@ -1,7 +1,7 @@
 //! Serving the lines that wait, batch by batch.
 ghost use Rattle.std.specs.Prelude.{◌≡◌};
 
-use crate::batch::{MOST_BATCH_POINTS, NoPoint, read_points};
+use crate::batch::{MOST_BATCH_POINTS, NoPoint, empty, read_points};
 use crate::session::LineSession;
 use line_frame::Framer;
 use line_service::{Stop, WaitingServer, serve_each};
@@ -25,7 +25,7 @@ impl<'a, R: Wait, D: Disk, N: Named, C: Clock> LineSession<'a, R, D, N, C> {
     ghost use Rattle.line_service.specs.Standing.{ServesTo};
     ghost use Rattle.shared_store.specs.Passes.{HasRoom};
     ghost use Rattle.shared_store.specs.Pieces.{HasRoomFor};
-    ghost use Rattle.line_front.specs.Batches.{BatchServes, BatchStops, EndsBatch, HasBatchRoom, PutsAll, PutsFewer};
+    ghost use Rattle.line_front.specs.Batches.{BatchServes, BatchStops, EndsBatch, HasBatchRoom, PutsAll, PutsFewer, ReadsPoints};
     ghost use Rattle.line_front.specs.Sessions.{ServesLink, StopsLink};
 
     // Hands out the buffer for the points of a batch.
@@ -35,11 +35,10 @@ impl<'a, R: Wait, D: Disk, N: Named, C: Clock> LineSession<'a, R, D, N, C> {
         mem::replace(&mut self.points, Vec::new(self.alloc))
     }
 
-    // Keeps it for the next lines, without the points.
-    fn keep_buffer(&mut self, mut points: Vec<Datum>)
+    // Keeps it for the next lines.
+    fn keep_buffer(&mut self, points: Vec<Datum>)
         ensures { self.new ≡ self.old }
     {
-        points.clear();
         self.points = points;
     }
 
@@ -91,12 +90,22 @@ impl<'a, R: Wait, D: Disk, N: Named, C: Clock> LineSession<'a, R, D, N, C> {
             framer.old.waiting self.old.session self.new.session) }
         ensures clock { self.new.clock ≡ self.old.clock }
     {
-        points.clear();
-        let read = read_points(self.alloc, self.clock, framer, points);
+        let read = self.read_batch(framer, points);
         match self.put_points(points.as_slice()) {
             Ok(()) => self.end_batch(read),
             Err(stop) => Err(stop),
         }
+    }
+
+    // Reads the next batch of the lines that wait, in place of the points before.
+    fn read_batch(&mut self, framer: &mut Framer, points: &mut Vec<Datum>) -> Result<(), NoPoint>
+        ensures reads { ReadsPoints (C.moments self.old.clock) result framer.old framer.new
+            points.new.items }
+        ensures few { length points.new.items ≤ 256 }
+        ensures same { self.new ≡ self.old }
+    {
+        empty(points, &mut self.spares);
+        read_points(self.alloc, self.clock, &mut self.spares, framer, points)
     }
 
     // Counts the line that has no point, if there is one.

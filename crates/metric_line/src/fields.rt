@@ -1,6 +1,6 @@
 //! The fields of a metric line, which blanks separate.
 
-ghost use Rattle.std.specs.Prelude.{◌≡◌, ◌≢◌, ◌+◌, ◌<◌, ◌≤◌, [], ◌∷◌, false, IfSome, MatchOption, None, drop, length, not, position};
+ghost use Rattle.std.specs.Prelude.{◌≡◌, ◌≢◌, ◌+◌, ◌<◌, ◌≤◌, [], ◌∷◌, false, IfSome, MatchOption, None, drop, length, not, position, slice_index, true};
 ghost use Rattle.std.specs.List.{position_or_len};
 ghost use Rattle.metric_path.specs.Path.{path_fault};
 ghost use Rattle.metric_line.specs.LineFields.{capped_count, fields_of, is_blank};
@@ -49,6 +49,18 @@ pub(crate) fn two_fields(text: &[u8]) -> Option<(&[u8], &[u8])>
         None => Some((first, second)),
         Some(_) => None,
     }
+}
+
+/// What follows a blank at the front of a text: `None` where it begins with no blank.
+pub(crate) fn behind_blank(text: &[u8]) -> Option<&[u8]>
+    ensures fields { IfSome result (λ rest. fields_of text.now ≡ fields_of rest.now) }
+    ensures blank { IfSome result
+        (λ rest. (0 < length text.now) × (is_blank (slice_index text.now 0) ≡ true)) }
+{
+    if text.is_empty() || !is_blank(text[0]) {
+        return None;
+    }
+    Some(&text[1..])
 }
 
 /// How many fields a line has, `u32::MAX` standing for all greater counts.

@@ -6,6 +6,7 @@ mod fault;
 mod fields;
 mod laws;
 mod line;
+mod plain;
 mod stamp;
 
 pub use datum::Datum;
@@ -13,5 +14,5 @@ pub use fault::LineFault;
 pub use laws::{
     only_minus_one_depends_on_now, refusals_do_not_depend_on_now, want_of_memory_is_no_fault,
 };
-pub use line::read_line;
+pub use line::{read_line, read_line_over};
 pub use stamp::StampFault;

@@ -73,8 +73,8 @@ fn is_digits(text: &[u8]) -> bool
     !text.is_empty() && all_digits(text)
 }
 
-// A number of seconds as a moment.
-fn moment(seconds: u64) -> Result<u32, StampFault>
+/// A number of seconds as a moment.
+pub(crate) fn moment(seconds: u64) -> Result<u32, StampFault>
     ensures moment { result ≡ moment_result seconds }
     ensures legal { IfOk result (λ t. is_moment t ≡ true) }
 {

@@ -73,6 +73,19 @@ impl MetricPath {
         Ok(MetricPath { text })
     }
 
+    /// The path with a text that was found to be legal, in the memory of a path that is needed no more.
+    pub fn with_legal(self, text: &[u8]) -> Result<MetricPath, AllocError>
+        requires { path_fault text.now ≡ None }
+        ensures { IfOk result (λ path. path ≡ text.now) }
+    {
+        // The bytes of a legal path are ASCII.
+        let text = unsafe { str::from_utf8_unchecked(text) };
+        let mut kept = self.text;
+        kept.clear();
+        kept.push_str(text)?;
+        Ok(MetricPath { text: kept })
+    }
+
     /// The path with this text, or the text's first fault.
     pub fn new(alloc: Global, text: &[u8]) -> Result<MetricPath, PathFault>
         ensures value { result ≢ Err PathFault.NoMemory → result ≡ legal_path text.now }

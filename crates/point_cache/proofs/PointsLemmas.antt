@@ -1,7 +1,8 @@
 -- Lists of points in rising time.
-use Rattle.std.proofs.Common.{◌≡◌, ◌≢◌, inl, inr, ℕ, ℤ, ◌+◌, ◌<◌, ◌≤◌, ◌==◌, suc, zero, nat_lt, true, false, List, [], ◌∷◌, filter, length, set, refl, sym, ap, subst, arith, insert}
+use Rattle.std.proofs.Common.{◌≡◌, ◌≢◌, inl, inr, ℕ, ℤ, ◌+◌, ◌-◌, pos, get_or, ◌<◌, ◌≤◌, ◌==◌, suc, zero, nat_lt, true, false, List, [], ◌∷◌, filter, length, set, refl, sym, ap, subst, arith, insert}
 use Rattle.std.proofs.lemmas.Bool.{le-ltb, lt-ltb, ltb-true, ltb-false, cases_order}
 use Rattle.std.proofs.lemmas.Bool.Decides.{eqb_tells}
+use Rattle.std.proofs.lemmas.List.{get_or_default}
 use Rattle.std.specs.List.{AllAdjacentBelow}
 use Rattle.std.specs.List.Sorted.{IsPartitionPoint, IsPartitionedBy}
 use Rattle.std.proofs.lemmas.List.Sorted.{IsPartitionedBy-ltb, IsNonDecreasingBy-from_all_adjacent}
@@ -130,3 +131,11 @@ adjacent (x ∷ y ∷ ys) up (suc k) d lt = let e : suc k + 1 ≡ suc (k + 1) = 
 
 pub parted : (xs : List (ℕ × ℤ)) (t : ℕ) → IsRising xs → IsPartitionedBy (λ p. nat_lt p.0 t) xs
 parted xs t up = IsPartitionedBy-ltb (λ p. p.0) xs t (IsNonDecreasingBy-from_all_adjacent (λ p. p.0) xs (adjacent xs up))
+
+-- the place behind all points is that of a later time
+pub puts_last : (xs : List (ℕ × ℤ)) (t : ℕ) → IsRising xs → 0 < length xs → (get_or xs (length xs - 1) (0, pos 0)).0 < t → PutsAt xs (length xs) t
+puts_last xs t up some late =
+    let passes : (d : ℕ × ℤ) → nat_lt (get_or xs (length xs - 1) d).0 t ≡ true =
+    λ d. lt-ltb _ _ (subst (λ (p : ℕ × ℤ). p.0 < t) (get_or_default xs (length xs - 1) (0, pos 0) d (omega arith)) late) in
+    puts_at xs (length xs) t up (omega arith)
+    ((λ k d lo hi. parted xs t up k (length xs - 1) d (omega arith) (omega arith) (passes d)), (λ k d lo hi. absurd (omega arith)))

@@ -1,4 +1,4 @@
-ghost use Rattle.std.specs.Prelude.{◌≡◌, ◌+◌, [], IfOk, IfErr, length};
+ghost use Rattle.std.specs.Prelude.{◌≡◌, ◌+◌, [], IfOk, IfErr, IsTrue, length};
 ghost use Rattle.point_cache.specs.Points.{IsRising, IsPlaceOf, IsPlaceFor, PutsAt};
 ghost use Rattle.point_cache.specs.Pending.{PutsPoint, ReplacesPoint, added};
 
@@ -131,5 +131,17 @@ fn place_of(pairs: &[(u32, Milli)], time: u32) -> usize
     requires { IsRising pairs.now }
     ensures { PutsAt pairs.now result time }
 {
+    // Most points come in rising time.
+    if comes_last(pairs, time) {
+        return pairs.len();
+    }
     pairs.partition_point(|pair| pair.0 < time)
+}
+
+/// Whether a time comes after all pairs.
+fn comes_last(pairs: &[(u32, Milli)], time: u32) -> bool
+    requires { IsRising pairs.now }
+    ensures { IsTrue result → PutsAt pairs.now (length pairs.now) time }
+{
+    pairs.is_empty() || pairs[pairs.len() - 1].0 < time
 }

@@ -15,13 +15,9 @@ use series_set::{EvalFault, SeriesRows, SeriesSet};
 use std::alloc::{AllocError, Global};
 
 /// What a query is answered, of these rows: the series that its targets make of them, in its form, or why they have none together.
-pub fn answer_rows(
-    alloc: Global,
-    plan: &RenderPlan,
-    rows: &SeriesRows,
-) -> Result<Answer, AllocError>
-    requires { AreRows rows.now }
-    ensures { IfOk result (AnswersRows (plan_seen plan.now) rows.now) }
+pub fn answer_rows(alloc: Global, plan: &RenderPlan, rows: SeriesRows) -> Result<Answer, AllocError>
+    requires { AreRows rows }
+    ensures { IfOk result (AnswersRows (plan_seen plan.now) rows) }
 {
     match plan.evaluate(alloc, rows) {
         Ok(set) => {

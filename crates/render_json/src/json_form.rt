@@ -129,8 +129,7 @@ fn push_point(
     // The time is an argument for the contract alone.
     let _ = time;
     let at = put_known(text, end, value);
-    let at = put(text, at, b"[");
-    let from = put_separator(text, at, is_first);
+    let from = put_opening(text, at, is_first);
     push_from(out, text, from)
 }
 
@@ -169,17 +168,18 @@ fn put_known(text: &mut [u8; TEXT_ROOM], end: usize, value: Option<Milli>) -> us
     put_value_or(text, end, b"null", value)
 }
 
-// Writes the separator, but not before the first point.
+// Writes the bracket that opens a point, and the separator before it, but not before the first point.
 #[inline(always)]
-fn put_separator(text: &mut [u8; TEXT_ROOM], end: usize, is_first: bool) -> usize
-    requires room { (2 ≤ end) × (end ≤ POINT_ROOM) }
-    ensures start { result + length (separator (codes ", ") is_first) ≡ end }
-    ensures written { drop result text.new ≡ separator (codes ", ") is_first ++ drop end text.old }
+fn put_opening(text: &mut [u8; TEXT_ROOM], end: usize, is_first: bool) -> usize
+    requires room { (3 ≤ end) × (end ≤ POINT_ROOM) }
+    ensures start { result + length (separator (codes ", ") is_first ++ codes "[") ≡ end }
+    ensures written { drop result text.new
+        ≡ (separator (codes ", ") is_first ++ codes "[") ++ drop end text.old }
 {
     if is_first {
-        return end;
+        return put(text, end, b"[");
     }
-    put(text, end, b", ")
+    put(text, end, b", [")
 }
 
 // Writes what a point has behind its value, and answers where it starts.

@@ -16,8 +16,9 @@ use crate::needs::MOST_DEPTH;
 use crate::settings::{Format, Settings};
 use crate::target::Target;
 use crate::value::values_of;
-use series_set::{EvalFault, Series, SeriesSet, thin};
+use series_set::{EvalFault, SeriesSet, thin};
 use std::alloc::{AllocError, Global};
+use std::collections::VecDeque;
 
 /// The series of targets in order, over a row of series for each of their paths.
 #[tactic(auto, using(crate::proofs::ValueLemmas::thinnable))]
@@ -25,20 +26,21 @@ pub(crate) fn answer_of(
     alloc: Global,
     targets: &Vec<Target>,
     settings: &Settings,
-    rows: &[SeriesSet],
+    rows: Vec<SeriesSet>,
 ) -> Result<SeriesSet, EvalFault>
     requires sound { AreSound most_depth (terms_of targets.now.items) }
     requires some { IfSome settings.now.points (λ points. 1 ≤ points) }
-    requires rows { AreRows rows.now }
+    requires rows { AreRows rows.items }
     ensures ok { IfOk result (λ set.
-        Answers (plan_of (map term_of targets.now.items) settings.now) rows.now (Ok set)) }
+        Answers (plan_of (map term_of targets.now.items) settings.now) rows.items (Ok set)) }
     ensures err { IfErr result (λ fault. fault ≢ NoMemory
-        → Answers (plan_of (map term_of targets.now.items) settings.now) rows.now (Err fault)) }
+        → Answers (plan_of (map term_of targets.now.items) settings.now) rows.items (Err fault)) }
     ensures early { IfOk result (λ set. settings.now.format ≡ Csv
         → All (λ s. end_of s ≤ latest_csv_end) set) }
 {
-    let values = values_of(alloc, targets, rows, MOST_DEPTH)?;
-    let all = concat(alloc, values.sets)?;
+    let mut left = VecDeque::from_vec(rows);
+    let sets = values_of(alloc, targets, &mut left, MOST_DEPTH)?;
+    let all = concat(alloc, sets)?;
     let most = most_of(settings.format, settings.points);
     let answer = thinned_all(alloc, most, all)?;
     Ok(answer)
@@ -66,17 +68,17 @@ fn thinned_all(alloc: Global, most: Option<u64>, set: SeriesSet) -> Result<Serie
     let Some(most) = most else {
         return Ok(set);
     };
-    let answer = thinned_each(alloc, most, set.as_slice())?;
+    let answer = thinned_each(alloc, most, set)?;
     Ok(answer)
 }
 
-fn thinned_each(alloc: Global, most: u64, set: &[Series]) -> Result<SeriesSet, AllocError>
+fn thinned_each(alloc: Global, most: u64, set: SeriesSet) -> Result<SeriesSet, AllocError>
     requires some { 1 ≤ most }
-    requires early { All (λ s. 2 * end_of s ≤ latest_end) set.now }
-    ensures { IfOk result (λ answer. answer ≡ map (thinned most) set.now) }
+    requires early { All (λ s. 2 * end_of s ≤ latest_end) set }
+    ensures { IfOk result (λ answer. answer ≡ map (thinned most) set) }
 {
     let mut answer = Vec::with_capacity(alloc, set.len())?;
-    for series in set {
+    for series in set.into_vec() {
         answer.push(thin(alloc, series, most)?)?;
     }
     Ok(SeriesSet::from_vec(answer))

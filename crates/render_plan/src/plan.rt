@@ -98,15 +98,15 @@ impl RenderPlan {
     /// # Errors
     ///
     /// The first fault met, the arguments of a call before it and from the left, and the targets in order.
-    pub fn evaluate(&self, alloc: Global, rows: &SeriesRows) -> Result<SeriesSet, EvalFault>
-        requires { AreRows rows.now }
-        ensures ok { IfOk result (λ set. Answers (plan_seen self.now) rows.now (Ok set)) }
+    pub fn evaluate(&self, alloc: Global, rows: SeriesRows) -> Result<SeriesSet, EvalFault>
+        requires { AreRows rows }
+        ensures ok { IfOk result (λ set. Answers (plan_seen self.now) rows (Ok set)) }
         ensures err { IfErr result (λ fault. fault ≢ eval.NoMemory
-            → Answers (plan_seen self.now) rows.now (Err fault)) }
+            → Answers (plan_seen self.now) rows (Err fault)) }
         ensures early { IfOk result (λ set. (plan_seen self.now).format ≡ format.Csv
             → All (λ s. end_of s ≤ latest_csv_end) set) }
     {
-        answer_of(alloc, &self.targets, &self.settings, rows.as_slice())
+        answer_of(alloc, &self.targets, &self.settings, rows.into_vec())
     }
 
     /// The form of the answer.

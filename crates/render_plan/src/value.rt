@@ -11,82 +11,66 @@ use crate::apply::applied;
 use crate::target::Target;
 use series_set::{EvalFault, SeriesSet};
 use std::alloc::{AllocError, Global};
+use std::collections::VecDeque;
 
-/// What targets make of the first of some rows, a list of series for each target, and the rows that are left.
-#[derive(Drop)]
-pub(crate) struct Values<'r> {
-    pub(crate) sets: Vec<SeriesSet>,
-    pub(crate) left: &'r [SeriesSet],
-}
-
-// What a target makes of the first of some rows, and the rows that are left.
-#[derive(Drop)]
-struct Value<'r> {
-    set: SeriesSet,
-    left: &'r [SeriesSet],
-}
-
-/// The values of targets whose calls nest at most so many levels deep, over a row of series for each of their paths.
+/// The values of targets whose calls nest at most so many levels deep, over a row of series for each of their paths. These rows are taken from
+/// the front, and the others are left.
 #[cycle(value)]
-pub(crate) fn values_of<'r>(
+pub(crate) fn values_of(
     alloc: Global,
     targets: &Vec<Target>,
-    rows: &'r [SeriesSet],
+    rows: &mut VecDeque<SeriesSet>,
     levels: u32,
-) -> Result<Values<'r>, EvalFault>
+) -> Result<Vec<SeriesSet>, EvalFault>
     requires sound { AreSound levels (terms_of targets.now.items) }
     requires deep { levels ≤ most_depth }
-    requires rows { AreRows rows.now }
-    ensures ok { IfOk result (λ values.
-        HaveValues (terms_of targets.now.items) rows.now (Ok values.sets.items)) }
+    requires rows { AreRows rows.old.items }
+    ensures ok { IfOk result (λ sets.
+        HaveValues (terms_of targets.now.items) rows.old.items (Ok sets.items)) }
     ensures err { IfErr result (λ fault. fault ≢ NoMemory
-        → HaveValues (terms_of targets.now.items) rows.now (Err fault)) }
-    ensures left { IfOk result (λ values.
-        values.left.now ≡ drop (path_counts (terms_of targets.now.items)) rows.now) }
-    ensures made { IfOk result (λ values.
-        AreMadeOf rows.now values.left.now (end_within levels) (concat values.sets.items)) }
+        → HaveValues (terms_of targets.now.items) rows.old.items (Err fault)) }
+    ensures left { OnOk result
+        (rows.new.items ≡ drop (path_counts (terms_of targets.now.items)) rows.old.items) }
+    ensures made { IfOk result (λ sets.
+        AreMadeOf rows.old.items rows.new.items (end_within levels) (concat sets.items)) }
 {
     let mut sets = Vec::new(alloc);
-    let mut left = rows;
     for target in targets {
-        let value = value_of(alloc, target, left, levels)?;
-        left = value.left;
-        push(&mut sets, value.set)?;
+        let set = value_of(alloc, target, rows, levels)?;
+        push(&mut sets, set)?;
     }
-    Ok(Values { sets, left })
+    Ok(sets)
 }
 
-// The value of a target.
+// The value of a target. The rows of its paths are taken from the front.
 #[cycle(value)]
-fn value_of<'r>(
+fn value_of(
     alloc: Global,
     target: &Target,
-    rows: &'r [SeriesSet],
+    rows: &mut VecDeque<SeriesSet>,
     levels: u32,
-) -> Result<Value<'r>, EvalFault>
+) -> Result<SeriesSet, EvalFault>
     requires sound { IsSound levels (term_of target.now) }
     requires deep { levels ≤ most_depth }
-    requires rows { AreRows rows.now }
-    ensures ok { IfOk result (λ value. HasValue (term_of target.now) rows.now (Ok value.set)) }
+    requires rows { AreRows rows.old.items }
+    ensures ok { IfOk result (λ set. HasValue (term_of target.now) rows.old.items (Ok set)) }
     ensures err { IfErr result (λ fault. fault ≢ NoMemory
-        → HasValue (term_of target.now) rows.now (Err fault)) }
-    ensures left { IfOk result (λ value.
-        value.left.now ≡ drop (path_count (term_of target.now)) rows.now) }
-    ensures made { IfOk result (λ value.
-        AreMadeOf rows.now value.left.now (end_within levels) value.set) }
+        → HasValue (term_of target.now) rows.old.items (Err fault)) }
+    ensures left { OnOk result
+        (rows.new.items ≡ drop (path_count (term_of target.now)) rows.old.items) }
+    ensures made { IfOk result (λ set.
+        AreMadeOf rows.old.items rows.new.items (end_within levels) set) }
 {
     match target {
         Target::Path(_) => {
-            let set = first_copied(alloc, rows)?;
-            let left = behind_first(rows);
-            return Ok(Value { set, left });
+            let set = first_taken(alloc, rows);
+            return Ok(set);
         }
         Target::Call(operation, targets) => {
             let inner = inner_of(levels);
-            let values = values_of(alloc, targets, rows, inner)?;
-            let set = applied(alloc, operation, values.sets)?;
-            let left = values.left;
-            return Ok(Value { set, left });
+            let sets = values_of(alloc, targets, rows, inner)?;
+            let set = applied(alloc, operation, sets)?;
+            return Ok(set);
         }
     }
 }
@@ -107,31 +91,13 @@ fn push(sets: &mut Vec<SeriesSet>, set: SeriesSet) -> Result<(), AllocError>
     Ok(())
 }
 
-fn behind_first(rows: &[SeriesSet]) -> &[SeriesSet]
-    ensures { result.now ≡ drop 1 rows.now }
+// Takes the series of the first row; none where there is no row.
+fn first_taken(alloc: Global, rows: &mut VecDeque<SeriesSet>) -> SeriesSet
+    ensures value { result ≡ nth rows.old.items 0 }
+    ensures left { rows.new.items ≡ drop 1 rows.old.items }
 {
-    match rows {
-        [_, left @ ..] => left,
-        [] => rows,
+    match rows.pop_front() {
+        Some(set) => set,
+        None => SeriesSet::new(alloc),
     }
-}
-
-// A further list of the series of the first row.
-fn first_copied(alloc: Global, rows: &[SeriesSet]) -> Result<SeriesSet, AllocError>
-    ensures { IfOk result (λ set. set ≡ nth rows.now 0) }
-{
-    let Some((first, _)) = rows.split_first() else {
-        return Ok(SeriesSet::new(alloc));
-    };
-    copied(alloc, first)
-}
-
-fn copied(alloc: Global, set: &SeriesSet) -> Result<SeriesSet, AllocError>
-    ensures { IfOk result (λ copy. copy ≡ set.now) }
-{
-    let mut copy = Vec::with_capacity(alloc, set.len())?;
-    for series in set.as_slice() {
-        copy.push(series.copy()?)?;
-    }
-    Ok(SeriesSet::from_vec(copy))
 }

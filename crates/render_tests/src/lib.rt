@@ -13,4 +13,6 @@ mod series_funcs_tests;
 #[cfg(test)]
 mod series_pick_tests;
 #[cfg(test)]
+mod series_regroup_tests;
+#[cfg(test)]
 mod series_set_tests;

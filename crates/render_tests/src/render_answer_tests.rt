@@ -73,7 +73,7 @@ fn empty_answer(alloc: Global, query: &str) -> Result<Answer, AllocError> {
         return Err(AllocError);
     };
     let rows = no_rows(alloc)?;
-    answer_rows(alloc, &plan, &rows)
+    answer_rows(alloc, &plan, rows)
 }
 
 fn is_body(answer: &Answer, want: &str) -> bool {

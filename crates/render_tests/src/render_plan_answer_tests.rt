@@ -177,7 +177,7 @@ fn evaluated(alloc: Global, query: &str, sets: &[&[Row]]) -> Result<SeriesSet, E
     if !may_be_evaluated(&rows) {
         return Err(EvalFault::NoMemory);
     }
-    plan.evaluate(alloc, &rows)
+    plan.evaluate(alloc, rows)
 }
 
 fn push_values(text: &mut String, values: &[Option<i64>]) -> Result<(), AllocError> {

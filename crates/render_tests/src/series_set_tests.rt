@@ -257,7 +257,7 @@ fn buckets_have_the_average_of_their_known_values(rt: HostRuntime) -> Result<(),
 }
 
 // A series with at most so many values, where it is early enough to be thinned.
-fn thinned(alloc: Global, one: &Series, most: u64) -> Result<Option<Series>, AllocError> {
+fn thinned(alloc: Global, one: Series, most: u64) -> Result<Option<Series>, AllocError> {
     if most == 0 || one.end() > LATEST_END / 2 {
         return Ok(None);
     }
@@ -288,7 +288,7 @@ fn groups_of_values_are_averaged(rt: HostRuntime) -> Result<(), Fail> {
     ];
     for (values, most, step, want) in table {
         let one = known(&rt, alloc, 1_700_000_100, 60, values)?;
-        let found = thinned(alloc, &one, most)?;
+        let found = thinned(alloc, one, most)?;
         assert_is(&rt, found, 1_700_000_100, step, want);
     }
     Ok(())

@@ -3,12 +3,12 @@ ghost use Rattle.std.specs.Prelude.{◌≡◌, ◌+◌, ◌*◌, ◌==◌, ◌^�
 ghost use Rattle.std.specs.List.{range_with_len};
 ghost use Rattle.outside_io.specs.Frames.{ReadsOnly};
 ghost use Rattle.ring_archive.specs.Ring.{FitsFrom, value_for, values_from};
-ghost use Rattle.ring_archive.specs.View.{IsThere, OnRing};
+ghost use Rattle.ring_archive.specs.View.{IsBased, IsThere, OnRing};
 ghost use Rattle.ring_archive.specs.Held.{cell_behind, held_cell, held_value, picked_value};
 
 use crate::fault::RingFault;
 use crate::round::{Round, held_cell};
-use crate::view::{RingView, value_for};
+use crate::view::{BasedArchive, RingView, value_for};
 use fixed_num::Milli;
 use outside_io::Disk;
 use ring_format::{Patch, slot_of};
@@ -37,18 +37,47 @@ impl RingView<'_> {
         ensures unread { patch.now.fresh ≡ true → disk.new ≡ disk.old }
         ensures frame { ReadsOnly D.Disk disk.old disk.new (IsErrOf result RingFault.DiskFault) }
     {
-        let ring = self.layout.archive(archive);
+        if first % self.layout.archive(archive).step != 0 {
+            return Ok(no_values(alloc, count)?);
+        }
+        let base = self.base(disk, patch, archive)?;
+        let based = BasedArchive { archive, base };
+        self.cells_from(alloc, disk, patch, based, first, count)
+    }
+
+    /// The same values of an archive whose base is known: the disk is read at most twice, the ring's cells in
+    /// one stretch or two.
+    pub fn cells_from<D: Disk>(
+        &self,
+        alloc: Global,
+        disk: &mut D,
+        patch: &Patch,
+        based: BasedArchive,
+        first: u32,
+        count: u32,
+    ) -> Result<Vec<Option<Milli>>, RingFault>
+        requires layout { patch.now.layout ≡ self.now.layout }
+        requires based { IsBased self.now patch.now (D.image disk.old) based.archive based.base }
+        requires fits { FitsFrom self.now.layout based.archive first count }
+        requires file { IsThere self.now patch.now.fresh (D.image disk.old) }
+        ensures values { IfOk result
+            (λ values. OnRing self.now patch.now.fresh (D.image disk.old)
+            (λ file. values.items ≡ values_from patch.now file based.archive first count)) }
+        ensures count { IfOk result (λ values. length values.items ≡ count) }
+        ensures unread { patch.now.fresh ≡ true → disk.new ≡ disk.old }
+        ensures frame { ReadsOnly D.Disk disk.old disk.new (IsErrOf result RingFault.DiskFault) }
+    {
+        let ring = self.layout.archive(based.archive);
         if first % ring.step != 0 {
             return Ok(no_values(alloc, count)?);
         }
-        let base = self.ring_cell(disk, patch, archive, 0)?;
-        if base.0 == 0 {
+        if based.base == 0 {
             return Ok(no_values(alloc, count)?);
         }
         let round = Round {
-            archive,
+            archive: based.archive,
             points: ring.points,
-            slot: slot_of(base.0, first, ring),
+            slot: slot_of(based.base, first, ring),
         };
         let held = count.min(ring.points);
         let bytes = self.held_cells(alloc, disk, patch.fresh(), round, held)?;

@@ -14,4 +14,4 @@ mod view;
 
 pub use fault::RingFault;
 pub use laws::laid_cells_hide_those_of_the_file;
-pub use view::RingView;
+pub use view::{BasedArchive, RingView};

@@ -18,6 +18,16 @@ pub struct RingView<'a> {
     pub layout: Layout,
 }
 
+/// An archive whose base is known.
+#[derive(Clone, Copy, Debug)]
+pub struct BasedArchive {
+    /// The archive, from 0 on.
+    pub archive: u32,
+    /// The bucket in its first slot, in seconds since 1970, from which its slots are counted: 0 where it is
+    /// empty.
+    pub base: u32,
+}
+
 impl<'a> RingView<'a> {
     ghost use Rattle.ring_archive.specs.Ring.{base_of};
 

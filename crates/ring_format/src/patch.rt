@@ -146,6 +146,9 @@ impl Patch {
     }
 }
 
+// For so many cells room is asked at once at least.
+const MORE_CELLS: usize = 64;
+
 // Puts a cell into cells of rising place, in place of one of the same place.
 fn put_cell(
     cells: &mut Vec<((u32, u32), (u32, Milli))>,
@@ -163,10 +166,22 @@ fn put_cell(
             Ok(())
         }
         Err(at) => {
+            make_room(cells)?;
             cells.insert(at, (place, held))?;
             Ok(())
         }
     }
+}
+
+// Room for a further cell, and where there is none for so many at once that most patches ask for memory twice at most.
+fn make_room(cells: &mut Vec<((u32, u32), (u32, Milli))>) -> Result<(), NoMemory>
+    ensures { cells.new.items ≡ cells.old.items }
+{
+    if cells.len() < cells.capacity() {
+        return Ok(());
+    }
+    cells.reserve(cells.len().max(MORE_CELLS))?;
+    Ok(())
 }
 
 // Where the cell of a place stands, or else where it would.

@@ -102,6 +102,13 @@ impl SeriesRows {
         Ok(())
     }
 
+    /// The lists, which are not copied.
+    pub fn into_vec(self) -> Vec<SeriesSet>
+        ensures { result.items ≡ self }
+    {
+        self.items
+    }
+
     /// The lists in order.
     pub fn as_slice(&self) -> &[SeriesSet]
         ensures { result.now ≡ self.now }

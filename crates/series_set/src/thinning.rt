@@ -17,17 +17,17 @@ use std::alloc::{AllocError, Global};
 /// The last group may be short of values, so that the series ends later than before, but by less than its whole length: where the series
 /// ends at half of [`crate::LATEST_END`] or before, the thinned one ends at that moment or before.
 #[tactic(auto, unfolding(crate::specs::Thinned::thinned))]
-pub fn thin(alloc: Global, series: &Series, most: u64) -> Result<Series, AllocError>
+pub fn thin(alloc: Global, series: Series, most: u64) -> Result<Series, AllocError>
     requires some { 1 ≤ most }
-    requires early { 2 * end_of series.now ≤ latest_end }
-    ensures value { IfOk result (λ thin. thin ≡ thinned most series.now) }
+    requires early { 2 * end_of series ≤ latest_end }
+    ensures value { IfOk result (λ thin. thin ≡ thinned most series) }
     ensures few { IfOk result (λ thin. length thin.values ≤ most) }
 {
     let count = series.values().len() as u64;
     if count <= most {
-        return series.copy();
+        return Ok(series);
     }
-    grouped(alloc, series, count.div_ceil(most))
+    grouped(alloc, &series, count.div_ceil(most))
 }
 
 // The series of groups of this many values.

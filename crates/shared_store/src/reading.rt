@@ -33,12 +33,12 @@ fn end_of(read: Result<Values, LookFault>, class: u32) -> Result<Values, TryEnd>
 }
 
 // The series of a metric that was looked at and has these values. Its name is its path.
-fn series_of(alloc: Global, looked: &Looked, values: &Values) -> Result<Series, AllocError>
+fn series_of(alloc: Global, looked: &Looked, values: Values) -> Result<Series, AllocError>
     requires some { looked.now.window ≢ Empty }
     requires window { IsWindow looked.now.layout looked.now.window }
-    requires count { HasBuckets looked.now.layout looked.now.window (length values.now) }
+    requires count { HasBuckets looked.now.layout looked.now.window (length values) }
     requires few { buckets_of looked.now ≤ most_points }
-    ensures { IfOk result (IsSeriesOf looked.now values.now) }
+    ensures { IfOk result (IsSeriesOf looked.now values) }
 {
     let Window::Range(i, first, _) = looked.window else {
         unreachable!()
@@ -46,8 +46,7 @@ fn series_of(alloc: Global, looked: &Looked, values: &Values) -> Result<Series, 
     let step = u64::from(looked.layout.archive(i).step);
     let name = looked.path.as_str().to_string(alloc)?;
     let path = looked.path.as_str().to_string(alloc)?;
-    let values = Vec::from_slice(alloc, values.list())?;
-    Ok(Series::from_legal(name, path, first, step, values))
+    Ok(Series::from_legal(name, path, first, step, values.into_vec()))
 }
 
 impl<D: Disk, N: Named> Store<D, N> {
@@ -136,7 +135,7 @@ impl<D: Disk, N: Named> Store<D, N> {
         let mut set = SeriesSet::new(alloc);
         for looked in found {
             let values = self.read_one(rt, held, pass, looked)?;
-            set.push(series_of(alloc, looked, &values)?)?;
+            set.push(series_of(alloc, looked, values)?)?;
         }
         Ok(set)
     }

@@ -1,12 +1,12 @@
 #![tactic(auto)]
 
 #[cfg(test)]
-mod shard_core_start_tests;
-#[cfg(test)]
-mod shard_core_tests;
-#[cfg(test)]
-mod shard_set_tests;
-#[cfg(test)]
 mod shared_history_tests;
 #[cfg(test)]
+mod shared_store_kit;
+#[cfg(test)]
 mod shared_store_tests;
+#[cfg(test)]
+mod shared_store_thread_tests;
+#[cfg(test)]
+mod shared_store_wait_tests;

@@ -31,7 +31,7 @@ use std::test::Fail;
 pub(crate) const START: u32 = 1_700_000_100;
 
 // Four minutes later, the moment of most questions.
-const NOW: u32 = START + 240;
+pub(crate) const NOW: u32 = START + 240;
 
 // Ten minutes by minutes.
 pub(crate) const RULES: &[u8] = b"[all]\npattern = .*\nretentions = 60:10\n";
@@ -161,8 +161,8 @@ fn need_room(pass: &Pass) -> Result<(), Fail>
 // The series of a metric: its path and its values by minutes, of which the first is that of `START`.
 #[derive(Clone, Copy)]
 pub(crate) struct Shown {
-    path: &'static str,
-    values: &'static [Option<Milli>],
+    pub(crate) path: &'static str,
+    pub(crate) values: &'static [Option<Milli>],
 }
 
 // What a caller does, and how it ends.
@@ -245,7 +245,7 @@ fn set_is_shown(set: &SeriesSet, shown: &[Shown]) -> bool {
             .all(|(series, one)| is_shown(series, one))
 }
 
-fn rows_are_shown(rows: &SeriesRows, shown: &[&'static [Shown]]) -> bool {
+pub(crate) fn rows_are_shown(rows: &SeriesRows, shown: &[&'static [Shown]]) -> bool {
     rows.len() == shown.len()
         && rows
             .as_slice()
@@ -254,7 +254,7 @@ fn rows_are_shown(rows: &SeriesRows, shown: &[&'static [Shown]]) -> bool {
             .all(|(set, one)| set_is_shown(set, one))
 }
 
-fn has_end(planned: &Planned, end: &str) -> bool {
+pub(crate) fn has_end(planned: &Planned, end: &str) -> bool {
     match planned {
         Planned::Took(path) => path.as_str() == end,
         Planned::Busy => end == "busy",

@@ -2,8 +2,11 @@ use fixed_num::*;
 
 #[test]
 fn whole_numbers_are_read(rt: HostRuntime) {
-    let table: [(&[u8], Option<u64>); 5] = [
+    let table: [(&[u8], Option<u64>); 8] = [
         (b"0", Some(0)),
+        (b"1700000000", Some(1_700_000_000)),
+        (b"17000000x0", None),
+        (b"", None),
         (b"0042", Some(42)),
         (b"9999999999999999999", Some(9_999_999_999_999_999_999)),
         (b"10000000000000000000", None),
@@ -39,6 +42,31 @@ fn decimals_are_read_in_thousandths(rt: HostRuntime) {
     ];
     for (text, value) in table {
         assert_eq!(rt; read_milli(text), value);
+    }
+}
+
+// The value that a text begins with, and the bytes of its text.
+fn front_of(text: &[u8]) -> Option<(Milli, usize)> {
+    let front = milli_front(text)?;
+    Some((front.value, front.len))
+}
+
+#[test]
+fn plain_decimals_are_read_up_to_their_end(rt: HostRuntime) {
+    let table: [(&[u8], Option<(Milli, usize)>); 10] = [
+        (b"12.5 1700000000", Some((12_500, 4))),
+        (b"7\t", Some((7_000, 1))),
+        (b"0.0019", Some((1, 6))),
+        (b"1.e", Some((1_000, 2))),
+        (b"1e3", Some((1_000, 1))),
+        (b"1.2.3", Some((1_200, 3))),
+        (b"1234567890123456 ", Some((123_456_789_012_345_000, 15))),
+        (b"", None),
+        (b".5", None),
+        (b"-1", None),
+    ];
+    for (text, front) in table {
+        assert_eq!(rt; front_of(text), front);
     }
 }
 

@@ -1,6 +1,6 @@
 use fixed_num::{Milli, NumFault};
 use metric_line::*;
-use metric_path::PathFault;
+use metric_path::{MetricPath, PathFault};
 use std::alloc::Global;
 use std::test::Fail;
 
@@ -26,7 +26,7 @@ fn is_read_as(alloc: Global, line: &[u8], path: &[u8], value: Milli, time: u32) 
 
 #[test]
 fn a_line_is_its_datum(rt: HostRuntime) -> Result<(), Fail> {
-    let cases: [(&[u8], &[u8], Milli, u32); 9] = [
+    let cases: [(&[u8], &[u8], Milli, u32); 21] = [
         (b"a.b 1.5 1700000000", b"a.b", 1500, 1_700_000_000),
         (
             b"servers.web01.loadavg.01 0.425999 1700000000\r",
@@ -51,6 +51,28 @@ fn a_line_is_its_datum(rt: HostRuntime) -> Result<(), Fail> {
             1_700_000_000,
         ),
         (b"nan 1 1700000000", b"nan", 1000, 1_700_000_000),
+        (b"a.b 123.25 1700000000", b"a.b", 123_250, 1_700_000_000),
+        (b"a.b 0.9999 1700000000", b"a.b", 999, 1_700_000_000),
+        (b"a.b 1. 1700000000", b"a.b", 1000, 1_700_000_000),
+        (b"a.b .5 1700000000", b"a.b", 500, 1_700_000_000),
+        (b"a.b +1.5 1700000000", b"a.b", 1500, 1_700_000_000),
+        (b"a.b\t1.5\t1700000000", b"a.b", 1500, 1_700_000_000),
+        (b"a.b  1.5 1700000000", b"a.b", 1500, 1_700_000_000),
+        (b"a.b 1.5 \r1700000000", b"a.b", 1500, 1_700_000_000),
+        (b"a.b 1.5 01700000000 ", b"a.b", 1500, 1_700_000_000),
+        (b"a.b 1.5 999999999", b"a.b", 1500, 999_999_999),
+        (
+            b"a.b 123456789012345.123456789012345 1700000000",
+            b"a.b",
+            123_456_789_012_345_123,
+            1_700_000_000,
+        ),
+        (
+            b"a.b 1234567890123456.0009999999999999 1700000000",
+            b"a.b",
+            1_234_567_890_123_456_000,
+            1_700_000_000,
+        ),
     ];
     for (line, path, value, time) in cases {
         assert!(rt; is_read_as(rt.alloc(), line, path, value, time), "{line:?}");
@@ -60,7 +82,7 @@ fn a_line_is_its_datum(rt: HostRuntime) -> Result<(), Fail> {
 
 #[test]
 fn the_first_fault_is_told(rt: HostRuntime) -> Result<(), Fail> {
-    let cases: [(&[u8], LineFault); 23] = [
+    let cases: [(&[u8], LineFault); 33] = [
         (b"a.b 1", LineFault::Fields(2)),
         (b"a.b", LineFault::Fields(1)),
         (
@@ -102,6 +124,34 @@ fn the_first_fault_is_told(rt: HostRuntime) -> Result<(), Fail> {
         ),
         (b"a.b 1 +1700000000", LineFault::Time(StampFault::NotNumber)),
         (b"a.b 1 -1.0", LineFault::Time(StampFault::NotNumber)),
+        (b"a.b 1.5 ", LineFault::Fields(2)),
+        (b"a.b ", LineFault::Fields(1)),
+        (b"a.b 1.5 1700000000\t4", LineFault::Fields(4)),
+        (b"a.b 1.5 1700000000 4 5", LineFault::Fields(5)),
+        (
+            b"a.b 1.5.5 1700000000",
+            LineFault::Value(NumFault::NotNumber),
+        ),
+        (
+            b"a.b 1.5x 1700000000",
+            LineFault::Value(NumFault::NotNumber),
+        ),
+        (
+            b"a.b 9223372036854775.808 1700000000",
+            LineFault::Value(NumFault::OutOfRange),
+        ),
+        (
+            b"a.b 1.5 17000000000",
+            LineFault::Time(StampFault::OutOfRange),
+        ),
+        (
+            b"a.b 1.5 0000000000",
+            LineFault::Time(StampFault::OutOfRange),
+        ),
+        (
+            b"a.b 1.5 1700000x00",
+            LineFault::Time(StampFault::NotNumber),
+        ),
     ];
     for (line, want) in cases {
         assert_eq!(rt; fault_of(rt.alloc(), line), Some(want), "{line:?}");
@@ -125,5 +175,43 @@ fn long_fields_are_read_to_their_end(rt: HostRuntime) -> Result<(), Fail> {
         fault_of(rt.alloc(), &line),
         Some(LineFault::Time(StampFault::OutOfRange))
     );
+    Ok(())
+}
+
+// The path of a line that is read in the memory of the path before, which it becomes.
+fn is_read_over(alloc: Global, spare: &mut Option<MetricPath>, line: &[u8], path: &[u8]) -> bool {
+    match read_line_over(alloc, spare, line, NOW) {
+        Ok(datum) => {
+            let same = datum.path.text() == path && datum.value == 1500;
+            *spare = Some(datum.path);
+            same
+        }
+        Err(_) => false,
+    }
+}
+
+#[test]
+fn a_path_that_is_spare_changes_no_datum(rt: HostRuntime) -> Result<(), Fail> {
+    let cases: [(&[u8], &[u8]); 5] = [
+        (b"a.b 1.5 1700000000", b"a.b"),
+        (
+            b"servers.web01.loadavg.01 1.5 -1",
+            b"servers.web01.loadavg.01",
+        ),
+        (b"c 1.5 1700000000", b"c"),
+        (b" c.d 1.5 1700000000", b"c.d"),
+        (
+            b"servers.web02.loadavg.01 1.5 -1",
+            b"servers.web02.loadavg.01",
+        ),
+    ];
+    let mut spare = None;
+    for (line, path) in cases {
+        assert!(rt;
+            is_read_over(rt.alloc(), &mut spare, line, path),
+            "{line:?}"
+        );
+        assert!(rt; read_line_over(rt.alloc(), &mut spare, b"a.b 1.5", NOW).is_err());
+    }
     Ok(())
 }

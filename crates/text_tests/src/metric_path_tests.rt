@@ -93,6 +93,22 @@ fn parts_of_a_path(rt: HostRuntime) -> Result<(), Fail> {
     Ok(())
 }
 
+// The path with the text of another, in the memory of this one.
+fn becomes(alloc: Global, path: MetricPath, text: &[u8]) -> Result<MetricPath, Fail> {
+    let other = MetricPath::new(alloc, text)?;
+    Ok(path.with_legal(other.text())?)
+}
+
+#[test]
+fn a_path_becomes_another(rt: HostRuntime) -> Result<(), Fail> {
+    let mut path = MetricPath::new(rt.alloc(), b"a.b")?;
+    for text in ["servers.web1.cpu", "a", "servers.web2.mem"] {
+        path = becomes(rt.alloc(), path, text.as_bytes())?;
+        assert!(rt; path.as_str() == text, "{text}");
+    }
+    Ok(())
+}
+
 // FNV-1a of 32 bits of `a` is 0xe40c292c.
 #[test]
 fn classes_of_paths(rt: HostRuntime) -> Result<(), Fail> {

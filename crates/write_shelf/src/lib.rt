@@ -9,6 +9,7 @@ mod drain;
 mod laws;
 mod run;
 mod run_bytes;
+mod run_cells;
 mod run_search;
 mod shelf;
 

@@ -5,6 +5,7 @@ ghost use Rattle.write_shelf.specs.Shelf.{AreLaid, IsFilled, IsRunOf, ReadsBack,
 ghost use Rattle.write_shelf.specs.declared.run.Run.TheVariants.{Cells};
 
 use crate::run::Run;
+use crate::run_cells::{cell_near, index_of};
 use ring_format::{CELL_BYTES, HEAD_BYTES, Layout, Patch, RUN_BYTES, write_cell, write_head};
 
 // Writes the bytes of a run to the front of `out`, and answers their number.
@@ -43,8 +44,10 @@ fn put_cells(patch: &Patch, archive: u32, slot: u32, count: u32, out: &mut [u8; 
     ensures written { take result out.new ≡ cells_bytes patch.now.cells archive slot count }
     ensures read { ReadsBack patch.now (Cells archive slot count) }
 {
+    let first = index_of(patch, archive, slot);
     for k in 0..count {
-        let Some((bucket, value)) = patch.cell(archive, slot + k) else {
+        let at = first.saturating_add(k as usize);
+        let Some((bucket, value)) = cell_near(patch, at, archive, slot + k) else {
             unreachable!()
         };
         let mut cell = [0; CELL_BYTES];

@@ -8,6 +8,7 @@ ghost use Rattle.write_shelf.specs.Runs.{last_runs, runs_of};
 ghost use Rattle.write_shelf.specs.Shelf.{IsRunOf};
 
 use crate::run::Run;
+use crate::run_cells::{cell_near, index_of};
 use ring_format::{Patch, RUN_CELLS};
 
 // The first run of a patch.
@@ -69,8 +70,10 @@ fn run_length(patch: &Patch, archive: u32, slot: u32) -> u32
     requires low { All (λ place. place.1 < 4000000) (keys_of patch.now.cells) }
     ensures { IsRunLength patch.now.cells archive slot result }
 {
+    let first = index_of(patch, archive, slot);
     for count in 1..RUN_CELLS as u32 {
-        if patch.cell(archive, slot + count).is_none() {
+        let at = first.saturating_add(count as usize);
+        if cell_near(patch, at, archive, slot + count).is_none() {
             return count;
         }
     }

@@ -13,8 +13,8 @@ returns-then-is_empty-clause-plans g c =
 
 pub returns-clause-plans : goal.returns-clause-plans
 returns-clause-plans g c =
-    let laid = rw c.deref.ensures.value at c.in_ok-write_values.ensures.writes in
+    let laid = rw c.deref.ensures.value at c.in_ok-base.ensures.writes in
     let rolls = rw c.deref-2.ensures.value at c.in_ok-roll_up.ensures.rolls in
-    let moved = under_moved c.args.patch.now.fresh c.write_values.new.patch.fresh (g.D.Disk.image c.args.disk.now) (g.D.Disk.image c.write_values.new.disk) c.args.view.now.name.now _ c.in_ok-write_values.ensures.alike.fresh c.in_ok-write_values.ensures.frame.kept rolls in
+    let moved = under_moved c.args.patch.now.fresh c.write_values.new.patch.fresh (g.D.Disk.image c.args.disk.now) (g.D.Disk.image c.write_values.new.disk) c.args.view.now.name.now _ c.in_ok-base.ensures.alike.fresh c.in_ok-base.ensures.frame.kept rolls in
     under_both c.args.patch.now.fresh (g.D.Disk.image c.args.disk.now) c.args.view.now.name.now _ _ _ laid moved (λ file laid rolls.
     plans_some c.args.view.now.layout c.args.now c.args.points.now c.in_ok-own.own.items c.args.patch.now c.write_values.new.patch c.roll_up.new.patch c.args.archive file c.in_ok-own.ensures.writes laid rolls)

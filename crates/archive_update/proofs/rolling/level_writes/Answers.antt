@@ -10,13 +10,13 @@ use Rattle.archive_update.proofs.rolling.level_writes.Goals as goal
 
 pub loop-k-init : goal.loop-k-init
 loop-k-init g c =
-    let steps = step_of_found c.args.view.now.layout.archives (c.args.finer + 1) c.archive-step.result c.archive-step.ensures.value in
+    let steps = step_of_found c.args.view.now.layout.archives (c.args.finer.archive + 1) c.archive-step.result c.archive-step.ensures.value in
     record {
-      writes = under_all c.args.patch.now.fresh (g.D.Disk.image c.args.disk.now) c.args.view.now.name.now c.args.view.now.layout.archives _ c.requires.file (λ file rings reads. c.new-writes.ensures.items ∙ level_start c.args.view.now.layout rings c.args.finer);
-      shown = rw c.new-writes.ensures.items (λ k d lt. absurd (omega arith));
+      writes = under_all c.args.patch.now.fresh (g.D.Disk.image c.args.disk.now) c.args.view.now.name.now c.args.view.now.layout.archives _ c.requires.file (λ file rings reads. c.in_ok-writes.ensures.items ∙ level_start c.args.view.now.layout rings c.args.finer.archive);
+      shown = rw c.in_ok-writes.ensures.items (λ k d lt. absurd (omega arith));
       held = record {
         exact = rw steps (let some : 1 ≤ c.archive-step.result.step = c.archive-step.ensures.step.0 in omega arith);
-        held = under_all c.args.patch.now.fresh (g.D.Disk.image c.args.disk.now) c.args.view.now.name.now c.args.view.now.layout.archives _ c.requires.file (λ file. c.new.ensures.items ∙ nothing_held c.args.patch.now file c.args.finer 0 (places_in c.args.view.now.layout c.args.finer));
+        held = under_all c.args.patch.now.fresh (g.D.Disk.image c.args.disk.now) c.args.view.now.name.now c.args.view.now.layout.archives _ c.requires.file (λ file. c.new.ensures.items ∙ nothing_held c.args.patch.now file c.args.finer.archive 0 (places_in c.args.view.now.layout c.args.finer.archive));
       };
       kept = refl;
       later = omega arith;
@@ -27,15 +27,15 @@ loop-k-preserved g c =
     let lt = c.loop-k-test.true in
     let held = under_moved c.args.patch.now.fresh c.args.patch.now.fresh (g.D.Disk.image c.args.disk.now) (g.D.Disk.image c.loop-k.disk) c.args.view.now.name.now _ refl c.loop-k.invariant.kept c.in_ok-stretch.ensures.held.held in
     let shown = c.requires.shown c.loop-k.k 0 lt in
-    let steps = step_of_found c.args.view.now.layout.archives (c.args.finer + 1) c.archive-step.result c.archive-step.ensures.value in
-    let has = subst (λ (bucket : ℕ). IsInStretch (step_of c.args.view.now.layout.archives (c.args.finer + 1)) c.in_ok-stretch.stretch.first c.in_ok-stretch.stretch.count bucket) (first_of_rest c.args.buckets.now c.loop-k.k (length c.args.buckets.now - c.loop-k.k) (omega arith)) c.in_ok-stretch.ensures.has in
+    let steps = step_of_found c.args.view.now.layout.archives (c.args.finer.archive + 1) c.archive-step.result c.archive-step.ensures.value in
+    let has = subst (λ (bucket : ℕ). IsInStretch (step_of c.args.view.now.layout.archives (c.args.finer.archive + 1)) c.in_ok-stretch.stretch.first c.in_ok-stretch.stretch.count bucket) (first_of_rest c.args.buckets.now c.loop-k.k (length c.args.buckets.now - c.loop-k.k) (omega arith)) c.in_ok-stretch.ensures.has in
     record {
       writes = under_both c.args.patch.now.fresh (g.D.Disk.image c.args.disk.now) c.args.view.now.name.now _ _ _ c.loop-k.invariant.writes held (λ file before held rings reads.
-          level_more c.args.view.now.layout rings c.args.finer c.args.buckets.now c.loop-k.k c.in_ok-value.value c.loop-k.writes.items _ lt (before rings reads)
-          (c.in_ok-value.ensures ∙ stretch_value c.args.patch.now c.args.view.now.layout file c.args.finer c.in_ok-stretch.stretch.first c.in_ok-stretch.stretch.count c.points_per_bucket-places.result c.archive-step.result.step (get_or c.args.buckets.now c.loop-k.k 0) rings c.in_ok-stretch.stretch.values.items
+          level_more c.args.view.now.layout rings c.args.finer.archive c.args.buckets.now c.loop-k.k c.in_ok-value.value c.loop-k.writes.items _ lt (before rings reads)
+          (c.in_ok-value.ensures ∙ stretch_value c.args.patch.now c.args.view.now.layout file c.args.finer.archive c.in_ok-stretch.stretch.first c.in_ok-stretch.stretch.count c.points_per_bucket-places.result c.archive-step.result.step (get_or c.args.buckets.now c.loop-k.k 0) rings c.in_ok-stretch.stretch.values.items
           c.requires.layout c.requires.finer.archive reads held (rw steps at has) c.archive-step.ensures.step.0 (rw steps at c.in_ok-stretch.ensures.held.exact) (rw steps at shown.multiple.1) c.points_per_bucket-places.ensures.value (c.points_per_bucket-places.ensures.exact ∙ steps))
           c.in_ok-push_given.ensures);
-      shown = rw c.in_ok-push_given.ensures (given_shown (step_of c.args.view.now.layout.archives (c.args.finer + 1)) (get_or c.args.buckets.now c.loop-k.k 0) c.in_ok-value.value c.loop-k.writes.items c.loop-k.invariant.shown shown);
+      shown = rw c.in_ok-push_given.ensures (given_shown (step_of c.args.view.now.layout.archives (c.args.finer.archive + 1)) (get_or c.args.buckets.now c.loop-k.k 0) c.in_ok-value.value c.loop-k.writes.items c.loop-k.invariant.shown shown);
       held = record { exact = c.in_ok-stretch.ensures.held.exact; held = held };
       kept = c.in_ok-stretch.ensures.frame.kept ∙ c.loop-k.invariant.kept;
       later = omega (arith, c.loop-k.invariant.later, c.in_ok-stretch.ensures.frame.later);
@@ -44,4 +44,4 @@ loop-k-preserved g c =
 pub returns-clause-writes : goal.returns-clause-writes
 returns-clause-writes g c =
     let whole = take_all c.loop-k.k c.args.buckets.now c.loop-k-test.false in
-    under_map c.args.patch.now.fresh (g.D.Disk.image c.args.disk.now) c.args.view.now.name.now _ _ c.loop-k.invariant.writes (λ file are rings reads. are rings reads ∙ ap (level_writes c.args.view.now.layout rings c.args.finer) whole)
+    under_map c.args.patch.now.fresh (g.D.Disk.image c.args.disk.now) c.args.view.now.name.now _ _ c.loop-k.invariant.writes (λ file are rings reads. are rings reads ∙ ap (level_writes c.args.view.now.layout rings c.args.finer.archive) whole)

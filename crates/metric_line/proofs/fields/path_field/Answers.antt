@@ -1,4 +1,4 @@
-use Rattle.std.proofs.Common.{◌≡◌, ℕ, ◌<◌, true, get_or, length, arith, sym, ◌∙◌}
+use Rattle.std.proofs.Common.{◌≡◌, ◌<◌, true, get_or, length, arith, sym, ◌∙◌}
 use Rattle.metric_line.specs.LineFields.{is_blank}
 use Rattle.metric_line.proofs.PathFieldLemmas.{fields_of-path}
 use Rattle.metric_line.proofs.fields.path_field.Goals as goal

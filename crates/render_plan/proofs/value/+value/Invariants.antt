@@ -8,4 +8,4 @@ use Rattle.render_plan.proofs.value.+value.Given as goal
 abbrev pub invariant-values_of-loop-target : goal.invariant-values_of-loop-target
 invariant-values_of-loop-target l =
     AreSound l.levels (terms_of (drop l.target-index l.target-items))
-    × Reached (terms_of l.target-items) l.rows (end_within l.levels) (terms_of (drop l.target-index l.target-items)) l.left l.sets.items
+    × Reached (terms_of l.target-items) l.fn.rows.items (end_within l.levels) (terms_of (drop l.target-index l.target-items)) l.rows.items l.sets.items

@@ -7,7 +7,7 @@ use Rattle.series_set.proofs.thinning.thin.Goals as goal
 
 pub returns-clause-few : goal.returns-clause-few
 returns-clause-few c =
-    let s = c.args.series.now in
+    let s = c.args.series in
     let many : c.args.most < length s.values = rw c.values.ensures.value at c.if-count-most.false in
     let is = c.div_ceil.ensures ∙ ap (λ (values : _). div_ceil (length values) c.args.most) c.values.ensures.value in
     let few = thinned_few c.args.most c.div_ceil.result s c.requires.some many is in

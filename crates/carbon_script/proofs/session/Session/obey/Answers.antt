@@ -8,8 +8,8 @@ use Rattle.carbon_script.proofs.session.Session.obey.Goals as goal
 
 pub returns-in-Metric-clause-obeys : goal.returns-in-Metric-clause-obeys
 returns-in-Metric-clause-obeys g c =
-    rw c.in-Metric.is (obeys_said (Unit {0}) g.N.Named.told g.N.Named.start (Metric (seen c.in-Metric.datum)) c.put.result c.say.result c.args.self.now c.put.new.self (g.K.Sink.written c.args.out.now) (g.K.Sink.written c.say.new.out)
-    c.put.ensures c.say.ensures.says)
+    rw c.in-Metric.is (obeys_said (Unit {0}) g.N.Named.told g.N.Named.start (Metric (seen c.in-Metric.datum)) c.put_line.result c.say.result c.args.self.now c.put_line.new.self (g.K.Sink.written c.args.out.now) (g.K.Sink.written c.say.new.out)
+    c.put_line.ensures c.say.ensures.says)
 
 pub returns-in-Ask-clause-obeys : goal.returns-in-Ask-clause-obeys
 returns-in-Ask-clause-obeys g c =

@@ -1,8 +1,20 @@
-use Rattle.std.proofs.Common.{◌≡◌, ◌≢◌, List, ◌∷◌, ℕ, length, ap, ◌∙◌, arith}
+use Rattle.std.proofs.Common.{◌≢◌, length, ap, arith}
 use Rattle.metric_line.specs.LineFields.{fields_of}
 use Rattle.metric_line.proofs.LineLemmas.{datum_of_others, datum_of_three}
 use Rattle.metric_line.proofs.PathFieldLemmas.{three_behind}
-use Rattle.metric_line.proofs.line.read_line.Goals as goal
+use Rattle.metric_line.proofs.line.read_line_over.Goals as goal
+
+pub returns-in-Some-plain_fields-clause-datum : goal.returns-in-Some-plain_fields-clause-datum
+returns-in-Some-plain_fields-clause-datum c =
+    rw (datum_of_three _ _ _ _ c.args.now (three_behind _ _ _ _ _ c.in-Some.ensures.fields c.in-Some-plain_fields.ensures.fields)) c.read_plain.ensures.datum
+
+pub returns-in-Some-plain_fields-clause-fault : goal.returns-in-Some-plain_fields-clause-fault
+returns-in-Some-plain_fields-clause-fault c =
+    rw (datum_of_three _ _ _ _ c.args.now (three_behind _ _ _ _ _ c.in-Some.ensures.fields c.in-Some-plain_fields.ensures.fields)) c.read_plain.ensures.fault
+
+pub returns-in-Some-plain_fields-clause-memory : goal.returns-in-Some-plain_fields-clause-memory
+returns-in-Some-plain_fields-clause-memory c =
+    rw (datum_of_three _ _ _ _ c.args.now (three_behind _ _ _ _ _ c.in-Some.ensures.fields c.in-Some-plain_fields.ensures.fields)) c.read_plain.ensures.memory
 
 pub returns-in-Some-two_fields-clause-datum : goal.returns-in-Some-two_fields-clause-datum
 returns-in-Some-two_fields-clause-datum c =

@@ -2,7 +2,7 @@ use Rattle.std.proofs.Common.{rules}
 use Rattle.shard_core.specs.Looks.{MayRead}
 use Rattle.shard_core.specs.View.{inside_of}
 use Rattle.shard_core.proofs.ReadLemmas.{may_read_later}
-use Rattle.store_tests.proofs.shard_core_tests.moved.Goals as goal
+use Rattle.shard_tests.proofs.shard_core_tests.moved.Goals as goal
 
 pub read-requires : goal.read-requires
 read-requires g c =

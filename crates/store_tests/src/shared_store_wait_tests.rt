@@ -1,0 +1,418 @@
+// Two callers of a store, of which one waits in a disk while the other goes on.
+ghost use Rattle.std.specs.Prelude.{◌≡◌, IfOk, vec_len};
+
+use crate::shared_store_kit::{Deed, Job, Ran, Reply, run};
+use crate::shared_store_tests::{RULES, Shown, has_end, rows_are_shown};
+use gate_io::{Flag, Gate, GateDisk};
+use metric_path::CLASSES;
+use outside_io::{Disk, MemDisk};
+use point_cache::Put;
+use shard_core::Wrote;
+use shared_store::Tally;
+use std::alloc::{AllocError, Global};
+use std::process::Abort;
+use std::sync::Wait;
+use std::test::Fail;
+use std::thread::Threads;
+use std::time::Clock;
+
+// How a deed is to end.
+#[derive(Clone, Copy)]
+enum End {
+    Put(Put),
+    // The path of the metric of which a drain was begun, or how else the plan ends.
+    Planned(&'static str),
+    Wrote(Wrote),
+    // The series of each glob, and how many entries the question makes.
+    Shown(&'static [&'static [Shown]], u64),
+    Up,
+}
+
+// What is done, and how it is to end.
+type Row = (Deed, End);
+
+// A call of the disk of a class that waits: its first write, or the read that has so many before
+// it. The first of a list puts up the flag 0 and waits for the flag 1, the next has the flags 2 and
+// 3.
+#[derive(Clone, Copy)]
+enum Stop {
+    Write(u32),
+    Read(u32, u64),
+}
+
+// Which calls wait, what the first caller does before, what both do then, how many entries the
+// history has, and how many of each kind.
+#[derive(Clone, Copy)]
+struct Case<'a> {
+    stops: &'a [Stop],
+    before: &'a [Row],
+    first: &'a [Row],
+    second: &'a [Row],
+    entries: u64,
+    tally: Tally,
+}
+
+// ---- the disks
+
+fn flags_of(alloc: Global, stops: &[Stop]) -> Result<Vec<Flag>, AllocError> {
+    let mut flags = Vec::new(alloc);
+    for _stop in stops {
+        flags.push(Flag::new(alloc)?)?;
+        flags.push(Flag::new(alloc)?)?;
+    }
+    Ok(flags)
+}
+
+fn stopping<R: Clock + Drop>(
+    rt: R,
+    disk: GateDisk<R>,
+    class: u32,
+    stop: Stop,
+    pair: &[Flag],
+) -> Result<GateDisk<R>, Fail> {
+    let [begun, opens] = pair else {
+        return Err(Fail::new("a gate has two flags"));
+    };
+    let gate = Gate::new(rt, begun.share()?, opens.share()?);
+    Ok(match stop {
+        Stop::Write(there) if there == class => disk.writing_at(gate),
+        Stop::Read(there, before) if there == class => disk.reading_at(before, gate),
+        _ => disk,
+    })
+}
+
+// The disk of a class, without files.
+fn disk_of<R: Clock + Copy + Drop>(
+    rt: R,
+    alloc: Global,
+    class: u32,
+    stops: &[Stop],
+    flags: &[Flag],
+) -> Result<GateDisk<R>, Fail> {
+    let mut disk = GateDisk::new(MemDisk::new(alloc, 10_000_000));
+    for (stop, pair) in stops.iter().zip(flags.chunks(2)) {
+        disk = stopping(rt, disk, class, *stop, pair)?;
+    }
+    Ok(disk)
+}
+
+fn disks_of<R: Clock + Copy + Drop>(
+    rt: R,
+    alloc: Global,
+    stops: &[Stop],
+    flags: &[Flag],
+) -> Result<Vec<GateDisk<R>>, Fail>
+    ensures { IfOk result (λ disks. vec_len disks ≡ 16) }
+{
+    let mut disks = Vec::new(alloc);
+    for class in 0..CLASSES {
+        disks.push(disk_of(rt, alloc, class, stops, flags)?)?;
+    }
+    Ok(disks)
+}
+
+// ---- a case
+
+fn job_of(alloc: Global, before: &[Row], rows: &[Row], flags: &[Flag]) -> Result<Job, AllocError> {
+    let mut deeds = Vec::new(alloc);
+    for (deed, _) in before.iter().chain(rows.iter()) {
+        deeds.push(*deed)?;
+    }
+    Job::new(alloc, deeds, flags)
+}
+
+fn run_case<R: Threads + Wait + Clock + Copy + Send + Sync + Drop>(
+    rt: &R,
+    alloc: Global,
+    case: &Case<'_>,
+) -> Result<Ran<GateDisk<R>>, Fail> {
+    let flags = flags_of(alloc, case.stops)?;
+    let mut jobs = Vec::new(alloc);
+    jobs.push(job_of(alloc, case.before, case.first, &flags)?)?;
+    jobs.push(job_of(alloc, &[], case.second, &flags)?)?;
+    let disks = disks_of(*rt, alloc, case.stops, &flags)?;
+    if jobs.len() > 16 {
+        return Err(Fail::new("there are two callers"));
+    }
+    run(rt, alloc, disks, RULES, 10, jobs)
+}
+
+fn is_put(reply: &Reply, want: Put) -> bool {
+    match reply {
+        Reply::Put(put) => *put == want,
+        _ => false,
+    }
+}
+
+fn is_planned(reply: &Reply, want: &str) -> bool {
+    match reply {
+        Reply::Planned(planned) => has_end(planned, want),
+        _ => false,
+    }
+}
+
+fn is_written(reply: &Reply, want: Wrote) -> bool {
+    match reply {
+        Reply::Wrote(wrote) => *wrote == want,
+        _ => false,
+    }
+}
+
+fn is_shown(reply: &Reply, want: &[&'static [Shown]], entries: u64) -> bool {
+    match reply {
+        Reply::Rows(rows, made) => *made == entries && rows_are_shown(rows, want),
+        _ => false,
+    }
+}
+
+fn is_up(reply: &Reply) -> bool {
+    match reply {
+        Reply::Up(up) => *up,
+        _ => false,
+    }
+}
+
+fn ends_so(reply: &Reply, end: End) -> bool {
+    match end {
+        End::Put(put) => is_put(reply, put),
+        End::Planned(path) => is_planned(reply, path),
+        End::Wrote(wrote) => is_written(reply, wrote),
+        End::Shown(shown, entries) => is_shown(reply, shown, entries),
+        End::Up => is_up(reply),
+    }
+}
+
+fn assert_replies(rt: &impl Abort, replies: &[Reply], before: &[Row], rows: &[Row]) {
+    let wanted = before.iter().chain(rows.iter());
+    for (n, ((_, end), reply)) in wanted.zip(replies.iter()).enumerate() {
+        assert!(rt; ends_so(reply, *end), "{n}");
+    }
+    assert!(rt; replies.len().checked_sub(before.len()) == Some(rows.len()));
+}
+
+fn count_faults<D: Disk>(disks: &[D]) -> u64 {
+    let mut faults = 0u64;
+    for disk in disks {
+        faults = faults.saturating_add(disk.faults());
+    }
+    faults
+}
+
+fn assert_case<R: Threads + Wait + Abort + Clock + Copy + Send + Sync + Drop>(
+    rt: &R,
+    alloc: Global,
+    case: &Case<'_>,
+) -> Result<(), Fail> {
+    let Ran { jobs, closed } = run_case(rt, alloc, case)?;
+    let [first, second] = jobs.as_slice() else {
+        return Err(Fail::new("there are two callers"));
+    };
+    assert_replies(rt, first.replies.as_slice(), case.before, case.first);
+    assert_replies(rt, second.replies.as_slice(), &[], case.second);
+    assert!(rt; closed.history.len() == case.entries);
+    assert!(rt; closed.tally == case.tally && count_faults(closed.disks.as_slice()) == 0);
+    Ok(())
+}
+
+// ---- the path `b` is of class 5, `d` of class 3, and `a` of class 12
+
+const A: Shown = Shown {
+    path: "a",
+    values: &[Some(4_000), None, None, None, None],
+};
+
+const B: Shown = Shown {
+    path: "b",
+    values: &[Some(1_000), None, None, None, None],
+};
+
+const D: Shown = Shown {
+    path: "d",
+    values: &[Some(2_000), None, None, None, None],
+};
+
+const LATER_D: Shown = Shown {
+    path: "d",
+    values: &[Some(2_000), Some(3_000), None, None, None],
+};
+
+const LAST_D: Shown = Shown {
+    path: "d",
+    values: &[Some(5_000), Some(3_000), None, None, None],
+};
+
+const BOTH: &[&[u8]] = &[b"b", b"d"];
+
+const ALL: &[&[u8]] = &[b"?"];
+
+fn tally(stored: u64, drains: u64) -> Tally {
+    Tally {
+        stored,
+        replaced: 0,
+        full: 0,
+        drains,
+    }
+}
+
+// `b` is drained, and its first write waits.
+const WRITES: [Row; 6] = [
+    (Deed::Put("b", 0, 1), End::Put(Put::Stored)),
+    (Deed::Plan(5), End::Planned("b")),
+    (Deed::Write(5), End::Wrote(Wrote::Run)),
+    (Deed::Write(5), End::Wrote(Wrote::Run)),
+    (Deed::Write(5), End::Wrote(Wrote::Finished)),
+    (Deed::Ask(BOTH), End::Shown(&[&[B], &[D]], 1)),
+];
+
+// `d` is put and drained meanwhile.
+const DRAINS: [Row; 7] = [
+    (Deed::Await(0), End::Up),
+    (Deed::Put("d", 0, 2), End::Put(Put::Stored)),
+    (Deed::Plan(3), End::Planned("d")),
+    (Deed::Write(3), End::Wrote(Wrote::Run)),
+    (Deed::Write(3), End::Wrote(Wrote::Run)),
+    (Deed::Write(3), End::Wrote(Wrote::Finished)),
+    (Deed::Raise(1), End::Up),
+];
+
+#[test]
+fn a_class_is_drained_while_the_disk_of_another_writes(rt: HostRuntime) -> Result<(), Fail> {
+    let case = Case {
+        stops: &[Stop::Write(5)],
+        before: &[],
+        first: &WRITES,
+        second: &DRAINS,
+        entries: 5,
+        tally: tally(2, 2),
+    };
+    assert_case(&rt, rt.alloc(), &case)
+}
+
+// ---- questions that wait
+
+// `b` is drained, and `d` is put.
+const PUT: [Row; 6] = [
+    (Deed::Put("b", 0, 1), End::Put(Put::Stored)),
+    (Deed::Plan(5), End::Planned("b")),
+    (Deed::Write(5), End::Wrote(Wrote::Run)),
+    (Deed::Write(5), End::Wrote(Wrote::Run)),
+    (Deed::Write(5), End::Wrote(Wrote::Finished)),
+    (Deed::Put("d", 0, 2), End::Put(Put::Stored)),
+];
+
+// The first question reads `b`, and waits. It has the point of `d` alone that was put before.
+const ASKS: [Row; 2] = [
+    (Deed::Ask(BOTH), End::Shown(&[&[B], &[D]], 1)),
+    (Deed::Ask(BOTH), End::Shown(&[&[B], &[LATER_D]], 1)),
+];
+
+const PUTS: [Row; 3] = [
+    (Deed::Await(0), End::Up),
+    (Deed::Put("d", 1, 3), End::Put(Put::Stored)),
+    (Deed::Raise(1), End::Up),
+];
+
+#[test]
+fn a_question_that_waits_has_the_rows_of_its_entry(rt: HostRuntime) -> Result<(), Fail> {
+    let case = Case {
+        stops: &[Stop::Read(5, 0)],
+        before: &PUT,
+        first: &ASKS,
+        second: &PUTS,
+        entries: 6,
+        tally: tally(3, 1),
+    };
+    assert_case(&rt, rt.alloc(), &case)
+}
+
+// A drain of `d` that was put anew is begun meanwhile.
+const PLANS: [Row; 7] = [
+    (Deed::Await(0), End::Up),
+    (Deed::Put("d", 1, 3), End::Put(Put::Stored)),
+    (Deed::Plan(3), End::Planned("d")),
+    (Deed::Raise(1), End::Up),
+    (Deed::Write(3), End::Wrote(Wrote::Run)),
+    (Deed::Write(3), End::Wrote(Wrote::Run)),
+    (Deed::Write(3), End::Wrote(Wrote::Finished)),
+];
+
+// The question enters once more.
+const ASKS_AGAIN: [Row; 1] = [(Deed::Ask(BOTH), End::Shown(&[&[B], &[LATER_D]], 2))];
+
+// `d` is drained, put anew and drained again.
+const DRAINS_TWICE: [Row; 9] = [
+    (Deed::Await(0), End::Up),
+    (Deed::Plan(3), End::Planned("d")),
+    (Deed::Write(3), End::Wrote(Wrote::Run)),
+    (Deed::Write(3), End::Wrote(Wrote::Run)),
+    (Deed::Write(3), End::Wrote(Wrote::Finished)),
+    (Deed::Put("d", 1, 3), End::Put(Put::Stored)),
+    (Deed::Plan(3), End::Planned("d")),
+    (Deed::Write(3), End::Wrote(Wrote::Finished)),
+    (Deed::Raise(1), End::Up),
+];
+
+#[test]
+fn a_question_whose_metric_is_drained_meanwhile_enters_again(rt: HostRuntime) -> Result<(), Fail> {
+    let table: [(&[Row], u64, u64); 2] = [(&PLANS, 7, 2), (&DRAINS_TWICE, 8, 3)];
+    for (second, entries, drains) in table {
+        let case = Case {
+            stops: &[Stop::Read(5, 0)],
+            before: &PUT,
+            first: &ASKS_AGAIN,
+            second,
+            entries,
+            tally: tally(3, drains),
+        };
+        assert_case(&rt, rt.alloc(), &case)?;
+    }
+    Ok(())
+}
+
+// `a`, `b` and `d` are drained.
+const DRAINED: [Row; 15] = [
+    (Deed::Put("a", 0, 4), End::Put(Put::Stored)),
+    (Deed::Plan(12), End::Planned("a")),
+    (Deed::Write(12), End::Wrote(Wrote::Run)),
+    (Deed::Write(12), End::Wrote(Wrote::Run)),
+    (Deed::Write(12), End::Wrote(Wrote::Finished)),
+    (Deed::Put("b", 0, 1), End::Put(Put::Stored)),
+    (Deed::Plan(5), End::Planned("b")),
+    (Deed::Write(5), End::Wrote(Wrote::Run)),
+    (Deed::Write(5), End::Wrote(Wrote::Run)),
+    (Deed::Write(5), End::Wrote(Wrote::Finished)),
+    (Deed::Put("d", 0, 2), End::Put(Put::Stored)),
+    (Deed::Plan(3), End::Planned("d")),
+    (Deed::Write(3), End::Wrote(Wrote::Run)),
+    (Deed::Write(3), End::Wrote(Wrote::Run)),
+    (Deed::Write(3), End::Wrote(Wrote::Finished)),
+];
+
+// The question waits as it reads `b`, and as it reads `a` once more.
+const ASKS_TWICE: [Row; 1] = [(Deed::Ask(ALL), End::Shown(&[&[A, B, LAST_D]], 3))];
+
+const MOVES_TWICE: [Row; 10] = [
+    (Deed::Await(0), End::Up),
+    (Deed::Put("d", 1, 3), End::Put(Put::Stored)),
+    (Deed::Plan(3), End::Planned("d")),
+    (Deed::Write(3), End::Wrote(Wrote::Finished)),
+    (Deed::Raise(1), End::Up),
+    (Deed::Await(2), End::Up),
+    (Deed::Put("d", 0, 5), End::Put(Put::Stored)),
+    (Deed::Plan(3), End::Planned("d")),
+    (Deed::Write(3), End::Wrote(Wrote::Finished)),
+    (Deed::Raise(3), End::Up),
+];
+
+#[test]
+fn a_question_enters_a_third_time_at_most(rt: HostRuntime) -> Result<(), Fail> {
+    let case = Case {
+        stops: &[Stop::Read(5, 0), Stop::Read(12, 2)],
+        before: &DRAINED,
+        first: &ASKS_TWICE,
+        second: &MOVES_TWICE,
+        entries: 13,
+        tally: tally(5, 5),
+    };
+    assert_case(&rt, rt.alloc(), &case)
+}
