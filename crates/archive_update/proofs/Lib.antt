@@ -7,6 +7,6 @@ pub mod RollLemmas
 pub mod PlanLemmas
 pub mod MoveLemmas
 pub mod SpanLemmas
-pub mod StretchLemmas
+pub mod WindowLemmas
 pub mod NearLemmas
 pub mod KnownLemmas

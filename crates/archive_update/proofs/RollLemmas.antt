@@ -14,7 +14,7 @@ use Rattle.ring_archive.specs.Ring.{ReadsAs, Rings, value_of, values_from}
 use Rattle.archive_update.specs.Batch.{itself, known_in, level_writes, rolled_from, rolled_up, step_of, value_from_finer, with_writes}
 use Rattle.archive_update.specs.Buckets.{IsShown}
 use Rattle.archive_update.specs.Laid.{Writes}
-use Rattle.archive_update.specs.Rolled.{Level, RollsTo, RollsUp, given, known_from, next_writes}
+use Rattle.archive_update.specs.Rolled.{Level, RollsTo, RollsUp, rolled_write, known_from, next_writes}
 
 -- ---- values that were read
 
@@ -63,25 +63,25 @@ given_value layout rings i bucket places archive known found count here =
 listed_more : (f : ℕ → Option (ℕ × ℤ)) (buckets : List ℕ) (k : ℕ) → k < length buckets → filter_map f (take (k + 1) buckets) ≡ filter_map f (take k buckets) ++ filter_map f (get_or buckets k 0 ∷ [])
 listed_more f buckets k lt = ap (filter_map f) (take_more buckets k 0 lt) ∙ filter_map-append f (take k buckets) (get_or buckets k 0 ∷ [])
 
-given_listed : (f : ℕ → Option ℤ) (bucket : ℕ) (value : Option ℤ) → f bucket ≡ value → filter_map (λ bucket. option_map (λ value. (bucket, value)) (f bucket)) (bucket ∷ []) ≡ given bucket value
-given_listed f bucket None e = rw e refl
-given_listed f bucket (Some value) e = rw e refl
+write_listed : (f : ℕ → Option ℤ) (bucket : ℕ) (value : Option ℤ) → f bucket ≡ value → filter_map (λ bucket. option_map (λ value. (bucket, value)) (f bucket)) (bucket ∷ []) ≡ rolled_write bucket value
+write_listed f bucket None e = rw e refl
+write_listed f bucket (Some value) e = rw e refl
 
 pub level_start : (layout : LayoutValue) (rings : Rings) (i : ℕ) → [] ≡ level_writes layout rings i []
 unfolding level_writes
 level_start layout rings i = refl
 
 pub level_more : (layout : LayoutValue) (rings : Rings) (i : ℕ) (buckets : List ℕ) (k : ℕ) (value : Option ℤ) (writes later : List (ℕ × ℤ)) → k < length buckets → writes ≡ level_writes layout rings i (take k buckets)
-    → value ≡ value_from_finer layout rings i (get_or buckets k 0) → later ≡ writes ++ given (get_or buckets k 0) value → later ≡ level_writes layout rings i (take (k + 1) buckets)
+    → value ≡ value_from_finer layout rings i (get_or buckets k 0) → later ≡ writes ++ rolled_write (get_or buckets k 0) value → later ≡ level_writes layout rings i (take (k + 1) buckets)
 unfolding level_writes
 level_more layout rings i buckets k value writes later lt before here after =
     let gives : ℕ → Option (ℕ × ℤ) = λ bucket. option_map (λ value. (bucket, value)) (value_from_finer layout rings i bucket) in
-    after ∙ ap (λ ys. ys ++ given (get_or buckets k 0) value) before
-    ∙ sym (listed_more gives buckets k lt ∙ ap (λ ys. filter_map gives (take k buckets) ++ ys) (given_listed (value_from_finer layout rings i) (get_or buckets k 0) value (sym here)))
+    after ∙ ap (λ ys. ys ++ rolled_write (get_or buckets k 0) value) before
+    ∙ sym (listed_more gives buckets k lt ∙ ap (λ ys. filter_map gives (take k buckets) ++ ys) (write_listed (value_from_finer layout rings i) (get_or buckets k 0) value (sym here)))
 
-pub given_shown : (step bucket : ℕ) (value : Option ℤ) (writes : List (ℕ × ℤ)) → All (λ write. IsShown step write.0) writes → IsShown step bucket → All (λ write. IsShown step write.0) (writes ++ given bucket value)
-given_shown step bucket None writes all here = All-append (λ write. IsShown step write.0) writes [] all (All-nil (λ write. IsShown step write.0))
-given_shown step bucket (Some value) writes all here = All-push (λ write. IsShown step write.0) writes (bucket, value) all here
+pub write_shown : (step bucket : ℕ) (value : Option ℤ) (writes : List (ℕ × ℤ)) → All (λ write. IsShown step write.0) writes → IsShown step bucket → All (λ write. IsShown step write.0) (writes ++ rolled_write bucket value)
+write_shown step bucket None writes all here = All-append (λ write. IsShown step write.0) writes [] all (All-nil (λ write. IsShown step write.0))
+write_shown step bucket (Some value) writes all here = All-push (λ write. IsShown step write.0) writes (bucket, value) all here
 
 -- ---- one archive after another
 
@@ -135,7 +135,7 @@ some_archive_at [] i lt = absurd (omega arith)
 some_archive_at (archive ∷ archives) zero lt = (archive, refl)
 some_archive_at (archive ∷ archives) (suc i) lt = some_archive_at archives i (omega arith)
 
--- a stretch of no values
+-- a window of no values
 pub nothing_held : (patch : PatchValue) (file : List ℕ) (i first n : ℕ) → [] ≡ values_from patch file i first (0 * n)
 unfolding values_from
 nothing_held patch file i first n =

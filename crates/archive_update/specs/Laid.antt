@@ -1,9 +1,12 @@
 -- Cells laid by a patch, and what they make of the archives.
-use Rattle.std.specs.Prelude.{◌≡◌, ◌≢◌, ◌⊎◌, ℕ, ℤ, pos, ◌%◌, ◌<◌, ◌≤◌, List, [], Some, slice_get, slice_index}
+use Rattle.std.specs.Prelude.{◌≡◌, ◌≢◌, ◌⊎◌, ℕ, ℤ, pos, ◌%◌, ◌<◌, ◌≤◌, List, [], Option, Some, slice_get, slice_index}
 use Rattle.ring_format.specs.declared.archive.Archive.{Archive}
 use Rattle.ring_format.specs.Layout.{LayoutValue}
 use Rattle.ring_format.specs.Patch.{IsPlace, PatchValue, cell_at}
+use Rattle.outside_io.specs.Image.{Image}
 use Rattle.ring_archive.specs.Ring.{ReadsAs, Rings, base_of, ring_cell}
+use Rattle.ring_archive.specs.View.{IsBased, OnRing}
+use Rattle.ring_archive.specs.declared.view.RingView.{RingView}
 use Rattle.archive_update.specs.Batch.{with_writes}
 
 -- a positive multiple of a step
@@ -58,3 +61,8 @@ Prepares old new i base file = IsReady new file i base × ((rings : Rings) → R
 -- the archives read as before, but for what is written into archive `i`
 abbrev pub Writes : List Archive → PatchValue → PatchValue → ℕ → List (ℕ × ℤ) → List ℕ → Type 0
 Writes archives old new i writes file = (rings : Rings) → ReadsAs old file rings → ReadsAs new file (with_writes archives rings i writes)
+
+-- writes are laid into archive `i`, which then has this base
+pub record HasWritten (view : RingView) (known : Option Image) (old new : PatchValue) (i : ℕ) (writes : List (ℕ × ℤ)) (base : ℕ) : Type 0 where
+  pub laid : OnRing view old.fresh known (Writes view.layout.archives old new i writes)
+  pub based : IsBased view new known i base

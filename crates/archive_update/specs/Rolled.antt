@@ -5,7 +5,8 @@ use Rattle.ring_format.specs.Layout.{LayoutValue}
 use Rattle.ring_format.specs.Patch.{PatchValue}
 use Rattle.outside_io.specs.Image.{Image}
 use Rattle.ring_archive.specs.Ring.{ReadsAs, Rings, values_from}
-use Rattle.ring_archive.specs.View.{OnRing}
+use Rattle.ring_archive.specs.View.{IsBased, OnRing}
+use Rattle.ring_archive.specs.declared.view.BasedArchive.{BasedArchive}
 use Rattle.ring_archive.specs.declared.view.RingView.{RingView}
 use Rattle.archive_update.specs.Batch.{batch_of_first, buckets_of_writes, itself, level_writes, bucket_writes, rolled_up, step_of, with_own, with_writes}
 
@@ -18,22 +19,27 @@ abbrev pub places_in : LayoutValue → ℕ → ℕ
 places_in layout i = step_of layout.archives (i + 1) / step_of layout.archives i
 
 -- these are the values of archive `i` in so many buckets of archive `i + 1`, from a first one on
-abbrev pub HoldsStretch : LayoutValue → PatchValue → ℕ → ℕ → ℕ → List (Option ℤ) → List ℕ → Type 0
-HoldsStretch layout patch i first count values file = values ≡ values_from patch file i first (count * places_in layout i)
+abbrev pub HoldsWindow : LayoutValue → PatchValue → ℕ → ℕ → ℕ → List (Option ℤ) → List ℕ → Type 0
+HoldsWindow layout patch i first count values file = values ≡ values_from patch file i first (count * places_in layout i)
 
--- a stretch of buckets that begins with one of archive `i + 1`, with their values of archive `i` in the file under the patch
+-- a window of buckets that begins with one of archive `i + 1`, with their values of archive `i` in the file under the patch
 pub record IsRead (view : RingView) (patch : PatchValue) (known : Option Image) (i first count : ℕ) (values : List (Option ℤ)) : Type 0 where
   pub exact : first % step_of view.layout.archives (i + 1) ≡ 0
-  pub held : OnRing view patch.fresh known (HoldsStretch view.layout patch i first count values)
+  pub held : OnRing view patch.fresh known (HoldsWindow view.layout patch i first count values)
 
 -- archive `i` is not the coarsest of the layout
 pub record HasCoarser (layout : LayoutValue) (i : ℕ) : Type 0 where
   pub archive : i + 1 < length layout.archives
   pub few : i ≤ 24
 
+-- an archive that is not the coarsest of the layout, with the base that it has in the file under the patch
+pub record IsFiner (view : RingView) (patch : PatchValue) (known : Option Image) (finer : BasedArchive) : Type 0 where
+  pub coarser : HasCoarser view.layout finer.archive
+  pub based : IsBased view patch known finer.archive finer.base
+
 -- a bucket is one of so many, a step apart
-abbrev pub IsInStretch : ℕ → ℕ → ℕ → ℕ → Type 0
-IsInStretch step first count bucket = (first ≤ bucket) × ((bucket - first) / step < count)
+abbrev pub IsInWindow : ℕ → ℕ → ℕ → ℕ → Type 0
+IsInWindow step first count bucket = (first ≤ bucket) × ((bucket - first) / step < count)
 
 -- the most values that are read at once, but for those of one bucket
 abbrev pub most_values : ℕ
@@ -45,9 +51,9 @@ abbrev pub AreNear : LayoutValue → ℕ → ℕ → Type 0
 AreNear layout i count = count ≤ max 1 (most_values / places_in layout i)
 
 -- a bucket with its value, where it has one
-abbrev pub given : ℕ → Option ℤ → List (ℕ × ℤ)
-given bucket None = []
-given bucket (Some value) = (bucket, value) ∷ []
+abbrev pub rolled_write : ℕ → Option ℤ → List (ℕ × ℤ)
+rolled_write bucket None = []
+rolled_write bucket (Some value) = (bucket, value) ∷ []
 
 -- what archive `i` gives archive `i + 1` for these writes
 abbrev pub next_writes : LayoutValue → List (ℕ × ℤ) → Rings → ℕ → List (ℕ × ℤ)

@@ -4,9 +4,9 @@ ghost use Rattle.std.specs.List.{list_any};
 ghost use Rattle.outside_io.specs.Frames.{ReadsOnly};
 ghost use Rattle.ring_format.specs.Patch.{IsPlace};
 ghost use Rattle.ring_archive.specs.Ring.{base_of};
-ghost use Rattle.ring_archive.specs.View.{IsBased, IsThere, OnRing};
+ghost use Rattle.ring_archive.specs.View.{IsThere, OnRing};
 ghost use Rattle.archive_update.specs.Batch.{step_of};
-ghost use Rattle.archive_update.specs.Laid.{IsAlike, IsBucketOf, IsCleared, IsLaid, IsRing, IsZeroed, Lays, Prepares, Writes};
+ghost use Rattle.archive_update.specs.Laid.{HasWritten, IsAlike, IsBucketOf, IsCleared, IsLaid, IsRing, IsZeroed, Lays, Prepares};
 
 use fixed_num::Milli;
 use outside_io::Disk;
@@ -28,11 +28,8 @@ pub(crate) fn write_values<D: Disk>(
     requires buckets { All
         (λ write. IsBucketOf (step_of view.now.layout.archives archive) write.0) writes.now }
     requires file { IsThere view.now patch.old.fresh (D.image disk.old) }
-    ensures writes { OnOk result
-        (OnRing view.now patch.old.fresh (D.image disk.old)
-        (Writes view.now.layout.archives patch.old patch.new archive writes.now)) }
-    ensures based { IfOk result
-        (λ base. IsBased view.now patch.new (D.image disk.old) archive base) }
+    ensures writes { IfOk result
+        (HasWritten view.now (D.image disk.old) patch.old patch.new archive writes.now) }
     ensures alike { IsAlike patch.old patch.new }
     ensures filled { OnOk result (patch.new.cells ≡ [] → writes.now ≡ []) }
     ensures frame { ReadsOnly D.Disk disk.old disk.new (IsErrOf result RingFault.DiskFault) }

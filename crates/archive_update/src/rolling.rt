@@ -7,7 +7,7 @@ ghost use Rattle.ring_archive.specs.View.{IsBased, IsThere, OnRing};
 ghost use Rattle.archive_update.specs.Batch.{bucket_of, buckets_of_writes, itself, level_writes, rolled_from, step_of, value_from_finer};
 ghost use Rattle.archive_update.specs.Buckets.{AreShown, IsOwn, IsShown};
 ghost use Rattle.archive_update.specs.Laid.{IsAlike};
-ghost use Rattle.archive_update.specs.Rolled.{AreNear, HasCoarser, HoldsStretch, IsInStretch, IsRead, IsReached, Level, RollsUp, given, known_from, most_values, places_in};
+ghost use Rattle.archive_update.specs.Rolled.{AreNear, HasCoarser, HoldsWindow, IsFiner, IsInWindow, IsRead, IsReached, Level, RollsUp, rolled_write, known_from, most_values, places_in};
 
 use crate::laying::write_values;
 use fixed_num::Milli;
@@ -22,17 +22,17 @@ const MOST_VALUES: u32 = 65_536;
 
 // Values of an archive that were read at once: those of so many buckets of the archive behind it, from one on.
 #[derive(Drop)]
-struct Stretch {
+struct FinerWindow {
     first: u32,
     count: u32,
     values: Vec<Option<Milli>>,
 }
 
-impl Stretch {
+impl FinerWindow {
     // Whether it has the values of a bucket.
     fn has(&self, step: u32, bucket: u32) -> bool
         requires { 0 < step }
-        ensures { IsTrue result ↔ IsInStretch step self.now.first self.now.count bucket }
+        ensures { IsTrue result ↔ IsInWindow step self.now.first self.now.count bucket }
     {
         self.first <= bucket && (bucket - self.first) / step < self.count
     }
@@ -81,8 +81,7 @@ fn roll_level<D: Disk>(
     own: &[(u32, Milli)],
 ) -> Result<Option<u32>, RingFault>
     requires layout { patch.old.layout ≡ view.now.layout }
-    requires finer { HasCoarser view.now.layout finer.archive }
-    requires based { IsBased view.now patch.old (D.image disk.old) finer.archive finer.base }
+    requires finer { IsFiner view.now patch.old (D.image disk.old) finer }
     requires own { All (λ write. IsReached
         (step_of view.now.layout.archives (finer.archive + 1)) write.0) own.now }
     requires file { IsThere view.now patch.old.fresh (D.image disk.old) }
@@ -146,8 +145,7 @@ fn level_writes<D: Disk>(
     buckets: &[u32],
 ) -> Result<Vec<(u32, Milli)>, RingFault>
     requires layout { patch.now.layout ≡ view.now.layout }
-    requires finer { HasCoarser view.now.layout finer.archive }
-    requires based { IsBased view.now patch.now (D.image disk.old) finer.archive finer.base }
+    requires finer { IsFiner view.now patch.now (D.image disk.old) finer }
     requires shown { All (IsShown (step_of view.now.layout.archives (finer.archive + 1))) buckets.now }
     requires file { IsThere view.now patch.now.fresh (D.image disk.old) }
     ensures writes { IfOk result
@@ -163,26 +161,26 @@ fn level_writes<D: Disk>(
     let step = view.layout.archive(finer.archive + 1).step;
     let mut writes = Vec::with_capacity(alloc, buckets.len())?;
     let mut known = Vec::new(alloc);
-    let mut stretch = Stretch {
+    let mut window = FinerWindow {
         first: 0,
         count: 0,
         values: Vec::new(alloc),
     };
     for (k, bucket) in buckets.iter().enumerate() {
-        stretch = stretch_at(alloc, view, disk, patch, finer, &buckets[k..], stretch)?;
-        let value = value_in(&mut known, &view.layout, places, step, &stretch, *bucket)?;
-        push_given(&mut writes, *bucket, value)?;
+        window = window_for(alloc, view, disk, patch, finer, &buckets[k..], window)?;
+        let value = value_in(&mut known, &view.layout, places, step, &window, *bucket)?;
+        push_rolled(&mut writes, *bucket, value)?;
     }
     Ok(writes)
 }
 
 // Adds a bucket with its value, where it has one.
-fn push_given(
+fn push_rolled(
     writes: &mut Vec<(u32, Milli)>,
     bucket: u32,
     value: Option<Milli>,
 ) -> Result<(), AllocError>
-    ensures { OnOk result (writes.new.items ≡ writes.old.items ++ given bucket value) }
+    ensures { OnOk result (writes.new.items ≡ writes.old.items ++ rolled_write bucket value) }
 {
     if let Some(value) = value {
         writes.push((bucket, value))?;
@@ -190,59 +188,57 @@ fn push_given(
     Ok(())
 }
 
-// The stretch, where it has the first of these buckets, and else one that begins with it.
-fn stretch_at<D: Disk>(
+// The window, where it has the first of these buckets, and else one that begins with it.
+fn window_for<D: Disk>(
     alloc: Global,
     view: &RingView<'_>,
     disk: &mut D,
     patch: &Patch,
     finer: BasedArchive,
     buckets: &[u32],
-    stretch: Stretch,
-) -> Result<Stretch, RingFault>
+    window: FinerWindow,
+) -> Result<FinerWindow, RingFault>
     requires layout { patch.now.layout ≡ view.now.layout }
-    requires finer { HasCoarser view.now.layout finer.archive }
-    requires based { IsBased view.now patch.now (D.image disk.old) finer.archive finer.base }
+    requires finer { IsFiner view.now patch.now (D.image disk.old) finer }
     requires shown { AreShown (step_of view.now.layout.archives (finer.archive + 1)) buckets.now }
     requires file { IsThere view.now patch.now.fresh (D.image disk.old) }
     requires held { IsRead view.now patch.now
-        (D.image disk.old) finer.archive stretch.first stretch.count stretch.values.items }
-    ensures held { IfOk result (λ stretch.
-        IsRead view.now patch.now (D.image disk.old) finer.archive stretch.first stretch.count stretch.values.items) }
+        (D.image disk.old) finer.archive window.first window.count window.values.items }
+    ensures held { IfOk result (λ window.
+        IsRead view.now patch.now (D.image disk.old) finer.archive window.first window.count window.values.items) }
     ensures has { IfOk result
-        (λ stretch. IsInStretch
-        (step_of view.now.layout.archives (finer.archive + 1)) stretch.first stretch.count
+        (λ window. IsInWindow
+        (step_of view.now.layout.archives (finer.archive + 1)) window.first window.count
         (slice_index buckets.now 0)) }
     ensures frame { ReadsOnly D.Disk disk.old disk.new (IsErrOf result RingFault.DiskFault) }
 {
     let step = view.layout.archive(finer.archive + 1).step;
-    if stretch.has(step, buckets[0]) {
-        return Ok(stretch);
+    if window.has(step, buckets[0]) {
+        return Ok(window);
     }
-    read_stretch(alloc, view, disk, patch, finer, buckets)
+    read_window(alloc, view, disk, patch, finer, buckets)
 }
 
-// Reads a stretch that begins with the first of these buckets, up to the last of them that is near enough.
-fn read_stretch<D: Disk>(
+// Reads a window that begins with the first of these buckets, up to the last of them that is near enough.
+fn read_window<D: Disk>(
     alloc: Global,
     view: &RingView<'_>,
     disk: &mut D,
     patch: &Patch,
     finer: BasedArchive,
     buckets: &[u32],
-) -> Result<Stretch, RingFault>
+) -> Result<FinerWindow, RingFault>
     requires layout { patch.now.layout ≡ view.now.layout }
-    requires finer { HasCoarser view.now.layout finer.archive }
-    requires based { IsBased view.now patch.now (D.image disk.old) finer.archive finer.base }
+    requires finer { IsFiner view.now patch.now (D.image disk.old) finer }
     requires shown { AreShown (step_of view.now.layout.archives (finer.archive + 1)) buckets.now }
     requires file { IsThere view.now patch.now.fresh (D.image disk.old) }
-    ensures held { IfOk result (λ stretch.
-        IsRead view.now patch.now (D.image disk.old) finer.archive stretch.first stretch.count stretch.values.items) }
+    ensures held { IfOk result (λ window.
+        IsRead view.now patch.now (D.image disk.old) finer.archive window.first window.count window.values.items) }
     ensures has { IfOk result
-        (λ stretch. IsInStretch
-        (step_of view.now.layout.archives (finer.archive + 1)) stretch.first stretch.count
+        (λ window. IsInWindow
+        (step_of view.now.layout.archives (finer.archive + 1)) window.first window.count
         (slice_index buckets.now 0)) }
-    ensures near { IfOk result (λ stretch. AreNear view.now.layout finer.archive stretch.count) }
+    ensures near { IfOk result (λ window. AreNear view.now.layout finer.archive window.count) }
     ensures frame { ReadsOnly D.Disk disk.old disk.new (IsErrOf result RingFault.DiskFault) }
 {
     let places = points_per_bucket(&view.layout, finer.archive);
@@ -251,7 +247,7 @@ fn read_stretch<D: Disk>(
     let first = buckets[0];
     let count = buckets_near(step, most, buckets);
     let values = view.cells_from(alloc, disk, patch, finer, first, count * places)?;
-    Ok(Stretch {
+    Ok(FinerWindow {
         first,
         count,
         values,
@@ -287,26 +283,26 @@ fn buckets_near(step: u32, most: u32, buckets: &[u32]) -> u32
     count
 }
 
-// The value that a bucket of a coarser archive with this step gets from a stretch, of which it covers so many
+// The value that a bucket of a coarser archive with this step gets from a window, of which it covers so many
 // places. The known of them are gathered in `known`, whose room serves one bucket after another.
 fn value_in(
     known: &mut Vec<Milli>,
     layout: &Layout,
     places: u32,
     step: u32,
-    stretch: &Stretch,
+    window: &FinerWindow,
     bucket: u32,
 ) -> Result<Option<Milli>, AllocError>
     requires step { 0 < step }
     requires short { places ≤ 31536000 }
-    requires has { stretch.now.first ≤ bucket }
+    requires has { window.now.first ≤ bucket }
     ensures { IfOk result
         (λ value. value ≡ rolled_from layout.now
-        (known_from stretch.now.values.items
-        ((bucket - stretch.now.first) / step * places) places) places) }
+        (known_from window.now.values.items
+        ((bucket - window.now.first) / step * places) places) places) }
 {
-    let at = ((bucket - stretch.first) / step) as usize * places as usize;
-    gather_known(known, &stretch.values, at, places)?;
+    let at = ((bucket - window.first) / step) as usize * places as usize;
+    gather_known(known, &window.values, at, places)?;
     Ok(rolled_from(layout, known, places))
 }
 

@@ -13,7 +13,7 @@ returns-then-is_empty-clause-plans g c =
 
 pub returns-clause-plans : goal.returns-clause-plans
 returns-clause-plans g c =
-    let laid = rw c.deref.ensures.value at c.in_ok-base.ensures.writes in
+    let laid = rw c.deref.ensures.value at c.in_ok-base.ensures.writes.laid in
     let rolls = rw c.deref-2.ensures.value at c.in_ok-roll_up.ensures.rolls in
     let moved = under_moved c.args.patch.now.fresh c.write_values.new.patch.fresh (g.D.Disk.image c.args.disk.now) (g.D.Disk.image c.write_values.new.disk) c.args.view.now.name.now _ c.in_ok-base.ensures.alike.fresh c.in_ok-base.ensures.frame.kept rolls in
     under_both c.args.patch.now.fresh (g.D.Disk.image c.args.disk.now) c.args.view.now.name.now _ _ _ laid moved (λ file laid rolls.

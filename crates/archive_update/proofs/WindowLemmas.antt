@@ -1,4 +1,4 @@
--- The values of a bucket in a stretch.
+-- The values of a bucket in a window.
 use Rattle.std.proofs.Common.{◌≡◌, ℕ, ℤ, ◌+◌, ◌-◌, ◌*◌, ◌/◌, ◌%◌, ◌<◌, ◌≤◌, List, length, get_or, take, drop, Option, inl, inr, sym, ap, ◌∙◌, arith}
 use Rattle.std.proofs.lemmas.Bool.{cases_lt}
 use Rattle.std.proofs.lemmas.List.{get_or-drop, get_or-take}
@@ -8,7 +8,7 @@ use Rattle.ring_format.specs.Layout.{LayoutValue}
 use Rattle.ring_format.specs.Patch.{PatchValue}
 use Rattle.ring_archive.specs.Ring.{ReadsAs, Rings, values_from}
 use Rattle.archive_update.specs.Batch.{rolled_from, step_of, value_from_finer}
-use Rattle.archive_update.specs.Rolled.{HoldsStretch, IsInStretch, known_from, places_in}
+use Rattle.archive_update.specs.Rolled.{HoldsWindow, IsInWindow, known_from, places_in}
 use Rattle.archive_update.proofs.RollLemmas.{given_value, read_known, some_archive_at, step_of_found}
 
 -- the way between two multiples is a multiple
@@ -27,10 +27,10 @@ multiples_apart first bucket step some le from to =
           omega (arith, ap (λ (x : ℕ). x * step) quotient)
     ]
 
-pub stretch_value : (patch : PatchValue) (layout : LayoutValue) (file : List ℕ) (i first count places step bucket : ℕ) (rings : Rings) (values : List (Option ℤ)) → patch.layout ≡ layout → i + 1 < length layout.archives → ReadsAs patch file rings
-    → HoldsStretch layout patch i first count values file → IsInStretch step first count bucket → 1 ≤ step → first % step ≡ 0 → bucket % step ≡ 0 → places ≡ places_in layout i → places * step_of layout.archives i ≡ step
+pub window_value : (patch : PatchValue) (layout : LayoutValue) (file : List ℕ) (i first count places step bucket : ℕ) (rings : Rings) (values : List (Option ℤ)) → patch.layout ≡ layout → i + 1 < length layout.archives → ReadsAs patch file rings
+    → HoldsWindow layout patch i first count values file → IsInWindow step first count bucket → 1 ≤ step → first % step ≡ 0 → bucket % step ≡ 0 → places ≡ places_in layout i → places * step_of layout.archives i ≡ step
     → rolled_from layout (known_from values ((bucket - first) / step * places) places) places ≡ value_from_finer layout rings i bucket
-stretch_value patch layout file i first count places step bucket rings values same within reads held has some from to is exact =
+window_value patch layout file i first count places step bucket rings values same within reads held has some from to is exact =
     let there = some_archive_at layout.archives i (omega arith) in
     let steps : places * there.0.step ≡ step = ap (λ (s : ℕ). places * s) (sym (step_of_found layout.archives i there.0 there.1)) ∙ exact in
     let m : ℕ = (bucket - first) / step in
