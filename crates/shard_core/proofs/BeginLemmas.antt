@@ -182,7 +182,7 @@ begins old cache picker table shelf path now patch empty one leaves makes sets p
   drains = drains_picked old cache picker table shelf path now patch empty one leaves makes sets put files lists;
   shelf = elim (on_shelf patch) [
     | inl none ↦ rw (put, none.0) tt
-    | inr some ↦ rw (put, some.0) (makes.plans.own, few)
+    | inr some ↦ rw (put, some.0) (record { own = makes.plans.own; all = refl; few = few })
   ];
   nothing = elim (on_shelf patch) [
     | inl none ↦ (λ _. needs_none old path now patch makes none.1, λ _. put ∙ none.0)

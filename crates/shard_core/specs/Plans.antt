@@ -14,6 +14,8 @@ use Rattle.metric_table.specs.declared.known.Known.{Known}
 use Rattle.point_cache.specs.Pending.{Cache, points_of}
 use Rattle.drain_order.specs.Pick.{pick, queue_after}
 use Rattle.drain_order.specs.Picking.{Follows, Picking, settled_with}
+use Rattle.write_shelf.specs.Runs.{runs_of}
+use Rattle.write_shelf.specs.Shelf.{DrainValue}
 use Rattle.carbon_model.specs.State.{State, picked}
 use Rattle.carbon_model.specs.Replay.{drained}
 use Rattle.shard_core.specs.Shard.{Holds, Inside, Stays}
@@ -35,13 +37,19 @@ NeedsNoWrite shard path now =
     IsSomeAnd (kept_layout shard.table path)
     (λ layout. All (λ p. archive_for layout.archives now p.0 ≡ None) (points_of shard.cache.metrics path))
 
+-- a drain of a metric with all its runs left to write
+pub record IsUnwritten (path : List ℕ) (drain : DrainValue) : Type 0 where
+  pub own : drain.patch.path ≡ path
+  pub all : drain.left ≡ runs_of drain.patch
+  pub few : length drain.left < 5000000
+
 -- A drain of the metric begins: it is drained for all that the shard says from now on, and its
 -- patch is on the shelf, unless there is nothing to write.
 pub record Begins (old new : Inside) (path : List ℕ) (now : ℕ) : Type 0 where
   pub empty : old.shelf ≡ None
   pub here : class_of path ≡ old.class
   pub drains : Drains old new path now
-  pub shelf : IfSome new.shelf (λ drain. (drain.patch.path ≡ path) × (length drain.left < 5000000))
+  pub shelf : IfSome new.shelf (IsUnwritten path)
   pub nothing : (new.shelf ≡ None) ↔ NeedsNoWrite old path now
   pub fewer : length new.cache.metrics < length old.cache.metrics
 

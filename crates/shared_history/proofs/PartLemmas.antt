@@ -1,5 +1,5 @@
 -- What the rule says, part by part.
-use Rattle.std.proofs.Common.{◌≡◌, ◌==◌, ◌∙◌, ℕ, suc, ◌≤◌, inl, inr, Bool, List, [], ◌∷◌, ◌++◌, length, get_or, refl, ap, sym, subst}
+use Rattle.std.proofs.Common.{◌≡◌, ◌==◌, ◌∙◌, ℕ, suc, ◌≤◌, inl, inr, Bool, List, [], ◌∷◌, ◌++◌, length, get_or, refl, ap, sym, subst, arith}
 use Rattle.std.specs.Prelude.{Option, Some, None, filter}
 use Rattle.std.proofs.lemmas.List.{append-nil}
 use mathlib.Core.List.{IsPrefix}
@@ -11,7 +11,7 @@ use Rattle.shared_history.specs.declared.view.Lead.{Lead}
 use Rattle.shared_history.specs.declared.view.Branch.{Branch}
 use Rattle.shared_history.specs.declared.view.View.{View}
 use Rattle.carbon_history.specs.Entries.{about_class, is_about, listed, pass_of}
-use Rattle.shared_history.specs.Laws.{AllBegin, IsPart, Knows, LooksBehind, OneOrder, OneTail, PassesCount}
+use Rattle.shared_history.specs.Laws.{AllBegin, IsPart, Knows, LooksBehind, LooksOfMade, OneOrder, OneTail, PassesCount}
 use Rattle.shared_history.specs.Rule.{FitsBranch, FitsLead, FitsOwn, Kept, OneOwed, whole}
 use Rattle.shared_history.specs.Views.{look_at}
 use Rattle.shared_history.proofs.CountLemmas.{few_entries}
@@ -24,6 +24,13 @@ part_at : (f : Entry → Bool) (base : List Entry) (waiting : Option Entry) → 
 part_at f base None = inl (ap (filter f) (append-nil base))
 part_at f base (Some e) =
     by_bit (f e) (IsPart f (base ++ e ∷ []) (filter f base)) (λ hit. inr (base, e, refl, filter_hit f base e hit)) (λ miss. inl (filter_miss f base e miss))
+
+prefix_of_none : {A : Type 0} (xs ys : List A) → ys ≡ [] → IsPrefix xs ys → xs ≡ []
+prefix_of_none [] ys is p = refl
+prefix_of_none (x ∷ xs) ys is p = absurd (cc (p.1 ∙ is))
+
+none_below : (n m : ℕ) → n ≤ m → m ≡ 0 → n ≡ 0
+none_below n m few is = omega (arith, few, is)
 
 module _ (s : State Entry View) (k : Kept s) where
   lead_fits : (i : ℕ) (v : View) (l : Lead) → Knows s i v → v.lead ≡ Some l → FitsLead k.book i (Some l)
@@ -82,6 +89,17 @@ module _ (s : State Entry View) (k : Kept s) where
         list = subst (λ (xs : List Entry). IsPrefix (look_at t.class o.looks).list xs) (sym f.2) look.0;
         settled = subst (λ (n : ℕ). (look_at t.class o.looks).settled ≤ n) (sym f.3) look.1;
         runs = subst (λ (n : ℕ). (look_at t.class o.looks).runs ≤ n) (sym f.4) look.2;
+      }
+
+  pub looks_of_made : LooksOfMade s k.book.classes
+  looks_of_made i v o class at is late =
+      let look = (own_fits i v o at is).4 class in
+      let state = k.known.no_state class late in
+      let l = look_at class o.looks in
+      record {
+        list = prefix_of_none l.list (about_class class k.book.base) (base_no_class k.book k.known class late) look.0;
+        settled = none_below l.settled (k.book.settled class) look.1 state.0;
+        runs = none_below l.runs (k.book.runs class) look.2 state.1;
       }
 
   pub passes_count : PassesCount s (whole k.book) k.book.passes k.book.classes

@@ -65,6 +65,17 @@ abbrev pub LooksBehind : State Entry View → Type 0
 LooksBehind s = (i j : ℕ) (v w : View) (o : Own) (t : Branch)
     → Knows s i v → Knows s j w → v.own ≡ Some o → w.branch ≡ Some t → IsBehind (look_at t.class o.looks) t
 
+-- a look that found nothing
+pub record IsEmptyLook (look : Look) : Type 0 where
+  pub list : look.list ≡ []
+  pub settled : look.settled ≡ 0
+  pub runs : look.runs ≡ 0
+
+-- of a class that was not made a pass has no other look
+abbrev pub LooksOfMade : State Entry View → ℕ → Type 0
+LooksOfMade s classes = (i : ℕ) (v : View) (o : Own) (class : ℕ)
+    → Knows s i v → v.own ≡ Some o → classes ≤ class → IsEmptyLook (look_at class o.looks)
+
 -- Just one seat has each pass that was made. Every entry names a pass that was made and is about none of the classes that
 -- were not; the history has at most 2^48 entries of each pass; what a pass has seen has all of these, but perhaps the last one.
 pub record PassesCount (s : State Entry View) (history : List Entry) (passes classes : ℕ) : Type 0 where

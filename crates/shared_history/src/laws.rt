@@ -3,7 +3,7 @@
 ghost use Rattle.atomic_table.specs.Table.{State};
 ghost use Rattle.carbon_history.specs.declared.entry.Entry.{Entry as EntryValue};
 ghost use Rattle.shared_history.specs.declared.view.View.{View as ViewValue};
-ghost use Rattle.shared_history.specs.Laws.{AllBegin, LooksBehind, OneOrder, OneTail, PassesCount};
+ghost use Rattle.shared_history.specs.Laws.{AllBegin, LooksBehind, LooksOfMade, OneOrder, OneTail, PassesCount};
 ghost use Rattle.shared_history.specs.Rule.{Kept, whole};
 
 /// The first word counts the history, and just one seat may append to it.
@@ -25,6 +25,11 @@ pub fn what_is_seen_begins_the_history()
 /// Looks at a class are behind the class.
 pub fn looks_are_behind_their_class()
     ensures { (s : State EntryValue ViewValue) (k : Kept s) → LooksBehind s }
+{}
+
+/// A look at a class that was not made has found nothing.
+pub fn looks_are_of_classes_that_were_made()
+    ensures { (s : State EntryValue ViewValue) (k : Kept s) → LooksOfMade s k.book.classes }
 {}
 
 /// Each pass has just one seat and has seen its own entries, and each entry is of a pass that was

@@ -21,7 +21,7 @@ use Rattle.carbon_model.specs.Replay.{after, replay}
 use Rattle.carbon_model.proofs.HistoryLemmas.{replay-append}
 use Rattle.shard_core.specs.Shard.{Holds, Inside, Stays}
 use Rattle.shard_core.specs.Puts.{TakesPoint}
-use Rattle.shard_core.specs.Plans.{Begins, PlansTo}
+use Rattle.shard_core.specs.Plans.{Begins, IsUnwritten, PlansTo}
 use Rattle.shard_core.specs.Writes.{WritesTo}
 use Rattle.shard_core.specs.declared.planned.Planned.{Planned}
 use Rattle.shard_core.specs.declared.planned.Planned.TheVariants as planned
@@ -90,11 +90,11 @@ last_kept list e quiet None was = tt
 last_kept list e quiet (Some drain) was = last_with drain.patch.path list e quiet was
 
 last_begun : (list : List Entry) (pass now : ℕ) (path : List ℕ) (shelf : Option DrainValue)
-    → IfSome shelf (λ drain. (drain.patch.path ≡ path) × (length drain.left < 5000000))
+    → IfSome shelf (IsUnwritten path)
     → IfSome shelf (λ drain. LastDrains drain.patch.path (list ++ entry.Drain pass path now ∷ []))
 last_begun list pass now path None begun = tt
 last_begun list pass now path (Some drain) begun =
-    subst (λ (p : List ℕ). LastDrains p (list ++ entry.Drain pass path now ∷ [])) (sym begun.0)
+    subst (λ (p : List ℕ). LastDrains p (list ++ entry.Drain pass path now ∷ [])) (sym begun.own)
     (record { before = list; pass = pass; now = now; since = []; is = refl; last = refl })
 
 last_marked : (list : List Entry) (old new : Option DrainValue) → new ≡ marked old → IfSome old (λ drain. LastDrains drain.patch.path list)
@@ -305,7 +305,7 @@ module _ (table : TableId) (told : ℕ → Option Image) (start : State) (faults
       let e : Entry = entry.Drain pass path now in
       let one = one_drain tail.list e refl in
       let even = keeps.settled.0 begins.empty in
-      let few : length drain.left < 5000000 = (subst (λ (s : Option DrainValue). IfSome s (λ d. (d.patch.path ≡ path) × (length d.left < 5000000))) is begins.shelf).1 in
+      let few : length drain.left < 5000000 = (subst (λ (s : Option DrainValue). IfSome s (IsUnwritten path)) is begins.shelf).few in
       keeps_now old new failed later tail (tail_with tail e) keeps refl refl class
       (begun_holds old new failed now pass tail path keeps begins)
       ((λ none. absurd (cc (none, is))), (λ all. absurd (omega (arith, one, even, all))))

@@ -1,12 +1,16 @@
 -- The puts of a piece, one after the other.
 use Rattle.std.proofs.Common.{◌≡◌, ◌∙◌, ℕ, zero, suc, ◌<◌, ◌≤◌, ◌+◌, ◌^◌, Bool, true, false, cond, List, [], ◌∷◌, ◌++◌, length, Option, Some, None, IfSome, refl, sym, ap, subst, arith, length-append, slice_get}
-use Rattle.std.specs.Prelude.{count_by, slice_index_or}
+use Rattle.std.specs.Prelude.{count_by, nat_eq, slice_index_or}
 use Rattle.std.proofs.lemmas.Bool.{false≢true}
+use Rattle.std.proofs.lemmas.Cmp.{nat_eq_equiv}
+use Rattle.std.proofs.lemmas.List.{length-map}
+use Rattle.std.proofs.lemmas.List.Folds.{list_any_at}
 use Rattle.std.proofs.lemmas.List.Sums.{sum_by-append, sum_by-cons}
 use Rattle.carbon_history.specs.declared.entry.Entry.{Entry}
 use Rattle.carbon_history.specs.declared.entry.PutEnd.{PutEnd}
 use Rattle.carbon_history.specs.declared.entry.PutEnd.TheVariants as end
 use Rattle.carbon_history.specs.Entries.{listed}
+use Rattle.metric_path.specs.Class.{class_of}
 use Rattle.metric_line.specs.declared.datum.Datum.{Datum}
 use Rattle.point_cache.specs.declared.put.Put.{Put}
 use Rattle.point_cache.specs.declared.put.Put.TheVariants as put
@@ -15,7 +19,7 @@ use Rattle.carbon_model.specs.Replay.{IsLegal, replay}
 use Rattle.shared_history.specs.Parts.{PassValue, own_entries}
 use Rattle.shared_store.specs.declared.put_counts.PutCounts.{PutCounts}
 use Rattle.shared_store.specs.Passes.{Enters, HasRoom, SameLooks}
-use Rattle.shared_store.specs.Pieces.{CountsPut, FewCounts, HasRoomFor, PutsFirst, PutsSoFar, counts_of, counts_with, put_by, puts_of}
+use Rattle.shared_store.specs.Pieces.{CountsPut, FewCounts, HasRoomFor, PutsFirst, PutsSoFar, classes_in, counts_of, counts_with, is_among, put_by, puts_of}
 use Rattle.shared_store.specs.Steps.{AfterPut, put_entry}
 use Rattle.shared_store.specs.Tallies.{is_end}
 use Rattle.shared_store.proofs.AskPassLemmas.{enters_both}
@@ -26,6 +30,12 @@ pub get_there : {X : Type 0} (xs : List X) (i : ℕ) (x : X) → i < length xs �
 get_there [] i x less e = absurd (omega (arith, less))
 get_there (y ∷ xs) zero x less e = ap Some e
 get_there (y ∷ xs) (suc i) x less e = get_there xs i x (omega (arith, less)) e
+
+pub stands_among : (points : List Datum) (classes : List ℕ) (i : ℕ) → classes ≡ classes_in points → i < length points → is_among (slice_index_or classes i 0) classes ≡ true
+stands_among points classes i is less =
+    let k : ℕ = slice_index_or classes i 0 in
+    let many : length classes ≡ length points = ap (λ (l : List ℕ). length l) is ∙ length-map points (λ (datum : Datum). class_of datum.path) in
+    list_any_at (nat_eq k) classes i 0 (subst (λ (n : ℕ). i < n) (sym many) less) (nat_eq_equiv.refl k)
 
 none_behind : {X : Type 0} (xs : List X) → slice_get xs (length xs) ≡ None
 none_behind [] = refl

@@ -134,6 +134,10 @@ AreDesks desks =
     (k : ℕ) (d : MutexGuard DeskValue) → k < length desks
     → (mutex_guard_value (slice_index_or desks k d)).class ≡ k
 
+-- the locks of all classes are held
+abbrev pub AreAllDesksOf : List Entry → List (MutexGuard DeskValue) → Type 0
+AreAllDesksOf list desks = AreDesksOf list desks × (length desks ≡ 16)
+
 -- the locks of all classes are held, or none
 abbrev pub IsHeld : List Entry → List (MutexGuard DeskValue) → Type 0
 IsHeld list desks = AreDesksOf list desks × ((length desks ≡ 0) ⊎ (length desks ≡ 16))

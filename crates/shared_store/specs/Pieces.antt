@@ -1,5 +1,8 @@
 -- What the puts of a piece of points tell.
-use Rattle.std.specs.Prelude.{◌≡◌, ◌<◌, ◌≤◌, ◌+◌, ◌^◌, ℕ, Bool, true, false, List, [], ◌∷◌, length, count_by, map, slice_get, IfSome}
+use Rattle.std.specs.Prelude.{◌≡◌, ◌<◌, ◌≤◌, ◌+◌, ◌^◌, ℕ, Bool, true, false, List, [], ◌∷◌, length, count_by, map, nat_eq, slice_get, slice_index_or, Option, None, Some, IfSome}
+use Rattle.std.specs.List.{list_any}
+use Rattle.std.specs.Sync.Mutex.{mutex_guard_value}
+use Rattle.std.specs.declared.sync.MutexGuard.{MutexGuard}
 use Rattle.carbon_history.specs.declared.entry.Entry.{Entry}
 use Rattle.carbon_history.specs.declared.entry.Entry.TheVariants as entry
 use Rattle.carbon_history.specs.declared.entry.PutEnd.{PutEnd}
@@ -12,6 +15,7 @@ use Rattle.carbon_model.specs.State.{State}
 use Rattle.carbon_model.specs.Replay.{IsLegal, replay}
 use Rattle.shared_history.specs.Parts.{PassValue, own_entries}
 use Rattle.shared_store.specs.declared.put_counts.PutCounts.{PutCounts}
+use Rattle.shared_store.specs.Desks.{DeskValue}
 use Rattle.shared_store.specs.Passes.{Enters}
 use Rattle.shared_store.specs.Tallies.{is_end}
 
@@ -43,7 +47,7 @@ pub record PutsFirst (start : State) (passes : ℕ) (points : List Datum) (count
   pub counted : counts ≡ counts_of ends
   pub memory : IfSome (slice_get points (length ends)) (λ datum. IsLegal (replay start new.seen) (put_by new.number datum end.Stored))
 
--- the same, or there was no memory for the classes of the points or for the locks of all, and none was put
+-- the same, or there was no memory for the classes of the points or for their locks, and none was put
 pub record PutsNone (start : State) (passes : ℕ) (counts : PutCounts) (old new : PassValue) : Type 0 where
   pub enters : Enters start passes [] old new
   pub counted : counts ≡ counts_of []
@@ -57,6 +61,31 @@ HasRoomFor points pass = length (own_entries pass) + (length points + 4) ≤ 2 ^
 -- the class of each of the points
 abbrev pub classes_in : List Datum → List ℕ
 classes_in points = map (λ datum. class_of datum.path) points
+
+-- a class is one of these
+abbrev pub is_among : ℕ → List ℕ → Bool
+is_among k classes = list_any (nat_eq k) classes
+
+-- the lock of a class is held
+abbrev pub IsDesk : ℕ → Option (MutexGuard DeskValue) → Type 0
+IsDesk k None = ⊥
+IsDesk k (Some desk) = (mutex_guard_value desk).class ≡ k
+
+-- it is held in the place of the class
+abbrev pub HoldsClass : ℕ → List (Option (MutexGuard DeskValue)) → Type 0
+HoldsClass k desks =
+    (d : Option (MutexGuard DeskValue)) → k < length desks → IsDesk k (slice_index_or desks k d)
+
+-- so are the locks of these classes; of the others nothing is said
+abbrev pub HoldsClasses : List ℕ → List (Option (MutexGuard DeskValue)) → Type 0
+HoldsClasses classes desks =
+    (k : ℕ) (d : Option (MutexGuard DeskValue)) → k < length desks → is_among k classes ≡ true
+    → IsDesk k (slice_index_or desks k d)
+
+-- what was held still is
+abbrev pub KeepsHeld : List (Option (MutexGuard DeskValue)) → List (Option (MutexGuard DeskValue))
+    → Type 0
+KeepsHeld old new = (k : ℕ) → HoldsClass k old → HoldsClass k new
 
 -- the counts have room for one more
 pub record FewCounts (counts : PutCounts) : Type 0 where

@@ -24,7 +24,7 @@ impl<D: Disk, N: Named> Store<D, N> {
     ghost use Rattle.render_plan.specs.Needed.{AreEnds};
     ghost use Rattle.shared_history.specs.Events.{MayAsk, ask_by};
     ghost use Rattle.shared_history.specs.Parts.{own_entries};
-    ghost use Rattle.shared_store.specs.Asking.{AnswersTry, AreDesks, AreDesksOf, EntersBehind, EntersTries, IsNoMove, MarksAll, TriesTo};
+    ghost use Rattle.shared_store.specs.Asking.{AnswersTry, AreAllDesksOf, AreDesks, AreDesksOf, EntersBehind, EntersTries, IsNoMove, MarksAll, TriesTo};
     ghost use Rattle.shared_store.specs.Asks.{Asks};
     ghost use Rattle.shared_store.specs.Passes.{HasRoom, LooksOn};
 
@@ -133,8 +133,7 @@ impl<D: Disk, N: Named> Store<D, N> {
         now: u32,
         attempt: u32,
     ) -> Result<SeriesRows, TryEnd>
-        requires sixteen { vec_len desks ≡ 16 }
-        requires desks { AreDesksOf pass.old.seen desks.items }
+        requires desks { AreAllDesksOf pass.old.seen desks.items }
         requires one { pass.old.table ≡ N.table }
         requires room { length (own_entries pass.old) + 1 ≤ 2 ^ 48 }
         requires needs { All AreEnds needs.now }

@@ -1,10 +1,9 @@
-//! The points of a piece, put under the locks of all classes.
+//! The points of a piece, put under the locks of their classes.
 ghost use Rattle.std.specs.Prelude.{◌≡◌, ◌<◌, IfOk, vec_len};
 ghost use Rattle.metric_path.specs.Class.{class_of};
 ghost use Rattle.carbon_history.specs.Entries.{listed};
-ghost use Rattle.shared_store.specs.Asking.{AreDesks};
 ghost use Rattle.shared_store.specs.Passes.{Enters, HasRoom, SameLooks};
-ghost use Rattle.shared_store.specs.Pieces.{HasRoomFor, PutsFirst, classes_in};
+ghost use Rattle.shared_store.specs.Pieces.{HasRoomFor, HoldsClass, HoldsClasses, IsDesk, KeepsHeld, PutsFirst, classes_in};
 ghost use Rattle.shared_store.specs.Steps.{AfterPut, put_entry};
 
 use crate::class_desk::ClassDesk;
@@ -58,15 +57,36 @@ fn classes_of(alloc: Global, points: &[Datum]) -> Result<Vec<u32>, AllocError>
     points.iter().map(|datum| datum.path.class()).collect(alloc)
 }
 
-// Puts a point of a class, where the locks of all classes and that of the order are held.
+// Puts a point of a class, where its lock and that of the order are held.
+fn put_here<D: Disk, N: Named>(
+    desk: &mut Option<MutexGuard<'_, ClassDesk<D, N>>>,
+    order: &mut OrderDesk<N>,
+    pass: &mut Pass,
+    datum: &Datum,
+) -> Put
+    requires desk { IsDesk (class_of datum.now.path) desk.old }
+    requires one { pass.old.table ≡ N.table }
+    requires room { HasRoom pass.old }
+    ensures enters { Enters N.start N.passes
+        (listed (put_entry pass.old.number datum.now.path datum.now.time datum.now.value result))
+        pass.old pass.new }
+    ensures after { AfterPut N.start datum.now.path datum.now.time datum.now.value result pass.new }
+    ensures looks { SameLooks pass.old pass.new }
+    ensures desk { IsDesk (class_of datum.now.path) desk.new }
+{
+    let Some(desk) = desk else { unreachable!() };
+    desk.put_under(order, pass, datum)
+}
+
+// Puts a point of a class, whose lock is held in the class's place.
 fn put_held<D: Disk, N: Named>(
-    desks: &mut Vec<MutexGuard<'_, ClassDesk<D, N>>>,
+    desks: &mut Vec<Option<MutexGuard<'_, ClassDesk<D, N>>>>,
     order: &mut OrderDesk<N>,
     pass: &mut Pass,
     datum: &Datum,
     class: u32,
 ) -> Put
-    requires desks { (vec_len desks.old ≡ 16) × AreDesks desks.old.items }
+    requires desks { (vec_len desks.old ≡ 16) × HoldsClass class desks.old.items }
     requires class { (class < 16) × (class_of datum.now.path ≡ class) }
     requires one { pass.old.table ≡ N.table }
     requires room { HasRoom pass.old }
@@ -75,21 +95,22 @@ fn put_held<D: Disk, N: Named>(
         pass.old pass.new }
     ensures after { AfterPut N.start datum.now.path datum.now.time datum.now.value result pass.new }
     ensures looks { SameLooks pass.old pass.new }
-    ensures desks { (vec_len desks.new ≡ 16) × AreDesks desks.new.items }
+    ensures desks { (vec_len desks.new ≡ 16) × KeepsHeld desks.old.items desks.new.items }
 {
     let desk = &mut desks[class as usize];
-    desk.put_under(order, pass, datum)
+    put_here(desk, order, pass, datum)
 }
 
 // Puts points of these classes in order, up to the first for which there is no memory.
 fn put_each<D: Disk, N: Named>(
-    desks: &mut Vec<MutexGuard<'_, ClassDesk<D, N>>>,
+    desks: &mut Vec<Option<MutexGuard<'_, ClassDesk<D, N>>>>,
     order: &mut OrderDesk<N>,
     pass: &mut Pass,
     points: &[Datum],
     classes: &[u32],
 ) -> PutCounts
-    requires desks { (vec_len desks.old ≡ 16) × AreDesks desks.old.items }
+    requires sixteen { vec_len desks.old ≡ 16 }
+    requires held { HoldsClasses classes.now desks.old.items }
     requires classes { classes.now ≡ classes_in points.now }
     requires one { pass.old.table ≡ N.table }
     requires room { HasRoomFor points.now pass.old }
@@ -108,9 +129,42 @@ fn put_each<D: Disk, N: Named>(
 }
 
 impl<D: Disk, N: Named> Store<D, N> {
-    ghost use Rattle.std.specs.Prelude.{◌≡◌, ◌⊎◌};
+    ghost use Rattle.std.specs.Prelude.{◌≡◌, ◌<◌, ◌⊎◌, IfOk, true, vec_len};
     ghost use Rattle.shared_store.specs.Passes.{SameLooks};
-    ghost use Rattle.shared_store.specs.Pieces.{HasRoomFor, PutsFirst, PutsNone};
+    ghost use Rattle.shared_store.specs.Pieces.{HasRoomFor, HoldsClasses, IsDesk, PutsFirst, PutsNone, is_among};
+
+    // The lock of a class, where it is one of these.
+    fn lock_among<'a>(
+        &'a self,
+        rt: &impl Wait,
+        classes: &[u32],
+        class: u32,
+    ) -> Option<MutexGuard<'a, ClassDesk<D, N>>>
+        requires { class < 16 }
+        ensures { is_among class classes.now ≡ true → IsDesk class result }
+    {
+        if !classes.contains(&class) {
+            return None;
+        }
+        Some(self.lock_class(rt, class))
+    }
+
+    // The locks of these classes, taken in order, each in the place of its class.
+    fn lock_some<'a>(
+        &'a self,
+        rt: &impl Wait,
+        alloc: Global,
+        classes: &[u32],
+    ) -> Result<Vec<Option<MutexGuard<'a, ClassDesk<D, N>>>>, AllocError>
+        ensures sixteen { IfOk result (λ desks. vec_len desks ≡ 16) }
+        ensures held { IfOk result (λ desks. HoldsClasses classes.now desks.items) }
+    {
+        let mut desks = Vec::with_capacity(alloc, 16)?;
+        for class in 0..16 {
+            desks.push(self.lock_among(rt, classes, class))?;
+        }
+        Ok(desks)
+    }
 
     // No point is put, and the pass sees the whole history.
     fn put_none(&self, rt: &impl Wait, pass: &mut Pass) -> PutCounts
@@ -122,9 +176,9 @@ impl<D: Disk, N: Named> Store<D, N> {
         PutCounts::new()
     }
 
-    /// Puts the points of a piece in order, under the locks of all classes and that of the order,
+    /// Puts the points of a piece in order, under the locks of their classes and that of the order,
     /// which are taken once: one entry for each point, with its outcome. Their classes are found
-    /// before. Want of memory ends it, and what was put before stays.
+    /// before, and no other class is locked. Want of memory ends it, and what was put before stays.
     pub fn put_all(
         &self,
         rt: &impl Wait,
@@ -141,7 +195,7 @@ impl<D: Disk, N: Named> Store<D, N> {
         let Ok(classes) = classes_of(alloc, points) else {
             return self.put_none(rt, pass);
         };
-        let Ok(mut desks) = self.lock_all(rt, alloc) else {
+        let Ok(mut desks) = self.lock_some(rt, alloc, classes.as_slice()) else {
             return self.put_none(rt, pass);
         };
         let mut guard = self.order.lock(rt);

@@ -3,6 +3,8 @@
 #[cfg(test)]
 mod shared_history_tests;
 #[cfg(test)]
+mod shared_store_class_tests;
+#[cfg(test)]
 mod shared_store_kit;
 #[cfg(test)]
 mod shared_store_tests;

@@ -7,7 +7,7 @@ ghost use Rattle.shard_set.specs.OpeningState.{opening_of};
 ghost use Rattle.shared_history.specs.Parts.{PassesOfTable};
 ghost use Rattle.shared_store.specs.Starts.{IsFresh};
 
-use crate::shared_store_tests::{NOW, START, digit};
+use crate::shared_store_tests::{NOW, START, digit, has_room_for};
 use drain_order::Strategy;
 use gate_io::Flag;
 use metric_line::{Datum, read_line};
@@ -37,6 +37,8 @@ use std::time::{Clock, Duration};
 pub(crate) enum Deed {
     // A point of a metric is put: its minute, of which 0 begins at `START`, and its value.
     Put(&'static str, u32, u32),
+    // Such points are put as one piece.
+    PutAll(&'static [(&'static str, u32, u32)]),
     // A drain of a class is planned.
     Plan(u32),
     // A run of a class is written.
@@ -56,6 +58,7 @@ pub(crate) enum Deed {
 #[derive(Drop)]
 pub(crate) enum Reply {
     Put(Put),
+    PutAll(PutCounts),
     Planned(Planned),
     Wrote(Wrote),
     Stepped(Step),
@@ -118,6 +121,14 @@ fn datum_of(alloc: Global, path: &str, minute: u32, value: u32) -> Option<Datum>
     line.extend_from_slice(&word_of(value)).ok()?;
     line.extend_from_slice(&word_of(moment)).ok()?;
     read_line(alloc, line.as_slice(), START).ok()
+}
+
+fn points_of(alloc: Global, piece: &[(&'static str, u32, u32)]) -> Option<Vec<Datum>> {
+    let mut points = Vec::new(alloc);
+    for (path, minute, value) in piece {
+        points.push(datum_of(alloc, path, *minute, *value)?).ok()?;
+    }
+    Some(points)
 }
 
 // A need of the minutes from `START` on up to `NOW`.
@@ -198,6 +209,21 @@ impl<N: Named> Worker<N> {
         Some(Reply::Put(store.put(rt, &mut self.pass, datum)))
     }
 
+    fn put_all<D: Disk>(
+        &mut self,
+        rt: &impl Wait,
+        alloc: Global,
+        store: &Store<D, N>,
+        piece: &[(&'static str, u32, u32)],
+    ) -> Option<Reply> {
+        let points = points_of(alloc, piece)?;
+        if !has_room_for(&self.pass, points.as_slice()) {
+            return None;
+        }
+        let counts = store.put_all(rt, alloc, &mut self.pass, points.as_slice());
+        Some(Reply::PutAll(counts))
+    }
+
     fn plan<D: Disk>(&mut self, rt: &impl Wait, store: &Store<D, N>, class: u32) -> Option<Reply> {
         if !has_room(&self.pass) {
             return None;
@@ -255,6 +281,7 @@ impl<N: Named> Worker<N> {
             Deed::Put(path, minute, value) => {
                 self.put(rt, store, &datum_of(alloc, path, minute, value)?)
             }
+            Deed::PutAll(piece) => self.put_all(rt, alloc, store, piece),
             Deed::Plan(class) => self.plan(rt, store, class),
             Deed::Write(class) => self.write(rt, store, class),
             Deed::Step(class) => self.step(rt, store, class),

@@ -244,7 +244,8 @@ fn seen_in(alloc: Global, rows: &SeriesRows) -> Result<Vec<u32>, Fail> {
 // ---- the replay
 
 // What a caller's deeds come to so far: the numbers of its metrics by minutes, how many entries it
-// made of each kind, how many in all, and the last number of each other caller that it saw.
+// made of each kind, how many in all, the last number of each other caller that it saw, and the last
+// numbers of all callers at each question about all.
 #[derive(Drop)]
 struct Replay {
     caller: usize,
@@ -252,7 +253,11 @@ struct Replay {
     tally: Tally,
     entries: u64,
     seen: Vec<u32>,
+    fronts: Vec<Front>,
 }
+
+// The last number of each caller at one moment.
+type Front = [u32; CALLERS];
 
 // The place of a metric's minute among those of its caller.
 fn place_of(path: &str, minute: u32) -> usize {
@@ -270,6 +275,7 @@ impl Replay {
             tally: Tally::new(),
             entries: 0,
             seen: vec![in alloc; 0; CALLERS]?,
+            fronts: Vec::new(alloc),
         })
     }
 
@@ -358,6 +364,14 @@ fn greatest(numbers: &[u32]) -> u32 {
     numbers.iter().copied().max().unwrap_or(0)
 }
 
+fn front_of(numbers: &[u32]) -> Front {
+    let mut front = [0; CALLERS];
+    for (last, part) in front.iter_mut().zip(numbers.chunks(PLACES)) {
+        *last = greatest(part);
+    }
+    front
+}
+
 fn is_of_all(deed: Deed) -> bool {
     match deed {
         Deed::Ask(globs) => globs.iter().any(|glob| *glob == ALL),
@@ -429,6 +443,9 @@ impl Replay {
     ) -> Result<bool, Fail> {
         let numbers = seen_in(alloc, rows)?;
         self.entries = self.entries.saturating_add(tries);
+        if of_all {
+            self.fronts.push(front_of(&numbers))?;
+        }
         let are_right = self.are_right(alloc, jobs, numbers.as_slice(), of_all)?;
         Ok(are_right && tries > 0 && tries < 4)
     }
@@ -483,6 +500,42 @@ fn replays_of(rt: &impl Abort, alloc: Global, jobs: &[Job]) -> Result<Vec<Replay
         replays.push(replay_of(rt, alloc, jobs, caller, job)?)?;
     }
     Ok(replays)
+}
+
+// ---- one history
+
+fn all_fronts(alloc: Global, replays: &[Replay]) -> Result<Vec<Front>, AllocError> {
+    let mut fronts = Vec::new(alloc);
+    for replay in replays {
+        for front in replay.fronts.iter() {
+            fronts.push(*front)?;
+        }
+    }
+    Ok(fronts)
+}
+
+fn goes_on(before: &Front, after: &Front) -> bool {
+    before
+        .iter()
+        .zip(after.iter())
+        .all(|(one, other)| one <= other)
+}
+
+fn is_before_or_behind(front: &Front, fronts: &[Front]) -> bool {
+    fronts
+        .iter()
+        .all(|other| goes_on(front, other) || goes_on(other, front))
+}
+
+// Whoever asks, the moments of all questions stand in one order: none has more of one caller and less
+// of another than a second one.
+fn assert_one_order(rt: &impl Abort, fronts: &[Front]) -> Result<(), Fail> {
+    for (n, front) in fronts.iter().enumerate() {
+        assert!(rt; is_before_or_behind(front, fronts), "question {n}");
+    }
+    // each caller asks for all in every sixteenth round, and the first one at the end
+    assert!(rt; fronts.len() == 101);
+    Ok(())
 }
 
 // ---- the files
@@ -665,5 +718,6 @@ fn four_callers_at_once_are_told_what_they_put(rt: HostRuntime) -> Result<(), Fa
     let replays = replays_of(&rt, alloc, &jobs)?;
     assert!(rt; closed.tally == tally_of(&replays));
     assert!(rt; closed.history.len() == entries_of(&replays));
+    assert_one_order(&rt, &all_fronts(alloc, &replays)?)?;
     assert_files(&rt, alloc, closed.disks, &replays)
 }

@@ -8,7 +8,7 @@ use metric_path::CLASSES;
 use outside_io::{Disk, MemDisk};
 use point_cache::Put;
 use shard_core::Wrote;
-use shared_store::Tally;
+use shared_store::{PutCounts, Tally};
 use std::alloc::{AllocError, Global};
 use std::process::Abort;
 use std::sync::Wait;
@@ -20,6 +20,7 @@ use std::time::Clock;
 #[derive(Clone, Copy)]
 enum End {
     Put(Put),
+    PutAll(PutCounts),
     // The path of the metric of which a drain was begun, or how else the plan ends.
     Planned(&'static str),
     Wrote(Wrote),
@@ -144,6 +145,13 @@ fn is_put(reply: &Reply, want: Put) -> bool {
     }
 }
 
+fn is_put_whole(reply: &Reply, want: &PutCounts) -> bool {
+    match reply {
+        Reply::PutAll(counts) => counts == want,
+        _ => false,
+    }
+}
+
 fn is_planned(reply: &Reply, want: &str) -> bool {
     match reply {
         Reply::Planned(planned) => has_end(planned, want),
@@ -175,6 +183,7 @@ fn is_up(reply: &Reply) -> bool {
 fn ends_so(reply: &Reply, end: End) -> bool {
     match end {
         End::Put(put) => is_put(reply, put),
+        End::PutAll(counts) => is_put_whole(reply, &counts),
         End::Planned(path) => is_planned(reply, path),
         End::Wrote(wrote) => is_written(reply, wrote),
         End::Shown(shown, entries) => is_shown(reply, shown, entries),
@@ -255,14 +264,15 @@ fn tally(stored: u64, drains: u64) -> Tally {
 }
 
 // `b` is drained, and its first write waits.
-const WRITES: [Row; 6] = [
+const WRITES: [Row; 5] = [
     (Deed::Put("b", 0, 1), End::Put(Put::Stored)),
     (Deed::Plan(5), End::Planned("b")),
     (Deed::Write(5), End::Wrote(Wrote::Run)),
     (Deed::Write(5), End::Wrote(Wrote::Run)),
     (Deed::Write(5), End::Wrote(Wrote::Finished)),
-    (Deed::Ask(BOTH), End::Shown(&[&[B], &[D]], 1)),
 ];
+
+const ASKS_BOTH: [Row; 1] = [(Deed::Ask(BOTH), End::Shown(&[&[B], &[D]], 1))];
 
 // `d` is put and drained meanwhile.
 const DRAINS: [Row; 7] = [
@@ -279,11 +289,74 @@ const DRAINS: [Row; 7] = [
 fn a_class_is_drained_while_the_disk_of_another_writes(rt: HostRuntime) -> Result<(), Fail> {
     let case = Case {
         stops: &[Stop::Write(5)],
-        before: &[],
-        first: &WRITES,
+        before: &WRITES,
+        first: &ASKS_BOTH,
         second: &DRAINS,
         entries: 5,
         tally: tally(2, 2),
+    };
+    assert_case(&rt, rt.alloc(), &case)
+}
+
+// Two points of `d` are put as a piece meanwhile.
+const PIECES: [Row; 3] = [
+    (Deed::Await(0), End::Up),
+    (
+        Deed::PutAll(&[("d", 0, 2), ("d", 1, 3)]),
+        End::PutAll(TWO_STORED),
+    ),
+    (Deed::Raise(1), End::Up),
+];
+
+const TWO_STORED: PutCounts = PutCounts {
+    done: 2,
+    stored: 2,
+    replaced: 0,
+    full: 0,
+};
+
+const ASKS_LATER: [Row; 1] = [(Deed::Ask(BOTH), End::Shown(&[&[B], &[LATER_D]], 1))];
+
+#[test]
+fn a_piece_waits_for_no_class_that_it_has_no_points_of(rt: HostRuntime) -> Result<(), Fail> {
+    let case = Case {
+        stops: &[Stop::Write(5)],
+        before: &WRITES,
+        first: &ASKS_LATER,
+        second: &PIECES,
+        entries: 5,
+        tally: tally(3, 1),
+    };
+    assert_case(&rt, rt.alloc(), &case)
+}
+
+// ---- a plan that waits
+
+// `b` is drained, and put anew.
+const PUT_AGAIN: [Row; 6] = [
+    (Deed::Put("b", 0, 1), End::Put(Put::Stored)),
+    (Deed::Plan(5), End::Planned("b")),
+    (Deed::Write(5), End::Wrote(Wrote::Run)),
+    (Deed::Write(5), End::Wrote(Wrote::Run)),
+    (Deed::Write(5), End::Wrote(Wrote::Finished)),
+    (Deed::Put("b", 1, 2), End::Put(Put::Stored)),
+];
+
+// Its next drain reads the file, and waits.
+const PLANS_AGAIN: [Row; 2] = [
+    (Deed::Plan(5), End::Planned("b")),
+    (Deed::Write(5), End::Wrote(Wrote::Finished)),
+];
+
+#[test]
+fn a_point_is_put_while_a_plan_waits(rt: HostRuntime) -> Result<(), Fail> {
+    let case = Case {
+        stops: &[Stop::Read(5, 0)],
+        before: &PUT_AGAIN,
+        first: &PLANS_AGAIN,
+        second: &PUTS,
+        entries: 5,
+        tally: tally(3, 2),
     };
     assert_case(&rt, rt.alloc(), &case)
 }

@@ -1,8 +1,15 @@
 use Rattle.std.proofs.Common.{rules, ◌≡◌, ◌∙◌, ℕ, Bool, true, false, List, length, Some, slice_get, sym, subst, arith}
+use Rattle.std.specs.Prelude.{slice_index_or}
 use Rattle.metric_line.specs.declared.datum.Datum.{Datum}
 use Rattle.shared_store.specs.Pieces.{CountsPut}
-use Rattle.shared_store.proofs.PieceLemmas.{few_so_far, get_there, puts_short, puts_whole, room_so_far, same_both, so_far_more}
+use Rattle.shared_store.proofs.PieceLemmas.{few_so_far, get_there, puts_short, puts_whole, room_so_far, same_both, so_far_more, stands_among}
 use Rattle.shared_store.proofs.putting.put_each.Goals as goal
+
+pub put_held-put-requires-clause-desks : goal.put_held-put-requires-clause-desks
+put_held-put-requires-clause-desks g c =
+    let classes : List ℕ = c.args.classes.now in
+    let i : ℕ = c.loop-i.i in
+    (c.loop-i.invariant.sixteen, λ d within. c.loop-i.invariant.held (slice_index_or classes i 0) d within (stands_among c.args.points.now classes i c.requires.classes c.loop-i-test.true))
 
 pub put_held-put-requires-clause-one : goal.put_held-put-requires-clause-one
 put_held-put-requires-clause-one g c = c.loop-i.invariant.puts.enters.table ∙ c.requires.one
@@ -29,7 +36,7 @@ loop-i-preserved g c =
     let put = c.put_held-put.result in
     record {
       sixteen = c.put_held-put.ensures.desks.0;
-      desks = c.put_held-put.ensures.desks.1;
+      held = λ k d less among. c.put_held-put.ensures.desks.1 k (λ e within. v.held k e within among) d less;
       puts = so_far_more n.start n.passes points c.args.pass.now i c.loop-i.counts c.count.new.self datum c.loop-i.pass c.put_held-put.new.pass v.puts there put
           c.put_held-put.ensures.enters (subst (λ (b : Bool). CountsPut put b c.loop-i.counts c.count.new.self) more c.count.ensures);
       looks = same_both c.args.pass.now c.loop-i.pass c.put_held-put.new.pass v.looks c.put_held-put.ensures.looks;

@@ -14,30 +14,30 @@ use Rattle.shared_store.proofs.store.Store.answer.Goals as goal
 pub returns-in-Err-clause-answers : goal.returns-in-Err-clause-answers
 returns-in-Err-clause-answers g c =
     let n = g.N.Named in
-    let are : AreDesksOf c.args.pass.now.seen c.as_slice.result.now = subst (λ (l : List (MutexGuard DeskValue)). AreDesksOf c.args.pass.now.seen l) (sym c.as_slice.ensures.value) c.requires.desks in
+    let are : AreDesksOf c.args.pass.now.seen c.as_slice.result.now = subst (λ (l : List (MutexGuard DeskValue)). AreDesksOf c.args.pass.now.seen l) (sym c.as_slice.ensures.value) c.requires.desks.0 in
     answers_counts n.start n.told n.passes c.args.now c.args.needs.now c.args.pass.now c.in-Err.fault (c.in-Err.ensures c.args.pass.now.seen are) (only_itself c.args.pass.now)
 
 pub read_all-requires-clause-looks : goal.read_all-requires-clause-looks
 read_all-requires-clause-looks g c =
     let s : State = replay g.N.Named.start c.args.pass.now.seen in
     let needs = c.args.needs.now in
-    let are : AreDesksOf c.args.pass.now.seen c.as_slice.result.now = subst (λ (l : List (MutexGuard DeskValue)). AreDesksOf c.args.pass.now.seen l) (sym c.as_slice.ensures.value) c.requires.desks in
-    let there : AreDesksOf c.args.pass.now.seen c.as_slice-2.result.now = subst (λ (l : List (MutexGuard DeskValue)). AreDesksOf c.args.pass.now.seen l) (sym c.as_slice-2.ensures.value) c.requires.desks in
+    let are : AreDesksOf c.args.pass.now.seen c.as_slice.result.now = subst (λ (l : List (MutexGuard DeskValue)). AreDesksOf c.args.pass.now.seen l) (sym c.as_slice.ensures.value) c.requires.desks.0 in
+    let there : AreDesksOf c.args.pass.now.seen c.as_slice-2.result.now = subst (λ (l : List (MutexGuard DeskValue)). AreDesksOf c.args.pass.now.seen l) (sym c.as_slice-2.ensures.value) c.requires.desks.0 in
     let few : FindsFew s c.args.now needs = c.in-Ok.ensures c.args.pass.now.seen are in
     let found : Pairwise (FoundOf s c.args.now) needs c.as_slice-3.result.now = subst (λ (l : List (List Looked)). Pairwise (FoundOf s c.args.now) needs l) (sym c.as_slice-3.ensures.value)
     (found_of s c.args.now needs c.in_ok-found.found.items c.in_ok-found-2.found.items (c.in_ok-found.ensures c.args.pass.now.seen there) c.in_ok-found-2.ensures) in
     all_short s c.args.now needs c.as_slice-3.result.now found (few_found s c.args.now needs c.as_slice-3.result.now few found).1
 
 pub read_all-requires-clause-held : goal.read_all-requires-clause-held
-read_all-requires-clause-held g c = c.held_in-held.ensures.held c.args.pass.now.seen c.requires.desks
+read_all-requires-clause-held g c = c.held_in-held.ensures.held c.args.pass.now.seen c.requires.desks.0
 
 pub returns-clause-answers : goal.returns-clause-answers
 returns-clause-answers g c =
     let n = g.N.Named in
     let s : State = replay n.start c.args.pass.now.seen in
     let needs = c.args.needs.now in
-    let are : AreDesksOf c.args.pass.now.seen c.as_slice.result.now = subst (λ (l : List (MutexGuard DeskValue)). AreDesksOf c.args.pass.now.seen l) (sym c.as_slice.ensures.value) c.requires.desks in
-    let there : AreDesksOf c.args.pass.now.seen c.as_slice-2.result.now = subst (λ (l : List (MutexGuard DeskValue)). AreDesksOf c.args.pass.now.seen l) (sym c.as_slice-2.ensures.value) c.requires.desks in
+    let are : AreDesksOf c.args.pass.now.seen c.as_slice.result.now = subst (λ (l : List (MutexGuard DeskValue)). AreDesksOf c.args.pass.now.seen l) (sym c.as_slice.ensures.value) c.requires.desks.0 in
+    let there : AreDesksOf c.args.pass.now.seen c.as_slice-2.result.now = subst (λ (l : List (MutexGuard DeskValue)). AreDesksOf c.args.pass.now.seen l) (sym c.as_slice-2.ensures.value) c.requires.desks.0 in
     let few : FindsFew s c.args.now needs = c.in-Ok.ensures c.args.pass.now.seen are in
     let found : Pairwise (FoundOf s c.args.now) needs c.as_slice-3.result.now = subst (λ (l : List (List Looked)). Pairwise (FoundOf s c.args.now) needs l) (sym c.as_slice-3.ensures.value)
     (found_of s c.args.now needs c.in_ok-found.found.items c.in_ok-found-2.found.items (c.in_ok-found.ensures c.args.pass.now.seen there) c.in_ok-found-2.ensures) in
@@ -48,8 +48,8 @@ returns-clause-rows g c =
     let n = g.N.Named in
     let s : State = replay n.start c.args.pass.now.seen in
     let needs = c.args.needs.now in
-    let are : AreDesksOf c.args.pass.now.seen c.as_slice.result.now = subst (λ (l : List (MutexGuard DeskValue)). AreDesksOf c.args.pass.now.seen l) (sym c.as_slice.ensures.value) c.requires.desks in
-    let there : AreDesksOf c.args.pass.now.seen c.as_slice-2.result.now = subst (λ (l : List (MutexGuard DeskValue)). AreDesksOf c.args.pass.now.seen l) (sym c.as_slice-2.ensures.value) c.requires.desks in
+    let are : AreDesksOf c.args.pass.now.seen c.as_slice.result.now = subst (λ (l : List (MutexGuard DeskValue)). AreDesksOf c.args.pass.now.seen l) (sym c.as_slice.ensures.value) c.requires.desks.0 in
+    let there : AreDesksOf c.args.pass.now.seen c.as_slice-2.result.now = subst (λ (l : List (MutexGuard DeskValue)). AreDesksOf c.args.pass.now.seen l) (sym c.as_slice-2.ensures.value) c.requires.desks.0 in
     let few : FindsFew s c.args.now needs = c.in-Ok.ensures c.args.pass.now.seen are in
     let found : Pairwise (FoundOf s c.args.now) needs c.as_slice-3.result.now = subst (λ (l : List (List Looked)). Pairwise (FoundOf s c.args.now) needs l) (sym c.as_slice-3.ensures.value)
     (found_of s c.args.now needs c.in_ok-found.found.items c.in_ok-found-2.found.items (c.in_ok-found.ensures c.args.pass.now.seen there) c.in_ok-found-2.ensures) in
