@@ -1,4 +1,5 @@
 pub mod ColumnLemmas
+pub mod BucketColumns
 pub mod EachLemmas
 pub mod StepLemmas
 pub mod RatioLemmas

@@ -12,7 +12,7 @@ use crate::quotients::{fitting, times};
 use fixed_num::{Milli, wide};
 use ring_format::Method;
 use rollup::roll;
-use series_set::{EvalFault, Grid, Series, SeriesSet, common_grid, on_grid};
+use series_set::{EvalFault, Grid, Series, SeriesSet, bucket_value, common_grid};
 use std::alloc::{AllocError, Global};
 
 /// The series combined to one of this name and path, on their common grid; no series give none. At each moment it has what the values
@@ -98,13 +98,11 @@ fn combined_values(
     ensures { IfOk result (λ values.
         values.items ≡ combined_columns kind (all_on set.now grid.now) (value_count grid.now)) }
 {
-    let count = grid.value_count() as usize;
-    // Where all series have the grid nothing is copied.
+    // Where all series have the grid their values are taken as they stand.
     if all_have_grid(set.as_slice(), *grid) {
-        return combined_columns(alloc, kind, set.as_slice(), count);
+        return combined_columns(alloc, kind, set.as_slice(), grid.value_count() as usize);
     }
-    let moved = all_on(alloc, set.as_slice(), grid)?;
-    combined_columns(alloc, kind, moved.as_slice(), count)
+    combined_buckets(alloc, kind, set.as_slice(), grid)
 }
 
 // Whether all series have this start, end and step.
@@ -112,19 +110,6 @@ fn all_have_grid(series: &[Series], grid: Grid) -> bool
     ensures { result ≡ list_all (has_grid grid) series.now }
 {
     series.iter().all(|one| one.has_grid(grid))
-}
-
-/// The series on a grid.
-pub(crate) fn all_on(alloc: Global, series: &[Series], grid: &Grid) -> Result<SeriesSet, AllocError>
-    requires grid { IsGrid grid.now }
-    requires early { grid.now.end ≤ latest_end }
-    ensures { IfOk result (λ moved. moved ≡ all_on series.now grid.now) }
-{
-    let mut moved = Vec::with_capacity(alloc, series.len())?;
-    for one in series {
-        moved.push(on_grid(alloc, one, grid)?)?;
-    }
-    Ok(SeriesSet::from_vec(moved))
 }
 
 // What series have together at each of so many places.
@@ -158,6 +143,54 @@ fn gather_known(
     gathered.clear();
     for one in series {
         let Some(value) = value_at(one, place) else {
+            continue
+        };
+        gathered.push(value)?;
+    }
+    Ok(())
+}
+
+// What series have together in each bucket of a grid. They are never all held as they are on it: many short series may span a long grid.
+#[tactic(auto, unfolding(crate::specs::Combined::combined_columns))]
+fn combined_buckets(
+    alloc: Global,
+    kind: Combine,
+    series: &[Series],
+    grid: &Grid,
+) -> Result<Vec<Option<Milli>>, AllocError>
+    requires few { length series.now ≤ most_series }
+    requires grid { IsGrid grid.now }
+    requires early { grid.now.end ≤ latest_end }
+    ensures { IfOk result (λ values.
+        values.items ≡ combined_columns kind (all_on series.now grid.now) (value_count grid.now)) }
+{
+    let count = grid.value_count() as usize;
+    let mut known = Vec::with_capacity(alloc, series.len())?;
+    let mut values = Vec::with_capacity(alloc, count)?;
+    for bucket in 0..count {
+        gather_bucket(series, grid, bucket, &mut known)?;
+        let value = combined_known(kind, &known, series.len());
+        values.push(value)?;
+    }
+    Ok(values)
+}
+
+// Puts the known values of series in one bucket in the place of what the list has.
+fn gather_bucket(
+    series: &[Series],
+    grid: &Grid,
+    bucket: usize,
+    gathered: &mut Vec<Milli>,
+) -> Result<(), AllocError>
+    requires grid { IsGrid grid.now }
+    requires early { grid.now.end ≤ latest_end }
+    requires within { bucket < value_count grid.now }
+    ensures { OnOk result (
+        gathered.new.items ≡ known (column (all_on series.now grid.now) bucket)) }
+{
+    gathered.clear();
+    for one in series {
+        let Some(value) = bucket_value(one, grid, bucket) else {
             continue
         };
         gathered.push(value)?;

@@ -12,7 +12,7 @@ use crate::combining::value_at;
 use crate::naming::call_text;
 use crate::quotients::ratio;
 use fixed_num::Milli;
-use series_set::{EvalFault, Grid, Series, SeriesSet, common_grid, on_grid, pair_step};
+use series_set::{EvalFault, Grid, Series, SeriesSet, check_pair, common_grid, on_grid};
 use std::alloc::{AllocError, Global};
 
 /// Each dividend over the one divisor, on the common grid of the two: the exact quotient in thousandths, rounded down, and missing where
@@ -75,7 +75,7 @@ fn check_pairs(dividends: &[Series], divisor: &Series) -> Result<(), EvalFault>
         option_map StepTooWide (first_wide (pairs_with divisor.now dividends.now)) ≡ Some fault) }
 {
     for dividend in dividends {
-        pair_step(dividend, divisor)?;
+        check_pair(dividend, divisor)?;
     }
     Ok(())
 }

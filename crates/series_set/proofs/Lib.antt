@@ -6,3 +6,4 @@ pub mod GroupLemmas
 pub mod GridLemmas
 pub mod LawLemmas
 pub mod OwnGridLemmas
+pub mod BucketLemmas

@@ -23,7 +23,7 @@ over_one (negsuc a) = ap negsuc (div-one a)
 nothing_and : (z : ℤ) → pos 0 +ℤ z ≡ z
 nothing_and z = omega (arith, ints)
 
-average_of_one : (value : Option ℤ) → average (known (value ∷ [])) ≡ value
+pub average_of_one : (value : Option ℤ) → average (known (value ∷ [])) ≡ value
 unfolding average sum_of
 average_of_one None = refl
 average_of_one (Some z) = ap (λ (y : ℤ). Some y) (ap (λ (y : ℤ). int_div_euclid y (pos 1)) (nothing_and z) ∙ over_one z)
@@ -36,7 +36,7 @@ own_place s k some within = record {
   behind = λ j above inside. omega (arith, mul-le k s.step j s.step above (omega arith));
 }
 
-run_of_one : (values : List (Option ℤ)) (k : ℕ) → k < length values → take ((k + 1) - k) (drop k values) ≡ get_or values k None ∷ []
+pub run_of_one : (values : List (Option ℤ)) (k : ℕ) → k < length values → take ((k + 1) - k) (drop k values) ≡ get_or values k None ∷ []
 run_of_one values k within =
     ap (λ (n : ℕ). take n (drop k values)) (let one : (k + 1) - k ≡ 1 = omega arith in one) ∙ ap (take 1) (drop_more values k None within)
 

@@ -50,11 +50,11 @@ pub fn common_step(series: &[Series]) -> Result<u64, EvalFault>
     Ok(step)
 }
 
-/// The least common multiple of the steps of two series. Takes no memory.
+/// Whether two series have a common step that is not too wide. Takes no memory.
 ///
-/// Errors: `StepTooWide` exactly where it is above 31,536,000, with the multiple.
+/// Errors: `StepTooWide` exactly where the least common multiple of their steps is above 31,536,000, with the multiple.
 #[tactic(auto, unfolding(crate::specs::CommonGrid::wide_multiple))]
-pub fn pair_step(one: &Series, other: &Series) -> Result<u64, EvalFault>
+pub fn check_pair(one: &Series, other: &Series) -> Result<(), EvalFault>
     requires one { one.now.step ≤ widest_step }
     requires other { other.now.step ≤ widest_step }
     ensures ok { IfOk result (λ _. wide_multiple (steps_of (one.now ∷ other.now ∷ [])) ≡ None) }
@@ -65,7 +65,7 @@ pub fn pair_step(one: &Series, other: &Series) -> Result<u64, EvalFault>
     if step > WIDEST_STEP {
         return Err(EvalFault::StepTooWide(step));
     }
-    Ok(step)
+    Ok(())
 }
 
 // The grid of series in their common step.

@@ -12,13 +12,13 @@ mod set;
 mod thinning;
 
 pub use averaging::average_known;
-pub use common::{common_grid, common_step, pair_step};
+pub use common::{check_pair, common_grid, common_step};
 pub use grid::{EvalFault, Grid};
 pub use laws::{
     agreeing_series_keep_their_grid, average_is_rounded_down, common_grid_holds_all_moments,
     common_step_is_the_least_multiple, few_values_stay, own_grid_changes_nothing,
 };
-pub use regrid::on_grid;
+pub use regrid::{bucket_value, on_grid};
 pub use series::{LATEST_END, MOST_VALUES, Series, WIDEST_STEP};
 pub use set::{SeriesRows, SeriesSet};
 pub use thinning::thin;

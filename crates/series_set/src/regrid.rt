@@ -1,6 +1,6 @@
 //! A series on a grid.
-ghost use Rattle.std.specs.Prelude.{◌≡◌, ◌-◌, ◌≤◌, IfOk, drop, length, map, take};
-ghost use Rattle.std.specs.List.{range_with_len};
+ghost use Rattle.std.specs.Prelude.{◌≡◌, ◌-◌, ◌<◌, ◌≤◌, IfOk, None, drop, length, map, take};
+ghost use Rattle.std.specs.List.{range_with_len, slice_index_or};
 ghost use Rattle.series_set.specs.Average.{average, known};
 ghost use Rattle.series_set.specs.Series.{latest_end};
 ghost use Rattle.series_set.specs.CommonGrid.{IsGrid, value_count};
@@ -55,6 +55,34 @@ fn bucket_values(
         from = until;
     }
     Ok(values)
+}
+
+/// The value of a series in the bucket at a place of a grid, from 0 on: what [`on_grid`] has there. Takes no memory, and little time where
+/// the series has no moment in the bucket.
+pub fn bucket_value(series: &Series, grid: &Grid, place: usize) -> Option<Milli>
+    requires grid { IsGrid grid.now }
+    requires early { grid.now.end ≤ latest_end }
+    requires within { place < value_count grid.now }
+    ensures { result ≡ bucket_value series.now grid.now place }
+{
+    let from = grid.start + place as u64 * grid.step;
+    let until = from + grid.step;
+    let step = series.step();
+    if series.end() <= from || until <= series.start() {
+        return None;
+    }
+    // A bucket as long as a step has one moment at most, so that there is nothing to average.
+    if step == grid.step {
+        return value_at(series, series.place_of(from));
+    }
+    average_of_run(series, series.place_of(from), series.place_of(until))
+}
+
+// The value at a place; missing behind the last.
+fn value_at(series: &Series, place: usize) -> Option<Milli>
+    ensures { result ≡ slice_index_or series.now.values place None }
+{
+    series.values().get(place).copied().flatten()
 }
 
 // The average of the known values from a place on and before another.

@@ -8,4 +8,4 @@ pub returns-then-all_have_grid : goal.returns-then-all_have_grid
 returns-then-all_have_grid c =
     let all = ap (list_all (has_grid c.args.grid.now)) (sym c.as_slice.ensures) ∙ sym c.all_have_grid.ensures ∙ c.if-all_have_grid.true in
     let own = all_on_own c.args.grid.now c.args.set.now c.requires.grid.some all in
-    rw own (rw (c.as_slice-then-all_have_grid.ensures, c.value_count-count.ensures) at c.combined_columns.ensures)
+    rw own (rw (c.as_slice-then-all_have_grid.ensures, c.value_count.ensures) at c.combined_columns.ensures)

@@ -3,7 +3,7 @@ use Rattle.std.proofs.lemmas.Bool.Decides.{nat_tests}
 use Rattle.series_set.specs.declared.grid.EvalFault.TheVariants.{StepTooWide}
 use Rattle.series_set.specs.CommonGrid.{is_too_wide, wide_multiple}
 use Rattle.series_set.proofs.WalkLemmas.{pair_fits, pair_too_wide}
-use Rattle.series_set.proofs.common.pair_step.Goals as goal
+use Rattle.series_set.proofs.common.check_pair.Goals as goal
 
 pub returns-then-step-gt-WIDEST_STEP-clause-err : goal.returns-then-step-gt-WIDEST_STEP-clause-err
 returns-then-step-gt-WIDEST_STEP-clause-err c =
