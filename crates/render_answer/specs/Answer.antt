@@ -1,5 +1,5 @@
 -- The answer to a query of the render API, and its text.
-use Rattle.std.specs.Prelude.{◌≡◌, ◌≢◌, ℕ, ◌+◌, List, [], ◌++◌, codes, decimal, Option, Result, Ok, Err}
+use Rattle.std.specs.Prelude.{◌≡◌, ℕ, List, [], ◌++◌, codes, decimal, Option, Ok, Err}
 use Rattle.outside_io.specs.Image.{Image}
 use Rattle.carbon_model.specs.State.{State}
 use Rattle.series_set.specs.Series.{SeriesValue}
@@ -14,7 +14,7 @@ use Rattle.render_plan.specs.declared.fault.TargetCause.TheVariants as cause
 use Rattle.render_plan.specs.declared.settings.Format.{Format}
 use Rattle.render_plan.specs.declared.settings.Format.TheVariants as format
 use Rattle.render_plan.specs.Needed.{needs_of}
-use Rattle.render_plan.specs.Planned.{Plan, read_plan}
+use Rattle.render_plan.specs.Planned.{Plan}
 use Rattle.render_plan.specs.Values.{Answers, Rows}
 use Rattle.render_answer.specs.declared.answer.Answer.{Answer}
 use Rattle.render_answer.specs.declared.answer.Answer.TheVariants.{Body, Refused}
@@ -118,17 +118,3 @@ AnswersPlan told s now plan (Refused (Query fault)) = ⊥
 AnswersPlan told s now plan (Refused (StepTooWide step)) = AnswersState told s now plan (Refused (StepTooWide step))
 AnswersPlan told s now plan (Refused (GridTooLong count)) = AnswersState told s now plan (Refused (GridTooLong count))
 AnswersPlan told s now plan (Body form text) = AnswersState told s now plan (Body form text)
-
--- whether a query that was read so is answered so
-abbrev pub AnswersRead : (ℕ → Option Image) → State → ℕ → Result Plan QueryFault → Answer → Type 0
-AnswersRead told s now (Ok plan) answer = AnswersPlan told s now plan answer
-AnswersRead told s now (Err fault) answer = answer ≡ Refused (Query fault)
-
--- The answer of a state to a query at a moment: the first fault of the query, or what the state answers to it.
-abbrev pub IsAnswer : (ℕ → Option Image) → State → List ℕ → List ℕ → ℕ → Answer → Type 0
-IsAnswer told s query body now answer = AnswersRead told s now (read_plan query body now) answer
-
--- its text: the series in their form, or the reason
-abbrev pub answer_text : Answer → List ℕ
-answer_text (Body form text) = text
-answer_text (Refused why) = refusal_text why

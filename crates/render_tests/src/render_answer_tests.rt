@@ -3,7 +3,7 @@ ghost use Rattle.std.specs.Prelude.{◌≡◌, [], ◌∷◌, IfOk};
 
 use render_answer::*;
 use render_plan::{QueryFault, RenderPlan, TargetCause};
-use series_set::{SeriesRows, SeriesSet};
+use series_set::{EvalFault, SeriesRows, SeriesSet};
 use std::alloc::{AllocError, Global};
 use std::process::Abort;
 use std::test::Fail;
@@ -56,6 +56,48 @@ fn refusals_have_their_words(rt: HostRuntime) -> Result<(), Fail> {
         assert_text(&rt, rt.alloc(), why, want)?;
     }
     Ok(())
+}
+
+// A fault is told in the words of the refusal that it makes.
+fn assert_query_told(rt: &impl Abort, alloc: Global, fault: QueryFault) -> Result<(), Fail> {
+    let told = format!(in alloc; "{fault}")?;
+    assert_text(rt, alloc, Refusal::Query(fault), told.as_str())
+}
+
+fn assert_eval_told(
+    rt: &impl Abort,
+    alloc: Global,
+    fault: EvalFault,
+    why: Refusal,
+) -> Result<(), Fail> {
+    let told = format!(in alloc; "{fault}")?;
+    assert_text(rt, alloc, why, told.as_str())
+}
+
+#[test]
+fn faults_have_the_words_of_their_refusals(rt: HostRuntime) -> Result<(), Fail> {
+    let faults = [
+        QueryFault::NoTarget,
+        QueryFault::TooManyTargets,
+        QueryFault::Target(1, TargetCause::At(4)),
+        QueryFault::Target(128, TargetCause::TooDeep),
+        QueryFault::Target(2, TargetCause::TooLong),
+        QueryFault::UnknownFunction(1),
+        QueryFault::BadArgument(3),
+        QueryFault::BadTime,
+        QueryFault::BadRange,
+        QueryFault::BadFormat,
+        QueryFault::BadPoints,
+        QueryFault::NoMemory,
+    ];
+    for fault in faults {
+        assert_query_told(&rt, rt.alloc(), fault)?;
+    }
+    let (step, count) = (31_536_001, 4_000_001);
+    let wide = EvalFault::StepTooWide(step);
+    assert_eval_told(&rt, rt.alloc(), wide, Refusal::StepTooWide(step))?;
+    let long = EvalFault::TooLong(count);
+    assert_eval_told(&rt, rt.alloc(), long, Refusal::GridTooLong(count))
 }
 
 // One list without series.
