@@ -218,13 +218,18 @@ fn the_second_archive_begins_where_the_first_ends(rt: HostRuntime) {
     assert_eq!(rt; read_head(&head[..len], size), Err(HeadFault::Offset(1)));
 }
 
-#[test]
-fn a_patch_keeps_its_cells_in_order(rt: HostRuntime) -> Result<(), Fail> {
-    let path = MetricPath::new(rt.alloc(), b"servers.web1.cpu")?;
-    let Ok(layout) = Layout::new(&[archive(60, 10), archive(300, 12)], Method::Average, 0) else {
+// Ten minutes by minutes and an hour by five minutes.
+fn two_archives() -> Result<Layout, LayoutFault> {
+    Layout::new(&[archive(60, 10), archive(300, 12)], Method::Average, 0)
+}
+
+// A patch that makes a new file, and lays one of its cells over another.
+fn overlaid_patch(rt: &impl Abort, alloc: Global) -> Result<Patch, Fail> {
+    let path = MetricPath::new(alloc, b"servers.web1.cpu")?;
+    let Ok(layout) = two_archives() else {
         panic!(rt; "the layout is lawful")
     };
-    let mut patch = Patch::new(rt.alloc(), path, layout, true);
+    let mut patch = Patch::new(alloc, path, layout, true);
     let cells = [
         (1, 11, 300, 5),
         (0, 9, 540, 7),
@@ -232,35 +237,60 @@ fn a_patch_keeps_its_cells_in_order(rt: HostRuntime) -> Result<(), Fail> {
         (0, 9, 1140, -8),
     ];
     for (archive, slot, bucket, value) in cells {
-        let cell = CellWrite {
+        assert!(rt; patch.layout().has_slot(archive, slot));
+        patch.lay(CellWrite {
             archive,
             slot,
             bucket,
             value,
-        };
-        assert!(rt; patch.layout().has_slot(archive, slot));
-        patch.lay(cell)?;
+        })?;
     }
-    assert_eq!(rt; patch.cell(0, 9), Some((1140, -8)));
-    assert_eq!(rt; patch.cell(0, 8), None);
+    Ok(patch)
+}
+
+#[test]
+fn a_patch_keeps_its_cells_in_order(rt: HostRuntime) -> Result<(), Fail> {
+    let patch = overlaid_patch(&rt, rt.alloc())?;
     assert_eq!(rt; patch.cell_count(), 3);
     let places = [(0, 9), (1, 2), (1, 11)];
-    for (cell, want) in patch.cells().iter().zip(&places) {
-        assert_eq!(rt; cell.0, *want);
+    for (cell, place) in patch.cells().iter().zip(&places) {
+        assert!(rt; cell.0 == *place, "slot {}", place.1);
     }
-    assert_eq!(rt; patch.first_cell_from(0, 9), Some(((0, 9), (1140, -8))));
-    assert_eq!(rt; patch.first_cell_from(0, 10), Some(((1, 2), (600, 1))));
-    assert_eq!(rt; patch.first_cell_from(1, 12), None);
+    assert!(rt; patch.cell(0, 9) == Some((1140, -8)));
+    assert!(rt; patch.cell(0, 8).is_none());
+    Ok(())
+}
+
+#[test]
+fn the_first_cell_from_a_place_is_found(rt: HostRuntime) -> Result<(), Fail> {
+    let patch = overlaid_patch(&rt, rt.alloc())?;
+    let cases = [
+        (0, 9, Some(((0, 9), (1140, -8)))),
+        (0, 10, Some(((1, 2), (600, 1)))),
+        (1, 12, None),
+    ];
+    for (archive, slot, cell) in cases {
+        assert!(rt;
+            patch.first_cell_from(archive, slot) == cell,
+            "{archive} {slot}"
+        );
+    }
+    Ok(())
+}
+
+#[test]
+fn a_patch_tells_what_it_is_for(rt: HostRuntime) -> Result<(), Fail> {
+    let patch = overlaid_patch(&rt, rt.alloc())?;
     assert!(rt; patch.fresh());
-    assert_eq!(rt; patch.layout(), layout);
-    assert_eq!(rt; patch.path().as_str(), "servers.web1.cpu");
+    assert!(rt; two_archives() == Ok(patch.layout()));
+    assert!(rt; patch.path().as_str() == "servers.web1.cpu");
     Ok(())
 }
 
 // A patch with cells in rows of neighbouring slots and behind gaps, each with its slot as its value.
 fn patch_of_rows(rt: &impl Abort, alloc: Global) -> Result<Patch, Fail> {
     let path = MetricPath::new(alloc, b"servers.web1.cpu")?;
-    let Ok(layout) = Layout::new(&[archive(60, 10), archive(300, 12)], Method::Average, 0) else {
+    let Ok(layout) = two_archives() else {
         panic!(rt; "the layout is lawful")
     };
     let mut patch = Patch::new(alloc, path, layout, false);

@@ -180,6 +180,27 @@ fn a_patch_is_laid_over_a_file(rt: HostRuntime) -> Result<(), Fail> {
     Ok(())
 }
 
+// Writes a patch to a disk of which one writing call fails: that is made again, and another file stays as it was.
+fn assert_written(
+    rt: &impl Abort,
+    alloc: Global,
+    layout: Layout,
+    cells: &[Laid],
+    calls: u64,
+    failing: u64,
+) -> Result<(), Fail> {
+    let listed = Vec::from_slice(alloc, &[failing])?;
+    let mut disk = MemDisk::new(alloc, 304).failing(listed);
+    disk.put_file("b", Vec::from_slice(alloc, b"other")?)?;
+    write(alloc, &mut disk, "a", layout, true, cells)?;
+    let again = u64::from(failing <= calls);
+    let made = disk.calls().writing().saturating_sub(again);
+    assert!(rt; made == calls, "call {failing} of {calls}");
+    let other = bytes_of(alloc, &mut disk, "b")?;
+    assert!(rt; other.is_some_and(|other| other.as_slice() == b"other".as_slice()));
+    Ok(())
+}
+
 // Each call of the disk fails in turn, and is made again; another file stays as it was.
 #[test]
 fn neighbours_are_written_in_one_piece(rt: HostRuntime) -> Result<(), Fail> {
@@ -213,21 +234,9 @@ fn neighbours_are_written_in_one_piece(rt: HostRuntime) -> Result<(), Fail> {
         ),
     ];
     for (cells, calls) in cases {
-        for failing in 1..=calls + 1 {
-            let listed = Vec::from_slice(rt.alloc(), &[failing])?;
-            let mut disk = MemDisk::new(rt.alloc(), 304).failing(listed);
-            disk.put_file("b", Vec::from_slice(rt.alloc(), b"other")?)?;
-            write(rt.alloc(), &mut disk, "a", layout, true, cells)?;
-            let again = u64::from(failing <= calls);
-            assert_eq!(rt;
-                disk.calls().writing().saturating_sub(again),
-                calls,
-                "call {failing} of {calls}"
-            );
-            let Some(other) = bytes_of(rt.alloc(), &mut disk, "b")? else {
-                panic!(rt; "the file is there")
-            };
-            assert_eq!(rt; other.as_slice(), b"other".as_slice());
+        // behind the last call none fails
+        for failing in 1..8 {
+            assert_written(&rt, rt.alloc(), layout, cells, calls, failing)?;
         }
     }
     Ok(())

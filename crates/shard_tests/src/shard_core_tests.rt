@@ -27,8 +27,8 @@ const ONE: &[u8] = b"[all]\npattern = .*\nretentions = 60:10\n";
 // And an hour by five minutes.
 const TWO: &[u8] = b"[all]\npattern = .*\nretentions = 60:10,300:12\n";
 
-// And a day by hours.
-const THREE: &[u8] = b"[all]\npattern = .*\nretentions = 60:10,300:12,3600:24\n";
+// And four hours by ten minutes.
+const THREE: &[u8] = b"[all]\npattern = .*\nretentions = 60:10,300:12,600:24\n";
 
 // What is done to a shard, and what comes of it.
 #[derive(Clone, Copy)]
@@ -204,6 +204,14 @@ const FINE: Act<'static> = Act::Shown(
 
 const COARSE: Act<'static> = Act::Shown(b"*.*", START - 460, &[None, Some(3_000)]);
 
+// More than an hour by ten minutes: in the last ten one of two five minutes is known, which is
+// enough.
+const OLD: Act<'static> = Act::Shown(
+    b"a.*",
+    START - 3_400,
+    &[None, None, None, None, None, Some(3_000)],
+);
+
 // A file of `a.b` with one other point.
 const BEFORE: [Act<'static>; 5] = [
     Act::Put(b"a.b 9 1700000160", Put::Stored),
@@ -264,16 +272,17 @@ fn drain(rt: &impl Abort, alloc: Global, drained: &Drained<'_>) -> Result<(u32, 
 #[test]
 fn a_metric_shows_the_same_between_any_two_runs(rt: HostRuntime) -> Result<(), Fail> {
     let both = [FINE, COARSE];
+    let all = [FINE, COARSE, OLD];
     // the rules, what is done before, the questions, the first writing call of the drain, and its
     // runs
     let table: [(&[u8], &[Act<'_>], &[Act<'_>], u64, u32); 6] = [
         (ONE, &[], &[FINE], 1, 3),
         (TWO, &[], &both, 1, 4),
-        (THREE, &[], &both, 1, 4),
+        (THREE, &[], &all, 1, 5),
         // the first slot is that of the second minute, so that the first minute has the last
         (ONE, &BEFORE, &[FINE], 4, 2),
         (TWO, &BEFORE, &both, 4, 3),
-        (THREE, &BEFORE, &both, 4, 3),
+        (THREE, &BEFORE, &all, 4, 4),
     ];
     for (schemas, before, asks, first, runs) in table {
         for call in 0..=runs {
