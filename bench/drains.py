@@ -9,10 +9,12 @@ disk where none were. What is printed is of the drain alone, the reading of the 
 in ticks, microseconds for each metric, reads and writes of files for each point, as the kernel counts them (making and opening files is not in
 them), and the bytes for each metric that the files take on the disk and that they span. The rows of files of three archives are by a rule file,
 and of files made empty beforehand. The last rows are those of bench/drains_c.c, which makes the same calls of the system and nothing else, where
-there is a C compiler, and of whisper, where python3 has it. Nothing is checked beyond the summary, and nothing timed here is a test. Run ./carbon
+there is a C compiler, and of whisper, where python3 has it. At the end stands how often a ring file is opened for each drained metric: the calls of
+the system that succeed, under strace, where it is installed. Nothing is checked beyond the summary, and nothing timed here is a test. Run ./carbon
 once to build the program.
 """
 import os
+import re
 import resource
 import shutil
 import struct
@@ -138,6 +140,38 @@ def with_whisper(root, metrics):
             row("whisper, %s" % files, metrics, *child_seconds(command, folder))
 
 
+OPENED = re.compile(rb'^.*\bopen(?:at)?\(.*\.ring", .* = \d+$', re.MULTILINE)
+
+
+def opens(text, folder, metrics):
+    """How often a ring file is opened in a drain."""
+    with tempfile.NamedTemporaryFile() as told:
+        strace = ["strace", "-f", "-qq", "-e", "trace=open,openat", "-o", told.name]
+        script = Script(folder, ["--limit", "10000000"], strace)
+        script.tell(text)
+        script.settle()
+        told.seek(0, os.SEEK_END)
+        said = script.ask(b"!drain\n")
+        calls = told.read()
+        script.leave()
+    if said != b"drained %d\n" % metrics:
+        sys.exit("unexpected output: %r" % said[:200])
+    return len(OPENED.findall(calls))
+
+
+def with_strace(root, metrics, points):
+    if shutil.which("strace") is None:
+        print("no strace")
+        return
+    text = script(metrics, points, NOW - 30 - 60 * points)
+    with tempfile.TemporaryDirectory(dir=root) as folder:
+        write_rules(folder, SCHEMAS)
+        for files in ("new", "there"):
+            count = opens(text, folder, metrics)
+            name = "60s:1d,5m:30d,1h:5y, %d metrics, %d points, %s" % (metrics, points, files)
+            print("%-62s %8.3f opens of a ring file for each metric" % (name, count / metrics), flush=True)
+
+
 def main():
     need_program()
     root = sys.argv[1] if len(sys.argv) > 1 else MEMORY
@@ -159,6 +193,7 @@ def main():
             report("60s:1d,5m:30d,1h:5y, 10000 metrics, 100 points, %s" % files, 10_000, 100, folder)
     with_c(root, 10_000)
     with_whisper(root, 10_000)
+    with_strace(root, 1_000, 100)
 
 
 if __name__ == "__main__":

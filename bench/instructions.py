@@ -1,10 +1,10 @@
 #!/usr/bin/env python3
-"""Instructions that the built program takes, by kind of work: a line, a metric, a drain, a point.
+"""Instructions that the built program takes, by kind of work: a line, a metric, a drain, a point, a byte of a target.
 
 Usage: bench/instructions.py
 
-Each row counts what `valgrind --tool=callgrind` sees of some lines of a script that runs already, and prints it for one line, metric or
-point. Such counts are steady on a busy machine, where seconds are not: what the kernel does is not counted, and of a fill of bytes each
+Each row counts what `valgrind --tool=callgrind` sees of some lines of a script that runs already, and prints it for one line, metric, point or
+byte. Such counts are steady on a busy machine, where seconds are not: what the kernel does is not counted, and of a fill of bytes each
 counts as one. Nothing is checked beyond the answers' first words, and nothing counted here is a test. Run ./carbon once to build the program.
 """
 import os
@@ -20,6 +20,8 @@ SCHEMAS = (
     b"[default]\npattern = .*\nretentions = 60s:1d,5m:30d,1h:5y\n"
 )
 ONE_SECTION = b"[all]\npattern = .*\nretentions = 60s:1d,5m:30d,1h:5y\n"
+REFUSED = b"!ask from=x&target="
+ROOM = 16_384 - len(REFUSED)
 AGGREGATIONS = (
     b"[min]\npattern = \\.min$\nxFilesFactor = 0.1\naggregationMethod = min\n\n"
     b"[all]\npattern = .*\nxFilesFactor = 0.5\naggregationMethod = average\n"
@@ -112,6 +114,36 @@ def over_questions(place, counts):
         script.leave()
 
 
+def count_target(script, target):
+    """What a query of this target takes that is refused at its time, which comes behind the targets: nothing is asked."""
+    counted, answers = script.count([REFUSED + target + b"\n"] * 10)
+    if set(answers) != {b"refused bad time\n"}:
+        sys.exit("unexpected answers: %r" % answers)
+    return counted / 10
+
+
+def within(outer, inner):
+    """A target as long as a line has room for: 32 calls, the last around four globs of 498 values each."""
+    wide = b"servers.{%s}.load" % b",".join(b"web%04d" % k for k in range(498))
+    calls = [outer] * 31 + [inner]
+    room = ROOM - sum(len(name) + 2 for name in calls)
+    return b"(".join(calls) + b"(" + b",".join([wide] * 4).ljust(room, b"x") + b")" * 32
+
+
+def over_targets(place, counts):
+    script = Counted(place, os.path.join(counts, "targets"))
+    least = count_target(script, b"a")
+    for what, target in (
+        ("16 paths in a call", b"group(%s)" % b",".join(names(b"web", 16))),
+        ("779 paths in a call", b"group(%s)" % b",".join(names(b"web", 779))),
+        ("wide braces in 32 calls", within(b"absolute", b"group")),
+        ("the same, named by their texts", within(b"sumSeries", b"sumSeries")),
+    ):
+        each = (count_target(script, target) - least) / (len(target) - 1)
+        row("a byte of a target of {:,}: {}".format(len(target), what), each)
+    script.leave()
+
+
 def main():
     need_program()
     with folder() as place, folder() as counts:
@@ -126,6 +158,8 @@ def main():
         over_rules(place, counts, "three archives by rule files")
     with folder() as place, folder() as counts:
         over_questions(place, counts)
+    with folder() as place, folder() as counts:
+        over_targets(place, counts)
 
 
 if __name__ == "__main__":
