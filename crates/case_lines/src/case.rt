@@ -1,0 +1,104 @@
+//! One case, and its words.
+
+use crate::escapes::unescaped;
+use crate::fault::CaseFault;
+use std::alloc::Global;
+
+/// One case.
+#[derive(Drop)]
+pub struct Case {
+    verb: String,
+    words: Vec<Vec<u8>>,
+    wanted: Vec<u8>,
+}
+
+/// The case that a line says.
+pub fn read_case(alloc: Global, line: &str) -> Result<Case, CaseFault> {
+    let (call, wanted) = match line.split_once(" => ") {
+        Some(parts) => parts,
+        None => match line.strip_suffix(" =>") {
+            Some(call) => (call, ""),
+            None => return Err(CaseFault::Malformed),
+        },
+    };
+    let (verb, words) = call.split_once(' ').unwrap_or((call, ""));
+    Ok(Case {
+        verb: String::from_str(alloc, verb)?,
+        words: words_of(alloc, words)?,
+        wanted: unescaped(alloc, wanted)?,
+    })
+}
+
+// What the words of a text say.
+fn words_of(alloc: Global, text: &str) -> Result<Vec<Vec<u8>>, CaseFault> {
+    let mut words = Vec::new(alloc);
+    if text.is_empty() {
+        return Ok(words);
+    }
+    for word in text.split(' ') {
+        words.push(unescaped(alloc, word)?)?;
+    }
+    Ok(words)
+}
+
+impl Case {
+    /// The name of the call.
+    pub fn verb(&self) -> &str {
+        self.verb.as_str()
+    }
+
+    /// The text that it has to tell.
+    pub fn wanted(&self) -> &[u8] {
+        self.wanted.as_slice()
+    }
+
+    /// The number of its words.
+    pub fn len(&self) -> usize {
+        self.words.len()
+    }
+
+    /// The bytes of the word at a place, from 0 on.
+    pub fn bytes(&self, at: usize) -> Result<&[u8], CaseFault> {
+        match self.words.get(at) {
+            Some(word) => Ok(word.as_slice()),
+            None => Err(CaseFault::Malformed),
+        }
+    }
+
+    /// The words from a place on.
+    pub fn rest(&self, at: usize) -> &[Vec<u8>] {
+        self.words.get(at..).unwrap_or(&[])
+    }
+
+    /// That word as UTF-8.
+    pub fn text(&self, at: usize) -> Result<&str, CaseFault> {
+        match str::from_utf8(self.bytes(at)?) {
+            Ok(text) => Ok(text),
+            Err(_) => Err(CaseFault::Malformed),
+        }
+    }
+
+    /// That word as a number.
+    pub fn number(&self, at: usize) -> Result<u64, CaseFault> {
+        match self.text(at)?.parse::<u64>() {
+            Ok(number) => Ok(number),
+            Err(_) => Err(CaseFault::Malformed),
+        }
+    }
+
+    /// That word as a number of 32 bits.
+    pub fn small(&self, at: usize) -> Result<u32, CaseFault> {
+        match self.text(at)?.parse::<u32>() {
+            Ok(number) => Ok(number),
+            Err(_) => Err(CaseFault::Malformed),
+        }
+    }
+
+    /// That word as a number with a sign or none.
+    pub fn signed(&self, at: usize) -> Result<i64, CaseFault> {
+        match self.text(at)?.parse::<i64>() {
+            Ok(number) => Ok(number),
+            Err(_) => Err(CaseFault::Malformed),
+        }
+    }
+}

@@ -1,0 +1,131 @@
+//! Layouts, slots, cells and heads.
+
+use crate::told::{name_of, tell_bytes, tell_layout as tell_lawful};
+use crate::words::{archive_in, layout_of, layout_or_fault};
+use case_lines::{Case, CaseFault};
+use ring_format::{
+    CELL_BYTES, HEAD_BYTES, HeadFault, LayoutFault, read_cell, read_head, slot_of, write_cell,
+    write_head,
+};
+use std::alloc::{AllocError, Global};
+
+/// `layout ARCHIVES METHOD FACTOR`: `lawful`, or the first rule that is broken, with the archive.
+pub fn tell_layout(alloc: Global, told: &mut String, case: &Case) -> Result<(), CaseFault> {
+    match layout_or_fault(alloc, case)? {
+        Ok(_) => Ok(told.push_str("lawful")?),
+        Err(fault) => Ok(tell_layout_fault(told, fault)?),
+    }
+}
+
+/// The first rule that a layout breaks.
+pub fn tell_layout_fault(told: &mut String, fault: LayoutFault) -> Result<(), AllocError> {
+    match fault {
+        LayoutFault::NoArchive => told.push_str("no archive"),
+        LayoutFault::BadStep(i) => write!(told, "bad step {i}"),
+        LayoutFault::StepOrder(i) => write!(told, "step order {i}"),
+        LayoutFault::StepDivides(i) => write!(told, "step divides {i}"),
+        LayoutFault::TooFewPoints(i) => write!(told, "too few points {i}"),
+        LayoutFault::TooLong(i) => write!(told, "too long {i}"),
+        LayoutFault::Retention(i) => write!(told, "retention {i}"),
+        LayoutFault::TooManyPoints => told.push_str("too many points"),
+        LayoutFault::BadFactor => told.push_str("bad factor"),
+    }
+}
+
+/// `parts ARCHIVES METHOD FACTOR`: the method, the factor, the bytes of a file and the number of archives, and then of each archive
+/// its step, its points, its retention and where it begins in a file.
+pub fn tell_parts(alloc: Global, told: &mut String, case: &Case) -> Result<(), CaseFault> {
+    let layout = layout_of(alloc, case)?;
+    let method = name_of(layout.method());
+    let factor = layout.factor();
+    let size = layout.file_size();
+    write!(told, "{method} {factor} {size} {}", layout.archive_count())?;
+    for i in 0..layout.archive_count() {
+        let archive = layout.archive(i);
+        write!(told, ", {}x{}", archive.step, archive.points)?;
+        write!(told, " {} at {}", layout.retention(i), layout.offset(i))?;
+    }
+    Ok(())
+}
+
+/// `slot BASE BUCKET STEPxPOINTS`: the slot of the bucket.
+pub fn tell_slot(told: &mut String, case: &Case) -> Result<(), CaseFault> {
+    let base = case.small(0)?;
+    let bucket = case.small(1)?;
+    let archive = archive_in(case.text(2)?)?;
+    if archive.step == 0 || archive.points == 0 {
+        return Err(CaseFault::Malformed);
+    }
+    Ok(write!(told, "{}", slot_of(base, bucket, archive))?)
+}
+
+/// `cell BUCKET VALUE`: its bytes.
+pub fn tell_cell(told: &mut String, case: &Case) -> Result<(), CaseFault> {
+    let mut bytes = [0; CELL_BYTES];
+    write_cell(case.small(0)?, case.signed(1)?, &mut bytes);
+    Ok(tell_bytes(told, &bytes)?)
+}
+
+/// `read-cell BYTES`: its bucket and its value.
+pub fn tell_read_cell(alloc: Global, told: &mut String, case: &Case) -> Result<(), CaseFault> {
+    let bytes = bytes_from(alloc, case, 0)?;
+    let Some(bytes) = bytes.first_chunk() else {
+        return Err(CaseFault::Malformed);
+    };
+    let (bucket, value) = read_cell(bytes);
+    Ok(write!(told, "{bucket} {value}")?)
+}
+
+// The bytes that the words of a case from a place on say, each four.
+fn bytes_from(alloc: Global, case: &Case, at: usize) -> Result<Vec<u8>, CaseFault> {
+    let mut bytes = Vec::new(alloc);
+    for word in case.rest(at) {
+        bytes.extend_from_slice(&four_bytes(word)?)?;
+    }
+    Ok(bytes)
+}
+
+fn four_bytes(word: &[u8]) -> Result<[u8; 4], CaseFault> {
+    let Ok(text) = str::from_utf8(word) else {
+        return Err(CaseFault::Malformed);
+    };
+    match u32::from_str_radix(text, 16) {
+        Ok(number) => Ok(number.to_be_bytes()),
+        Err(_) => Err(CaseFault::Malformed),
+    }
+}
+
+/// `head ARCHIVES METHOD FACTOR`: its bytes.
+pub fn tell_head(alloc: Global, told: &mut String, case: &Case) -> Result<(), CaseFault> {
+    let layout = layout_of(alloc, case)?;
+    let mut head = [0xff; HEAD_BYTES];
+    let length = write_head(&layout, &mut head);
+    Ok(tell_bytes(told, head.get(..length).unwrap_or(&[]))?)
+}
+
+/// `read-head SIZE BYTES`: the layout of a file of this size that begins with these bytes and goes on with zeros, or its first fault.
+pub fn tell_read_head(alloc: Global, told: &mut String, case: &Case) -> Result<(), CaseFault> {
+    let size = case.number(0)?;
+    let mut bytes = bytes_from(alloc, case, 1)?;
+    bytes.resize(size.min(HEAD_BYTES as u64) as usize, 0)?;
+    match read_head(&bytes, size) {
+        Ok(layout) => Ok(tell_lawful(told, &layout)?),
+        Err(fault) => Ok(tell_head_fault(told, fault)?),
+    }
+}
+
+fn tell_head_fault(told: &mut String, fault: HeadFault) -> Result<(), AllocError> {
+    match fault {
+        HeadFault::Zero => told.push_str("zero"),
+        HeadFault::Short => told.push_str("short"),
+        HeadFault::Method => told.push_str("method"),
+        HeadFault::Count => told.push_str("count"),
+        HeadFault::Offset(i) => write!(told, "offset {i}"),
+        HeadFault::Retention => told.push_str("retention"),
+        HeadFault::Length => told.push_str("length"),
+        HeadFault::Layout(fault) => {
+            told.push_str("layout: ")?;
+            tell_layout_fault(told, fault)
+        }
+    }
+}

@@ -1,0 +1,117 @@
+//! The cells that are to be laid over a file.
+ghost use Rattle.std.specs.Prelude.{◌≡◌, IfOk};
+
+use crate::told::{tell_blank, tell_cell, tell_layout};
+use crate::words::{archive_in, cells_in, is_new, layout_of, path_in, place_in};
+use case_lines::{Case, CaseFault};
+use ring_format::{Archive, CellWrite, Layout, Patch};
+use std::alloc::{AllocError, Global};
+
+/// A patch of the metric of a path that lays these cells, in this order.
+pub fn patch_with(
+    alloc: Global,
+    path: &[u8],
+    layout: Layout,
+    fresh: bool,
+    cells: &[CellWrite],
+) -> Result<Patch, CaseFault>
+    ensures layout { IfOk result (λ patch. patch.layout ≡ layout) }
+    ensures fresh { IfOk result (λ patch. patch.fresh ≡ fresh) }
+{
+    let mut patch = Patch::new(alloc, path_in(alloc, path)?, layout, fresh);
+    for cell in cells {
+        if !patch.layout().has_slot(cell.archive, cell.slot) {
+            return Err(CaseFault::Malformed);
+        }
+        patch.lay(*cell)?;
+    }
+    Ok(patch)
+}
+
+/// `patch-of ARCHIVES METHOD FACTOR PATH new|old LAID`: what it is for.
+pub fn tell_patch(alloc: Global, told: &mut String, case: &Case) -> Result<(), CaseFault> {
+    let layout = layout_of(alloc, case)?;
+    let fresh = is_new(case.text(4)?)?;
+    let patch = patch_laying(alloc, case.bytes(3)?, layout, fresh, case.text(5)?)?;
+    Ok(tell_aim(told, &patch)?)
+}
+
+fn tell_aim(told: &mut String, patch: &Patch) -> Result<(), AllocError> {
+    told.push_str(if patch.fresh() { "new " } else { "old " })?;
+    write!(told, "{} ", patch.path().as_str())?;
+    tell_layout(told, &patch.layout())
+}
+
+/// The patch that lays the cells that a text says.
+pub fn patch_laying(
+    alloc: Global,
+    path: &[u8],
+    layout: Layout,
+    fresh: bool,
+    text: &str,
+) -> Result<Patch, CaseFault> {
+    let cells = cells_in(alloc, &layout, text)?;
+    patch_with(alloc, path, layout, fresh, &cells)
+}
+
+// The patch of `ARCHIVES METHOD FACTOR LAID`.
+fn patch_of(alloc: Global, case: &Case) -> Result<Patch, CaseFault> {
+    let layout = layout_of(alloc, case)?;
+    patch_laying(alloc, b"a", layout, false, case.text(3)?)
+}
+
+/// `patch-cells ARCHIVES METHOD FACTOR LAID`: how many cells there are, and all of them.
+pub fn tell_cells(alloc: Global, told: &mut String, case: &Case) -> Result<(), CaseFault> {
+    let patch = patch_of(alloc, case)?;
+    Ok(tell_laid(told, &patch)?)
+}
+
+fn tell_laid(told: &mut String, patch: &Patch) -> Result<(), AllocError> {
+    write!(told, "{}", patch.cell_count())?;
+    for (place, held) in patch.cells() {
+        told.push(' ')?;
+        tell_cell(told, *place, *held)?;
+    }
+    Ok(())
+}
+
+/// `patch-cell ARCHIVES METHOD FACTOR LAID ARCHIVE/SLOT`: the bucket and the value of the cell there, or `-`.
+pub fn tell_cell_at(alloc: Global, told: &mut String, case: &Case) -> Result<(), CaseFault> {
+    let place = place_in(case.text(4)?)?;
+    let patch = patch_of(alloc, case)?;
+    match patch.cell(place.archive, place.at) {
+        Some((bucket, value)) => Ok(write!(told, "{bucket}:{value}")?),
+        None => Ok(told.push('-')?),
+    }
+}
+
+/// `patch-found ARCHIVES METHOD FACTOR LAID NxM`: the cells that are found, where each of the first M slots of the first N archives is
+/// looked up.
+pub fn tell_found(alloc: Global, told: &mut String, case: &Case) -> Result<(), CaseFault> {
+    let grid = archive_in(case.text(4)?)?;
+    let patch = patch_of(alloc, case)?;
+    Ok(tell_grid(told, &patch, grid)?)
+}
+
+// Tells the cells that are found in the first slots of the first archives, whose counts stand as an archive's.
+fn tell_grid(told: &mut String, patch: &Patch, grid: Archive) -> Result<(), AllocError> {
+    for archive in 0..grid.step {
+        for slot in 0..grid.points {
+            if let Some(held) = patch.cell(archive, slot) {
+                tell_blank(told)?;
+                tell_cell(told, (archive, slot), held)?;
+            }
+        }
+    }
+    Ok(())
+}
+
+/// `patch-from ARCHIVES METHOD FACTOR LAID ARCHIVE/SLOT`: the first cell from there on, or `-`.
+pub fn tell_cell_from(alloc: Global, told: &mut String, case: &Case) -> Result<(), CaseFault> {
+    let place = place_in(case.text(4)?)?;
+    let patch = patch_of(alloc, case)?;
+    match patch.first_cell_from(place.archive, place.at) {
+        Some((place, held)) => Ok(tell_cell(told, place, held)?),
+        None => Ok(told.push('-')?),
+    }
+}

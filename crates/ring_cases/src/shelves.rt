@@ -1,0 +1,129 @@
+//! Patches that are handed out run by run.
+ghost use Rattle.std.specs.Prelude.{◌≢◌, None};
+
+use crate::patches::patch_laying;
+use crate::told::{tell_blank, tell_bytes};
+use crate::words::{halves, is_new, layout_of, number_in, path_in, place_in};
+use case_lines::{Case, CaseFault};
+use ring_format::{CellWrite, Layout, Patch, RUN_BYTES};
+use std::alloc::{AllocError, Global};
+use write_shelf::{Run, Shelf};
+
+// The most runs that are told.
+const MOST_RUNS: u32 = 20;
+
+/// `runs ARCHIVES METHOD FACTOR new|old ROWS`: the runs of a patch, each with the place in the file. `ROWS` is rows of neighbouring cells
+/// as `ARCHIVE/SLOTxCOUNT`, with commas between. A run is `create:LENGTH`, `head`, or such a row.
+pub fn tell_runs(alloc: Global, told: &mut String, case: &Case) -> Result<(), CaseFault> {
+    let layout = layout_of(alloc, case)?;
+    let fresh = is_new(case.text(3)?)?;
+    let patch = patch_of_rows(alloc, layout, fresh, case.text(4)?)?;
+    let mut shelf = Shelf::empty();
+    shelf.put(patch);
+    Ok(tell_all(told, &mut shelf)?)
+}
+
+fn tell_all(told: &mut String, shelf: &mut Shelf) -> Result<(), AllocError> {
+    for _ in 0..MOST_RUNS {
+        let Some(run) = shelf.next_run() else {
+            return Ok(());
+        };
+        tell_blank(told)?;
+        tell_run(told, run, shelf.run_at())?;
+        shelf.mark_written();
+    }
+    told.push_str(" ..")
+}
+
+fn patch_of_rows(
+    alloc: Global,
+    layout: Layout,
+    fresh: bool,
+    text: &str,
+) -> Result<Patch, CaseFault> {
+    let mut patch = Patch::new(alloc, path_in(alloc, b"a")?, layout, fresh);
+    if text.is_empty() {
+        return Ok(patch);
+    }
+    for row in text.split(',') {
+        lay_row(&mut patch, row)?;
+    }
+    Ok(patch)
+}
+
+fn lay_row(patch: &mut Patch, text: &str) -> Result<(), CaseFault> {
+    let (place, count) = halves(text, 'x')?;
+    let first = place_in(place)?;
+    for k in 0..number_in(count)? {
+        let slot = first.at.saturating_add(k);
+        if !patch.layout().has_slot(first.archive, slot) {
+            return Err(CaseFault::Malformed);
+        }
+        patch.lay(CellWrite {
+            archive: first.archive,
+            slot,
+            bucket: 60,
+            value: 1,
+        })?;
+    }
+    Ok(())
+}
+
+fn tell_run(told: &mut String, run: Run, at: u64) -> Result<(), AllocError> {
+    match run {
+        Run::Create { length } => write!(told, "create:{length}@{at}"),
+        Run::Cells {
+            archive,
+            slot,
+            count,
+        } => write!(told, "{archive}/{slot}x{count}@{at}"),
+        Run::Head => write!(told, "head@{at}"),
+    }
+}
+
+/// `run-bytes ARCHIVES METHOD FACTOR new|old LAID`: the runs of a patch, each with the place in the file, the number of cells that the
+/// patch has by then, and the bytes; `empty` at the end where the shelf has neither a run nor a patch.
+pub fn tell_run_bytes(alloc: Global, told: &mut String, case: &Case) -> Result<(), CaseFault> {
+    let layout = layout_of(alloc, case)?;
+    let fresh = is_new(case.text(3)?)?;
+    let patch = patch_laying(alloc, b"a", layout, fresh, case.text(4)?)?;
+    let mut shelf = Shelf::empty();
+    shelf.put(patch);
+    Ok(tell_all_bytes(told, &mut shelf)?)
+}
+
+fn tell_all_bytes(told: &mut String, shelf: &mut Shelf) -> Result<(), AllocError> {
+    for _ in 0..MOST_RUNS {
+        let Some(run) = shelf.next_run() else {
+            break;
+        };
+        tell_run(told, run, shelf.run_at())?;
+        tell_bytes_of_next(told, shelf)?;
+        shelf.mark_written();
+    }
+    tell_end(told, shelf)
+}
+
+fn tell_bytes_of_next(told: &mut String, shelf: &Shelf) -> Result<(), AllocError>
+    requires { shelf.now ≢ None }
+{
+    let mut bytes = [7; RUN_BYTES];
+    let count = shelf.run_bytes(&mut bytes);
+    tell_patch_cells(told, shelf)?;
+    tell_bytes(told, bytes.get(..count).unwrap_or(&[]))?;
+    told.push_str("; ")
+}
+
+fn tell_patch_cells(told: &mut String, shelf: &Shelf) -> Result<(), AllocError> {
+    match shelf.patch() {
+        Some(patch) => write!(told, " of {} cells: ", patch.cell_count()),
+        None => told.push_str(" of no patch: "),
+    }
+}
+
+fn tell_end(told: &mut String, shelf: &Shelf) -> Result<(), AllocError> {
+    if shelf.next_run().is_none() && shelf.patch().is_none() {
+        return told.push_str("empty");
+    }
+    told.push_str("..")
+}

@@ -1,0 +1,88 @@
+//! What a case tells, as text.
+
+use fixed_num::Milli;
+use ring_format::{Archive, Layout, Method};
+use std::alloc::AllocError;
+
+/// A blank, but not in front of all.
+pub fn tell_blank(told: &mut String) -> Result<(), AllocError> {
+    if told.as_str().is_empty() {
+        return Ok(());
+    }
+    told.push(' ')
+}
+
+/// `yes` or `no`.
+pub fn tell_whether(told: &mut String, holds: bool) -> Result<(), AllocError> {
+    told.push_str(if holds { "yes" } else { "no" })
+}
+
+/// A value, or `-` where it is missing.
+pub fn tell_value(told: &mut String, value: Option<Milli>) -> Result<(), AllocError> {
+    match value {
+        Some(value) => write!(told, "{value}"),
+        None => told.push('-'),
+    }
+}
+
+/// Values, with commas between.
+pub fn tell_values(told: &mut String, values: &[Option<Milli>]) -> Result<(), AllocError> {
+    for (i, value) in values.iter().enumerate() {
+        if i > 0 {
+            told.push(',')?;
+        }
+        tell_value(told, *value)?;
+    }
+    Ok(())
+}
+
+/// Bytes as hexadecimal digits, four bytes a word.
+pub fn tell_bytes(told: &mut String, bytes: &[u8]) -> Result<(), AllocError> {
+    for (i, byte) in bytes.iter().enumerate() {
+        if i > 0 && i % 4 == 0 {
+            told.push(' ')?;
+        }
+        write!(told, "{byte:02x}")?;
+    }
+    Ok(())
+}
+
+/// A cell: `ARCHIVE/SLOT:BUCKET:VALUE`.
+pub fn tell_cell(
+    told: &mut String,
+    place: (u32, u32),
+    held: (u32, Milli),
+) -> Result<(), AllocError> {
+    write!(told, "{}/{}:{}:{}", place.0, place.1, held.0, held.1)
+}
+
+/// Archives, with commas between.
+pub fn tell_archives(told: &mut String, archives: &[Archive]) -> Result<(), AllocError> {
+    for (i, archive) in archives.iter().enumerate() {
+        if i > 0 {
+            told.push(',')?;
+        }
+        write!(told, "{}x{}", archive.step, archive.points)?;
+    }
+    Ok(())
+}
+
+/// A layout: `ARCHIVES METHOD FACTOR`.
+pub fn tell_layout(told: &mut String, layout: &Layout) -> Result<(), AllocError> {
+    tell_archives(told, layout.archives())?;
+    write!(told, " {} {}", name_of(layout.method()), layout.factor())
+}
+
+/// The name of a method.
+pub fn name_of(method: Method) -> &'static str {
+    match method {
+        Method::Average => "average",
+        Method::Sum => "sum",
+        Method::Last => "last",
+        Method::Max => "max",
+        Method::Min => "min",
+        Method::AvgZero => "avg_zero",
+        Method::AbsMax => "absmax",
+        Method::AbsMin => "absmin",
+    }
+}

@@ -1,9 +1,0 @@
--- The patch is of the layout, and fresh or not, as it was made.
-use Rattle.std.proofs.Common.{◌≡◌}
-use Rattle.ring_tests.proofs.ring_archive_tests.patch_with.Given as goal
-
-abbrev pub invariant-loop-slot : goal.invariant-loop-slot
-invariant-loop-slot l = record {
-  layout : l.patch.layout ≡ l.fn.layout;
-  fresh : l.patch.fresh ≡ l.fn.fresh;
-}

@@ -1,0 +1,85 @@
+//! Metric lines.
+
+use crate::given::joined;
+use crate::{numbers, paths};
+use case_lines::{Case, CaseFault};
+use fixed_num::legal_moment;
+use metric_line::{Datum, LineFault, StampFault, read_line, read_line_over};
+use metric_path::MetricPath;
+use std::alloc::{AllocError, Global};
+
+/// Tells a case of metric lines; `false` where the verb is of another subject.
+pub fn tell(alloc: Global, told: &mut String, case: &Case) -> Result<bool, CaseFault> {
+    match case.verb() {
+        "line" => tell_line(alloc, told, case)?,
+        "lines-over" => tell_lines_over(alloc, told, case)?,
+        _ => return Ok(false),
+    }
+    Ok(true)
+}
+
+/// `line NOW LINE`: the path, the thousandths and the time of the line at the moment now, or why it is refused.
+fn tell_line(alloc: Global, told: &mut String, case: &Case) -> Result<(), CaseFault> {
+    let Some(now) = legal_moment(case.number(0)?) else {
+        return Err(CaseFault::Malformed);
+    };
+    match read_line(alloc, &joined(alloc, case, 1)?, now) {
+        Ok(datum) => Ok(push_datum(told, &datum)?),
+        Err(fault) => Ok(push_fault(told, fault)?),
+    }
+}
+
+/// `lines-over NOW LINE..`: the same of several lines, each read in the memory of the path before it.
+fn tell_lines_over(alloc: Global, told: &mut String, case: &Case) -> Result<(), CaseFault> {
+    let mut spare = None;
+    for line in case.rest(1) {
+        if !told.is_empty() {
+            told.push_str(", ")?;
+        }
+        tell_over(alloc, told, case, &mut spare, line.as_slice())?;
+    }
+    Ok(())
+}
+
+fn tell_over(
+    alloc: Global,
+    told: &mut String,
+    case: &Case,
+    spare: &mut Option<MetricPath>,
+    line: &[u8],
+) -> Result<(), CaseFault> {
+    let Some(now) = legal_moment(case.number(0)?) else {
+        return Err(CaseFault::Malformed);
+    };
+    match read_line_over(alloc, spare, line, now) {
+        Ok(datum) => {
+            push_datum(told, &datum)?;
+            *spare = Some(datum.path);
+            Ok(())
+        }
+        Err(fault) => Ok(push_fault(told, fault)?),
+    }
+}
+
+fn push_datum(told: &mut String, datum: &Datum) -> Result<(), AllocError> {
+    let path = datum.path.as_str();
+    write!(told, "{path} {} {}", datum.value, datum.time)
+}
+
+// The words of a fault.
+fn push_fault(told: &mut String, fault: LineFault) -> Result<(), AllocError> {
+    match fault {
+        LineFault::Fields(count) => write!(told, "fields {count}"),
+        LineFault::Path(fault) => {
+            told.push_str("path ")?;
+            paths::push_fault(told, fault)
+        }
+        LineFault::Value(fault) => {
+            told.push_str("value ")?;
+            numbers::push_fault(told, fault)
+        }
+        LineFault::Time(StampFault::NotNumber) => told.push_str("time no number"),
+        LineFault::Time(StampFault::OutOfRange) => told.push_str("time out of range"),
+        LineFault::NoMemory => told.push_str("no memory"),
+    }
+}

@@ -1,0 +1,105 @@
+//! An index of names.
+
+use crate::given::{glob_of, path_of, text_of};
+use crate::telling::push_next;
+use case_lines::{Case, CaseFault};
+use metric_index::Index;
+use metric_path::MetricPath;
+use std::alloc::Global;
+
+/// Tells a case of an index; `false` where the verb is of another subject.
+pub fn tell(alloc: Global, told: &mut String, case: &Case) -> Result<bool, CaseFault> {
+    match case.verb() {
+        "hits" => tell_hits(alloc, told, case)?,
+        "entry" => tell_entry(alloc, told, case)?,
+        "hits-sweep" => tell_sweep(alloc, told, case)?,
+        _ => return Ok(false),
+    }
+    Ok(true)
+}
+
+/// `hits GLOB STEP..`: what the glob finds in an index after these steps, as `PATH=ENTRY` in its order. A step is `+PATH,ENTRY`, which
+/// enters a path, `=PATH,ENTRY`, which sets the entry of one that is there, or `-PATH`, which takes one out.
+fn tell_hits(alloc: Global, told: &mut String, case: &Case) -> Result<(), CaseFault> {
+    let index = index_of(alloc, case)?;
+    let glob = glob_of(alloc, case.bytes(0)?)?;
+    for hit in index.find(alloc, &glob)?.iter() {
+        push_next(told, hit.path.as_str())?;
+        write!(told, "={}", *hit.entry)?;
+    }
+    Ok(())
+}
+
+/// `entry PATH STEP..`: the entry that the path has after these steps, or `none`, and how many paths there are.
+fn tell_entry(alloc: Global, told: &mut String, case: &Case) -> Result<(), CaseFault> {
+    let index = index_of(alloc, case)?;
+    match index.get(&path_of(alloc, case.bytes(0)?)?) {
+        Some(entry) => told.push_str(entry.as_str())?,
+        None => told.push_str("none")?,
+    }
+    Ok(write!(told, " of {}", index.len())?)
+}
+
+fn index_of(alloc: Global, case: &Case) -> Result<Index<String>, CaseFault> {
+    let mut index = Index::new(alloc);
+    for step in case.rest(1) {
+        make_step(alloc, &mut index, step.as_slice())?;
+    }
+    Ok(index)
+}
+
+fn make_step(alloc: Global, index: &mut Index<String>, step: &[u8]) -> Result<(), CaseFault> {
+    match step {
+        [b'+', rest @ ..] => {
+            let pair = pair_of(alloc, rest)?;
+            index.insert(pair.path, pair.entry)?;
+        }
+        [b'=', rest @ ..] => {
+            let Pair { path, entry } = pair_of(alloc, rest)?;
+            if index.get(&path).is_none() {
+                return Err(CaseFault::Malformed);
+            }
+            index.set(&path, entry);
+        }
+        [b'-', rest @ ..] => index.remove(&path_of(alloc, rest)?),
+        _ => return Err(CaseFault::Malformed),
+    }
+    Ok(())
+}
+
+// A path, and the entry that it is to have.
+#[derive(Drop)]
+struct Pair {
+    path: MetricPath,
+    entry: String,
+}
+
+fn pair_of(alloc: Global, text: &[u8]) -> Result<Pair, CaseFault> {
+    let Some((path, entry)) = text_of(text)?.split_once(',') else {
+        return Err(CaseFault::Malformed);
+    };
+    Ok(Pair {
+        path: path_of(alloc, path.as_bytes())?,
+        entry: String::from_str(alloc, entry)?,
+    })
+}
+
+/// `hits-sweep NAMES TIMES GLOB`: how many hits so many searches have together, in an index of the names `servers.web00000.cpu` and on.
+fn tell_sweep(alloc: Global, told: &mut String, case: &Case) -> Result<(), CaseFault> {
+    let index = index_of_servers(alloc, case.small(0)?)?;
+    let glob = glob_of(alloc, case.bytes(2)?)?;
+    let mut hits: usize = 0;
+    for _ in 0..case.small(1)? {
+        hits = hits.saturating_add(index.find(alloc, &glob)?.len());
+    }
+    Ok(write!(told, "{hits}")?)
+}
+
+fn index_of_servers(alloc: Global, names: u32) -> Result<Index<u32>, CaseFault> {
+    let mut index = Index::new(alloc);
+    for n in 0..names {
+        let text = format!(in alloc; "servers.web{n:05}.cpu")?;
+        index.insert(path_of(alloc, text.as_bytes())?, n)?;
+    }
+    Ok(index)
+}

@@ -1,0 +1,98 @@
+//! Numbers.
+
+use crate::telling::push_bytes;
+use case_lines::{Case, CaseFault};
+use fixed_num::{
+    MILLI_TEXT, NumFault, legal_moment, milli_front, narrow, print_milli, read_milli,
+    read_millionths, read_nano, read_whole, wide,
+};
+use std::alloc::AllocError;
+
+/// Tells a case of numbers; `false` where the verb is of another subject.
+pub fn tell(told: &mut String, case: &Case) -> Result<bool, CaseFault> {
+    match case.verb() {
+        "whole" => tell_whole(told, case)?,
+        "milli" => tell_milli(told, case)?,
+        "milli-front" => tell_front(told, case)?,
+        "milli-text" => tell_text(told, case)?,
+        "nano" => tell_nano(told, case)?,
+        "millionths" => tell_millionths(told, case)?,
+        "narrow" => tell_narrow(told, case)?,
+        "moment" => tell_moment(told, case)?,
+        _ => return Ok(false),
+    }
+    Ok(true)
+}
+
+/// `whole TEXT`: the whole number, or `none`.
+fn tell_whole(told: &mut String, case: &Case) -> Result<(), CaseFault> {
+    match read_whole(case.bytes(0)?) {
+        Some(number) => Ok(write!(told, "{number}")?),
+        None => Ok(told.push_str("none")?),
+    }
+}
+
+/// `milli TEXT`: the value in thousandths, or its fault.
+fn tell_milli(told: &mut String, case: &Case) -> Result<(), CaseFault> {
+    match read_milli(case.bytes(0)?) {
+        Ok(value) => Ok(write!(told, "{value}")?),
+        Err(fault) => Ok(push_fault(told, fault)?),
+    }
+}
+
+/// `milli-front TEXT`: the value in thousandths at the front of the text and the bytes that it takes, or `none`.
+fn tell_front(told: &mut String, case: &Case) -> Result<(), CaseFault> {
+    match milli_front(case.bytes(0)?) {
+        Some(front) => Ok(write!(told, "{} of {}", front.value, front.len)?),
+        None => Ok(told.push_str("none")?),
+    }
+}
+
+/// `milli-text VALUE`: the text of a value in thousandths.
+fn tell_text(told: &mut String, case: &Case) -> Result<(), CaseFault> {
+    let mut text = [0; MILLI_TEXT];
+    let length = print_milli(case.signed(0)?, &mut text);
+    Ok(push_bytes(told, text.get(..length).unwrap_or(&[]))?)
+}
+
+/// `nano TEXT`: the number in billionths, or its fault.
+fn tell_nano(told: &mut String, case: &Case) -> Result<(), CaseFault> {
+    match read_nano(case.bytes(0)?) {
+        Ok(value) => Ok(write!(told, "{value}")?),
+        Err(fault) => Ok(push_fault(told, fault)?),
+    }
+}
+
+/// `millionths TEXT`: the number from 0 to 1 in millionths, or its fault.
+fn tell_millionths(told: &mut String, case: &Case) -> Result<(), CaseFault> {
+    match read_millionths(case.bytes(0)?) {
+        Ok(value) => Ok(write!(told, "{value}")?),
+        Err(fault) => Ok(push_fault(told, fault)?),
+    }
+}
+
+/// `narrow VALUE MORE`: the sum of both as a value, or `none` where it is none.
+fn tell_narrow(told: &mut String, case: &Case) -> Result<(), CaseFault> {
+    let more = i128::from(case.signed(1)?);
+    match narrow(wide(case.signed(0)?).saturating_add(more)) {
+        Some(value) => Ok(write!(told, "{value}")?),
+        None => Ok(told.push_str("none")?),
+    }
+}
+
+/// `moment NUMBER`: the number of seconds as a moment, or `none` where it is no legal one.
+fn tell_moment(told: &mut String, case: &Case) -> Result<(), CaseFault> {
+    match legal_moment(case.number(0)?) {
+        Some(moment) => Ok(write!(told, "{moment}")?),
+        None => Ok(told.push_str("none")?),
+    }
+}
+
+/// The words of a fault.
+pub fn push_fault(told: &mut String, fault: NumFault) -> Result<(), AllocError> {
+    told.push_str(match fault {
+        NumFault::OutOfRange => "out of range",
+        NumFault::NotFinite => "not finite",
+        NumFault::NotNumber => "no number",
+    })
+}
