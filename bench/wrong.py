@@ -1,0 +1,720 @@
+#!/usr/bin/env python3
+"""Wrong bodies: plants the bugs that are listed in the folder `wrong`, many at once, and says of each what refuses it.
+
+Usage: bench/wrong.py [--jobs N] [--keep CLONE] CRATE..      tries the wrong bodies of these crates
+       bench/wrong.py [--jobs N] [--keep CLONE] --all        tries all of them, in the order of crates.txt
+       bench/wrong.py --list [CRATE..]                       tries nothing: counts them, and looks whether each still applies
+
+`wrong/CRATE.edit` has the wrong bodies of a crate, with an empty line between two of them, and comments behind a `#` that begins a line:
+
+    name: negative_rounds_toward_zero            once in a file
+    user: what somebody who runs the daemon, sends points to it or looks at its graphs would see
+    refused: contract                            the proof of the changed function fails
+             test CRATE NAME                     or the test of this name in that crate of tests does; without a NAME, any
+             nothing, REASON                     or it is let through, and why that is so
+    file: src/x.rt                               in the crate's folder; or a file of `proofs` whose names are to fit the bug
+    old: text                                    what stands once in that file, in one line
+    new: text                                    and the bug in its place; further pairs, behind a file of their own or not, may follow
+
+They are tried in a clone of what is committed here, which is removed at the end. With `--keep CLONE` it is made there and stays, and one that is
+there is brought to what is committed here: the next run then begins with what this one proved. What the last check of each round said is then
+in CLONE/out/wrong. `rt check` also begins with what was proved in other copies on this machine, while their folders `out` stand.
+
+A round plants as many bodies as fit, and is one `rt check --allow-holes` of the crate. A function gets one body at most, and none if it calls one
+that gets another, by the names that stand in its text where a function may. Then each body's functions are judged by what the check says of them and of their closures:
+
+    contract     something of their own is not proved: a clause, an invariant, what a callee requires. Where the check only came to a limit of the
+                 prover, that is said
+    proof file   all that fails is that a proof file names what the body took away, which says nothing of the contract. Such a body is tried once
+                 more, with the names in that file that the check asks for
+    let through  nothing of their own fails: `proved`, `no holes`, or only `it calls Y`, where Y has another body
+    bad          the body does not apply or does not compile, or the check has no line for its function
+
+A bug in a constant counts as one in each function that names it. Bodies in what is neither a function nor a constant, and those of which a round
+leaves a doubt (a proof of no function fails, or one of a function without a body), are tried again alone. Where a round does not compile, the
+bodies on the lines that the compiler names are tried again alone and the others together; where it names none of theirs, each half by itself.
+
+Bodies that a test refuses are planted by turns over that crate of tests, which `rt try --test` interprets: each in half of some runs, so that the
+runs of no two are a part of each other. Such a body is refused if its test fails in its own runs and in no other, which no other one of them
+can bring about; else it is tried alone. Each first has to pass in a run without bodies. One without the name of a test is tried alone.
+
+Prints a line for each body, and a table at the end; the minutes are those of the processor. The status is 1 if a body came out weaker than its
+line `refused` says (proof file is weaker than contract, and let through than both), is bad, or could not be tried.
+"""
+import collections
+import difflib
+import itertools
+import os
+import re
+import resource
+import shutil
+import signal
+import subprocess
+import sys
+import tempfile
+
+ROOT = os.path.dirname(os.path.dirname(os.path.abspath(__file__)))
+CONTRACT, PROOF_FILE, TEST, LET, BAD, UNTRIED = "contract", "proof file", "test", "let through", "bad", "not tried"
+FN = re.compile(r"( *)(?:pub(?:\([a-z ]+\))? )?(?:const |unsafe )*fn (\w+)")
+ITEM = re.compile(r"(?:pub(?:\([a-z ]+\))? )?(?:const|static) (\w+)\s*:")
+IMPL = re.compile(r"impl\b(?:<.*?>)? (?:(?:\w+::)*(\w+)(?:<.*>)? for )?(?:\w+::)*(\w+)")
+TRAIT = re.compile(r"(?:pub(?:\([a-z ]+\))? )?trait (\w+)")
+CALL = re.compile(r"\b(\w+)\s*(?:::<[^;{}]*>)?\s*\(")
+ARGUMENT = re.compile(r"[(,]\s*(?:\w+::)*(\w+)\s*(?=[,)])")
+SAID = re.compile(r"(fn|impl|struct|enum|trait|union|const|static) (\S+): (.*)")
+ERROR = re.compile(r"(?:\./)?((?:src|specs|proofs)/\S+?):(\d+):\d+: error(\[[\w-]+\])?: (.*)")
+NAMES = re.compile(r"has no field|has no `|is not in scope|can be named from here|no such|names nothing|is no name")
+FOLLOWS = re.compile(r"was not admitted|which antt refuses|not checked, since")
+LIMIT = re.compile(r"could not tell|stopped at the step limit|outgrew the memory limit|ran out of (?:stack|the (?:steps|memory))")
+# What `rt` says of its own state, after which the check has judged nothing.
+UNSOUND = re.compile(r"the kept work of a library could not be used|No space left on device")
+
+Function = collections.namedtuple("Function", "file first last scopes name text")
+
+
+class Body:
+    """A wrong body, as it stands in `wrong`, and what was found of it."""
+
+    def __init__(self, crate, fields, pairs, at):
+        self.crate, self.fields, self.pairs, self.at = crate, fields, pairs, at
+        self.name = fields.get("name", "?")
+        self.refused = fields.get("refused", "")
+        words = self.refused.split()
+        self.tests = words[1:] if words[:1] == ["test"] else None
+        self.lines = {}  # by file and number, from 0: what stands there with the bug
+        self.functions = []
+        self.is_loose = False  # it changes what is neither a function nor a constant
+        self.is_fitted = False  # its functions' proof files were given the names that it makes
+        self.verdict, self.why = None, ""
+
+    def wanted(self):
+        return TEST if self.tests else LET if self.refused.startswith("nothing") else CONTRACT
+
+    def is_weaker(self):
+        order = [LET, PROOF_FILE, CONTRACT]
+        if self.wanted() == TEST:
+            return self.verdict != TEST
+        return self.verdict not in order or order.index(self.verdict) < order.index(self.wanted())
+
+    def end(self, verdict, why=""):
+        self.verdict, self.why = verdict, why
+        why = ", ".join(filter(None, [why, "with fitted names" if self.is_fitted else ""]))
+        mark = " <-- weaker than it says" if self.is_weaker() else ""
+        if self.wanted() == LET and verdict in (PROOF_FILE, CONTRACT):
+            mark = " (stronger than it says)"
+        where = ", ".join(sorted({it.name for it in self.functions})) or "-"
+        print("%-11s  %s %s [%s]%s%s" % (verdict, self.crate, self.name, where[:60], why and ": " + why, mark), flush=True)
+
+
+def bodies_of(crate):
+    """Reads a file of `wrong`, and stops at what is not in its form."""
+    path = "%s/wrong/%s.edit" % (ROOT, crate)
+    found, fields, pairs, file, old = [], {}, [], None, None
+    begun = 0
+
+    def fault(number, why):
+        sys.exit("%s:%d: %s" % (os.path.relpath(path), number, why))
+
+    with open(path, encoding="utf-8") as it:
+        lines = it.read().split("\n")
+    for number, line in enumerate(lines + [""], 1):
+        if line.startswith("#"):
+            continue
+        if not line.strip():
+            if fields or pairs:
+                if old is not None or not pairs or not {"name", "user", "refused"} <= set(fields):
+                    fault(begun, "it wants a name, user, refused, file, old and new")
+                if not re.fullmatch(r"contract|test \w+( \S+)?|nothing, .+", fields["refused"]):
+                    fault(begun, "`refused` is `contract`, `test CRATE NAME` or `nothing, REASON`")
+                if any(it.name == fields["name"] for it in found):
+                    fault(begun, "its name stands twice")
+                found.append(Body(crate, fields, pairs, begun))
+            fields, pairs, file, old = {}, [], None, None
+            continue
+        key, colon, value = line.partition(":")
+        value = value[1:] if value.startswith(" ") else value
+        if not fields and not pairs:
+            begun = number
+        if not colon or key not in ("name", "user", "refused", "file", "old", "new"):
+            fault(number, "this line is of no known kind")
+        if key == "file":
+            file = value.strip()
+        elif key == "old":
+            if old is not None or not file:
+                fault(number, "an `old` stands behind a `file`, and each has a `new`")
+            old = value
+        elif key == "new":
+            if old is None:
+                fault(number, "there is no `old` for it")
+            pairs.append((file, old, value))
+            old = None
+        elif key in fields:
+            fault(number, "`%s` stands twice" % key)
+        else:
+            fields[key] = value.strip()
+    return found
+
+
+def functions_of(file, lines):
+    """The functions of a source: where each begins and ends (in the layout that `rt fmt` makes), and the names that its impl may go by."""
+    found, scopes = [], ()
+    for at, line in enumerate(lines):
+        if line[:1] not in ("", " ", "}"):
+            head, trait = IMPL.match(line), TRAIT.match(line)
+            scopes = (head[2] + (head[1] or ""), head[2]) if head else (trait[1],) if trait else ()
+        it = FN.match(line)
+        if not it:
+            continue
+        last = at
+        if not (line.rstrip().endswith("}") and line.count("{") == line.count("}")):
+            while last + 1 < len(lines) and lines[last].rstrip() not in (it[1] + "}", it[1] + "};"):
+                last += 1
+                if FN.match(lines[last]) and len(FN.match(lines[last])[1]) <= len(it[1]):
+                    last -= 1  # (one with no body, of a trait)
+                    break
+        found.append(Function(file, at, last, scopes if it[1] else (), it[2], "\n".join(lines[at : last + 1])))
+    return found
+
+
+class Sources:
+    """What a crate's folders `src` and `proofs` have as they are committed."""
+
+    def __init__(self, folder):
+        self.folder, self.lines, self.functions = folder, {}, []
+        for at, _, names in itertools.chain(os.walk(folder + "/src"), os.walk(folder + "/proofs")):
+            for name in names:
+                file = os.path.relpath("%s/%s" % (at, name), folder)
+                if name.endswith((".rt", ".antt")):
+                    with open("%s/%s" % (folder, file), encoding="utf-8") as it:
+                        self.lines[file] = it.read().split("\n")
+                if name.endswith(".rt"):
+                    self.functions += functions_of(file, self.lines[file])
+
+    def place(self, body):
+        """Finds the lines and the functions that a body changes, or says why it does not apply."""
+        texts = {}
+        for file, old, new in body.pairs:
+            if file not in self.lines:
+                return "there is no file " + file
+            text = texts.setdefault(file, "\n".join(self.lines[file]))
+            count = text.count(old) if old else 0
+            if count != 1:
+                return "an old text stands %d times in %s, and not once: %s" % (count, file, old.strip()[:80])
+            texts[file] = text.replace(old, new)
+        for file, text in texts.items():
+            for at, (line, was) in enumerate(zip(text.split("\n"), self.lines[file])):
+                if line != was:
+                    body.lines[file, at] = line
+        if not body.lines:
+            return "it changes nothing"
+        for file, at in [it for it in body.lines if it[0].endswith(".rt")]:
+            own = [it for it in self.functions if it.file == file and it.first <= at <= it.last]
+            item = ITEM.match(self.lines[file][at].strip())
+            if own:
+                body.functions.append(own[-1])
+            elif item:
+                body.functions += self.users(item[1])
+            body.is_loose |= not own and (not item or not body.functions)
+        body.functions = list(dict.fromkeys(body.functions))
+        return None
+
+    def users(self, name):
+        """The functions that name a constant, or another constant that is made of it."""
+        word = re.compile(r"\b%s\b" % name)
+        found = [it for it in self.functions if word.search(it.text)]
+        for lines in self.lines.values():
+            for line in lines:
+                item = ITEM.match(line.strip())
+                if item and item[1] != name and word.search(line.partition("=")[2]):
+                    found += self.users(item[1])
+        return found
+
+    def write(self, bodies):
+        """Writes all files anew, with these bodies and no others."""
+        for file, lines in self.lines.items():
+            changed = list(lines)
+            for body in bodies:
+                for (other, at), line in body.lines.items():
+                    if other == file:
+                        changed[at] = line
+            text = "\n".join(changed)
+            path = "%s/%s" % (self.folder, file)
+            with open(path, encoding="utf-8") as it:
+                is_same = it.read() == text
+            if not is_same:
+                with open(path, "w", encoding="utf-8") as it:
+                    it.write(text)
+
+
+def calls_in(body):
+    """All names that may be those of functions which a body's functions call, with the bug or without: what stands before a bracket, and what stands
+    alone as an argument."""
+    texts = [it.text.partition(it.name)[2] for it in body.functions] + list(body.lines.values())
+    return {name for text in texts for name in itertools.chain(CALL.findall(text), ARGUMENT.findall(text))}
+
+
+def is_apart(one, other):
+    """Whether two bodies may be planted together: not in one function, and not in one that may call the other's."""
+    if one.is_loose or other.is_loose or set(one.functions) & set(other.functions):
+        return False
+    return not {it.name for it in one.functions} & calls_in(other) and not {it.name for it in other.functions} & calls_in(one)
+
+
+def in_rounds(bodies):
+    """Divides bodies into rounds: first those that stand apart from the fewest, each into the first round where it may stand."""
+    apart = {(a, b): is_apart(a, b) for a in bodies for b in bodies if a is not b}
+    rounds = []
+    for body in sorted(bodies, key=lambda a: -sum(not apart[a, b] for b in bodies if a is not b)):
+        for one in rounds:
+            if all(apart[body, other] for other in one):
+                one.append(body)
+                break
+        else:
+            rounds.append([body])
+    return rounds
+
+
+def timed(words, folder):
+    """Runs a command, and gives its status, what it wrote, and the seconds of the processor that it and its own took."""
+
+    def used():
+        spent = resource.getrusage(resource.RUSAGE_CHILDREN)
+        return spent.ru_utime + spent.ru_stime
+
+    begun = used()
+    flags = {"cwd": folder, "stdin": subprocess.DEVNULL, "stdout": subprocess.PIPE, "stderr": subprocess.STDOUT, "errors": "replace"}
+    with subprocess.Popen(words, start_new_session=True, **flags) as ran:
+        try:
+            text = ran.communicate()[0]
+        except BaseException:
+            os.killpg(ran.pid, signal.SIGTERM)
+            ran.wait()
+            raise
+    return ran.returncode, text, used() - begun
+
+
+def module_of(function):
+    words = function.file[len("src/") : -len(".rt")].split("/")
+    return [] if words in (["lib"], ["main"]) else words
+
+
+def is_of(parts, function):
+    """Whether a path of the check, or of the folder `proofs`, is that of a function or of a closure in it."""
+    parts = [it.split("+")[0] for it in parts if it != "fn"]
+    own = module_of(function)
+    if parts[: len(own)] != own:
+        return False
+    rest = parts[len(own) :]
+    if not function.scopes:
+        return rest[:1] == [function.name]
+    if rest[1:2] != [function.name]:
+        return False
+    # (the impl of a trait goes by the type, the trait and what the trait is of)
+    return rest[0] in function.scopes or function.scopes[0] != function.scopes[-1] and rest[0].startswith(function.scopes[0])
+
+
+def segments(text):
+    """What a line says of a function, cut at each `; ` that stands in no name."""
+    parts, quoted = [""], False
+    for piece in re.split(r"(`|; )", text):
+        if piece == "`":
+            quoted = not quoted
+        if piece == "; " and not quoted:
+            parts.append("")
+        else:
+            parts[-1] += piece
+    return parts
+
+
+class Log:
+    """What a check said of a crate."""
+
+    def __init__(self, crate, text):
+        self.crate, self.text = crate, text
+        self.said, self.errors = [], []
+        for line in text.split("\n"):
+            it = SAID.match(line)
+            if it and it[2].split("::")[0] == crate:
+                self.said.append((it[1], it[2].split("::")[1:], it[3].strip()))
+            it = ERROR.match(line)
+            if it:
+                self.errors.append((it[1], int(it[2]) - 1, it[4], bool(it[3])))
+
+    def is_judged(self):
+        """Whether the check came to the functions of the crate."""
+        return any(kind == "fn" for kind, _, _ in self.said)
+
+    def in_src(self):
+        """The places in `src` that were not even read: what the compiler refuses, and what the prover cannot read."""
+        found = []
+        for file, at, what, is_compile in self.errors:
+            if file.startswith("src/") and (is_compile or NAMES.search(re.sub(r"`[^`]*`", "`", what))):
+                found.append((file, at, what))
+        return found
+
+    def refusals(self, function, every):
+        """What of a function's own is not proved: pairs of a kind (CONTRACT, PROOF_FILE, "limit", "follows", "doubt") and what was said. None if no
+        line is of it."""
+        lines = [it for it in self.said if it[0] == "fn" and is_of(it[1], function)]
+        # an impl's laws are judged with the functions in it, if it is that of a trait
+        impls = [it for it in self.said if it[0] == "impl" and it[1][:-1] == module_of(function) and is_of(it[1] + [function.name], function)]
+        if not lines:
+            return None
+        found = []
+        for _, _, text in lines + (impls if len(function.scopes) > 1 and function.scopes[0] != function.scopes[1] else []):
+            if text in ("proved", "no holes"):
+                continue
+            for part in segments(text):
+                bare = re.sub(r"`[^`]*`", "`", part)
+                if re.match(r"(?:no proof: |not proved: |could not tell: )?it calls", bare) or bare in ("not proved", "no proof"):
+                    continue
+                if LIMIT.search(bare) and "stands on" not in bare:
+                    found.append(("limit", part))
+                elif re.search(r"stands on|depends on", bare):
+                    found += self.stood_on(part, function, every)
+                else:
+                    found.append((CONTRACT, part))
+            own = self.in_proofs(function)
+            found += own
+            if not own and text.startswith("not proved") and not re.search("it calls|stands on", text):
+                found.append(("doubt", text))
+        return found
+
+    def stood_on(self, part, function, every):
+        """What is refused of the proofs that a function is said to stand on, but for its own, of which the errors tell."""
+        for name in re.findall(r"`([^`]*)`", part):
+            steps = name.split(".")
+            if steps[:3] != ["Rattle", self.crate, "proofs"]:
+                return [("doubt", part)]
+            if not any(is_of(steps[3:], other) for other in every):
+                return [("doubt", part)]  # (that of no function; else that one is judged by itself)
+        return []
+
+    def in_proofs(self, function):
+        """What is refused in a function's own proof files: for what has to be proved there, or only for a name that is gone."""
+        found = []
+        for file, _, what, _ in self.errors:
+            steps = file[: -len(".antt")].split("/")
+            if steps[0] == "proofs" and is_of(steps[1:], function):
+                bare = re.sub(r"`[^`]*`", "`", what)
+                kind = "limit" if LIMIT.search(bare) else PROOF_FILE if NAMES.search(bare) else "follows" if FOLLOWS.search(bare) else CONTRACT
+                found.append((kind, what))
+        return found
+
+
+def fitted(log, body, sources):
+    """Where a body is refused only for names that are gone: gives its functions' proof files the names that the check asks for in their place, as a
+    condition that is turned round has another name. Says whether there was something to change."""
+    asked = set(re.findall(r"^note: src/.* \(`([^`]+)`\)", log.text, re.M))
+    changes = {}
+    for gone, rest in re.findall(r"^help: `Goals` has no `([^`]+)`; rattle asks for (.*)", log.text, re.M):
+        able = set(re.findall(r"`([^`]+)`", rest)) | asked
+        near = difflib.get_close_matches(gone, sorted(it for it in able if it != gone), 1, 0.5)
+        if near:
+            one, other = gone.split("-"), near[0].split("-")
+            for kind, a, b, c, d in difflib.SequenceMatcher(None, one, other, False).get_opcodes():
+                if kind != "equal":
+                    changes["-".join(one[max(a - 1, 0) : b + 1])] = "-".join(other[max(c - 1, 0) : d + 1])
+    more = {}
+    for file, lines in sources.lines.items():
+        steps = file[: -len(".antt")].split("/")
+        if steps[0] == "proofs" and any(is_of(steps[1:], it) for it in body.functions):
+            for at, line in enumerate(lines):
+                changed = body.lines.get((file, at), line)
+                for one, other in changes.items():
+                    changed = changed.replace(one, other)
+                if changed != body.lines.get((file, at), line):
+                    more[file, at] = changed
+    body.lines.update(more)
+    return bool(more)
+
+
+def judge(log, body, is_alone, every):
+    """The verdict of a body from the check of its round, and what to say with it; None for one that is to be tried again alone."""
+    found, seen = [], False
+    functions = every if body.is_loose else body.functions
+    for function in functions:
+        refusals = log.refusals(function, every)
+        seen |= refusals is not None
+        found += refusals or []
+    kinds = {kind for kind, _ in found}
+    if not seen:
+        return (BAD, "the check has no line of its function") if is_alone else None
+    for kind, verdict, why in ((CONTRACT, CONTRACT, ""), ("limit", CONTRACT, "only by a limit of the prover"), (PROOF_FILE, PROOF_FILE, "")):
+        if kind in kinds:
+            return verdict, why
+    if kinds & {"doubt", "follows"} or body.is_loose and any(text not in ("proved", "no holes") for _, _, text in log.said):
+        return (PROOF_FILE, "by a proof of no function") if is_alone else None
+    return LET, ""
+
+
+class Trier:
+    """A clone, and what was spent in it."""
+
+    def __init__(self, keep, jobs):
+        self.jobs, self.seconds, self.checks = jobs, collections.Counter(), collections.Counter()
+        self.room = None if keep else tempfile.mkdtemp(prefix="wrong-")
+        self.clone = os.path.abspath(keep) if keep else self.room + "/clone"
+        if keep and os.path.exists(self.clone + "/.git"):
+            subprocess.run(["git", "-C", self.clone, "fetch", "-q", ROOT, "HEAD"], check=True)
+            subprocess.run(["git", "-C", self.clone, "reset", "-q", "--hard", "FETCH_HEAD"], check=True)
+        else:
+            subprocess.run(["git", "clone", "-q", ROOT, self.clone], check=True)
+
+    def close(self):
+        if self.room:
+            shutil.rmtree(self.room, ignore_errors=True)
+        elif os.path.isdir(self.clone):
+            subprocess.run(["git", "-C", self.clone, "checkout", "-q", "--", "crates"])
+
+    def check(self, crate, sources, bodies):
+        sources.write(bodies)
+        for _ in range(2):
+            words = ["rt", "check", "--allow-holes", "--jobs", str(self.jobs)]
+            status, text, seconds = timed(words, sources.folder)
+            self.seconds[crate] += seconds
+            self.keep(crate, bodies, text)
+            if status in (0, 1, 3) and not UNSOUND.search(text):
+                return Log(crate, text)
+        return None
+
+    def keep(self, crate, bodies, text):
+        """Keeps what was said, for one who looks into the clone."""
+        self.checks[crate] += 1
+        os.makedirs(self.clone + "/out/wrong", exist_ok=True)
+        with open("%s/out/wrong/%s-%d" % (self.clone, crate, self.checks[crate]), "w", encoding="utf-8") as it:
+            it.write("".join("%s\n" % body.name for body in bodies) + "\n" + text)
+
+    def crate(self, crate, bodies):
+        """Tries the bodies of a crate that no test is said to refuse."""
+        sources = Sources("%s/crates/%s" % (self.clone, crate))
+        able = []
+        for body in bodies:
+            why = sources.place(body)
+            if why:
+                body.end(BAD, why)
+            else:
+                able.append(body)
+        waiting = [(it, it[0].is_loose) for it in in_rounds([it for it in able if not it.tests])]
+        number = 0
+        while waiting:
+            planted, is_alone = waiting.pop(0)
+            number += 1
+            is_alone = is_alone or len(planted) == 1
+            log = self.check(crate, sources, planted)
+            print("-- %s, round %d: %d planted, %d more rounds" % (crate, number, len(planted), len(waiting)), flush=True)
+            if log is None:
+                for body in planted:
+                    body.end(UNTRIED, "the check came to no end")
+                continue
+            unread = log.in_src()
+            faulty = [it for it in planted if any((file, at) in it.lines or self.holds(it, file, at) for file, at, _ in unread)]
+            if unread or not log.is_judged():
+                why = unread[0][2] if unread else (log.text.strip().split("\n") or [""])[-1]
+                waiting += self.divided(planted, faulty, why)
+                continue
+            late = []
+            for body in planted:
+                told = judge(log, body, is_alone, sources.functions)
+                if not told:
+                    waiting.append(([body], True))
+                elif told[0] == PROOF_FILE and not body.is_fitted and fitted(log, body, sources):
+                    body.is_fitted = True
+                    late.append(body)
+                else:
+                    body.end(*told)
+            if late:
+                waiting.append((late, False))
+            if not is_alone:
+                self.look_beside(log, planted, sources)
+        sources.write([])
+        return sources, [it for it in able if it.tests]
+
+    @staticmethod
+    def holds(body, file, at):
+        return any(it.file == file and it.first <= at <= it.last for it in body.functions) and any(name == file for name, _ in body.lines)
+
+    @staticmethod
+    def divided(planted, faulty, why):
+        """The rounds that come in place of one that was not read."""
+        if len(planted) == 1:
+            planted[0].end(BAD, why[:160])
+            return []
+        if faulty:
+            rest = [it for it in planted if it not in faulty]
+            return ([(rest, False)] if rest else []) + [([it], True) for it in faulty]
+        half = len(planted) // 2
+        return [(planted[:half], False), (planted[half:], False)]
+
+    @staticmethod
+    def look_beside(log, planted, sources):
+        """Says which functions fail by themselves though nothing was planted in them."""
+        changed = {it for body in planted for it in body.functions}
+        for function in sources.functions:
+            if function not in changed:
+                own = [part for kind, part in log.refusals(function, sources.functions) or [] if kind in (CONTRACT, PROOF_FILE)]
+                if own:
+                    print("   beside them %s is refused: %s" % (function.name, own[0][:120]), flush=True)
+
+    def tests(self, crate, names, of):
+        """Runs tests of a crate by their names, and gives those that failed and those that passed, or None if no run was made."""
+        words = ["rt", "try", "--test"] + (["--", *names] if names else [])
+        status, text, seconds = timed(words, "%s/crates/%s" % (self.clone, crate))
+        self.seconds[of] += seconds
+        told = re.findall(r"^test (\S+) \.\.\. (ok|FAILED)", text, re.M)
+        ended = re.search(r"^test result: ", text, re.M)
+        failed = {name for name, end in told if end == "FAILED"}
+        passed = {name for name, end in told if end == "ok"}
+        # a run that stops in the middle of a test is a failure of it, one that does not come to the tests is none
+        if not ended and not re.search(r"^tests: \d+", text, re.M):
+            return None
+        return failed, passed, bool(ended) and status == 0
+
+    def by_tests(self, bodies, sources):
+        """Tries the bodies that tests refuse, over the crates of tests that they name."""
+        for crate in dict.fromkeys(it.tests[0] for it in bodies):
+            own = [it for it in bodies if it.tests[0] == crate]
+            named = [it for it in own if len(it.tests) > 1]
+            wanted = sorted({it.tests[1] for it in named})
+            fine = self.tests(crate, wanted, own[0].crate)
+            lost = fine is None or not fine[2] or any(not has(fine[1], it) for it in wanted)
+            for body in own if lost else []:
+                body.end(UNTRIED, "without a bug its test does not pass or is not there")
+            if lost:
+                continue
+            while named:
+                group = []
+                for body in named:
+                    if all(self.is_beside(body, other) for other in group):
+                        group.append(body)
+                named = [it for it in named if it not in group]
+                self.by_turns(crate, group, sources)
+            for body in own:
+                if body.verdict is None:
+                    self.alone(crate, body, sources)
+
+    @staticmethod
+    def is_beside(one, other):
+        return one.tests[1] != other.tests[1] and (one.crate != other.crate or is_apart(one, other))
+
+    def plant(self, bodies, sources):
+        for crate, it in sources.items():
+            it.write([body for body in bodies if body.crate == crate])
+
+    def by_turns(self, crate, group, sources):
+        """Plants each of a group in half of some runs; no body's runs are a part of another's."""
+        if len(group) < 4:
+            return
+        runs = next(n for n in itertools.count(4) if len(list(itertools.combinations(range(n), n // 2))) >= len(group))
+        turns = dict(zip(group, itertools.combinations(range(runs), runs // 2)))
+        names = sorted({it.tests[1] for it in group})
+        told = []
+        for run in range(runs):
+            self.plant([it for it in group if run in turns[it]], sources)
+            told.append(self.tests(crate, names, group[0].crate))
+            print("-- %s, run %d of %d: %d planted" % (crate, run + 1, runs, sum(run in turns[it] for it in group)), flush=True)
+        self.plant([], sources)
+        for body in group:
+            ends = [it and (has(it[0], body.tests[1]), has(it[1], body.tests[1])) for it in told]
+            if all(end == ((True, False) if run in turns[body] else (False, True)) for run, end in enumerate(ends)):
+                body.end(TEST)
+
+    def alone(self, crate, body, sources):
+        self.plant([body], sources)
+        told = self.tests(crate, body.tests[1:], body.crate)
+        self.plant([], sources)
+        if told is None:
+            body.end(BAD, "the tests were not begun with it")
+        elif told[2]:
+            body.end(LET)
+        else:
+            body.end(TEST)
+
+
+def has(names, name):
+    return any(it == name or it.endswith("::" + name) for it in names)
+
+
+def order_of_crates():
+    with open(ROOT + "/crates.txt", encoding="utf-8") as it:
+        names = [line.partition(":")[0].split()[0] for line in it if ":" in line]
+    return [it for it in names if os.path.exists("%s/wrong/%s.edit" % (ROOT, it))]
+
+
+def list_all(crates):
+    """Counts, and looks whether each body applies to the sources here."""
+    is_well = True
+    total = collections.Counter()
+    print("%-16s %6s %9s %6s %8s" % ("crate", "bodies", "contract", "test", "nothing"))
+    for crate in crates:
+        sources = Sources("%s/crates/%s" % (ROOT, crate))
+        bodies = bodies_of(crate)
+        count = collections.Counter(it.wanted() for it in bodies)
+        total += count
+        print("%-16s %6d %9d %6d %8d" % (crate, len(bodies), count[CONTRACT], count[TEST], count[LET]))
+        for body in bodies:
+            why = sources.place(body)
+            if why:
+                is_well = False
+                print("  %s: %s" % (body.name, why))
+    print("%-16s %6d %9d %6d %8d" % ("all", sum(total.values()), total[CONTRACT], total[TEST], total[LET]))
+    return is_well
+
+
+def table(tried, seconds):
+    print("\n%-16s %6s %9s %11s %6s %11s %9s %8s" % ("crate", "tried", "contract", "proof file", "test", "let through", "not tried", "minutes"))
+    total, spent = collections.Counter(), 0.0
+    for crate, bodies in tried.items():
+        count = collections.Counter(it.verdict for it in bodies if it.verdict)
+        row(crate, count, seconds[crate])
+        total += count
+        spent += seconds[crate]
+    row("all", total, spent)
+
+
+def row(name, count, seconds):
+    told = (count[CONTRACT], count[PROOF_FILE], count[TEST], count[LET], count[BAD] + count[UNTRIED])
+    print("%-16s %6d %9d %11d %6d %11d %9d %8.1f" % (name, sum(told), *told, seconds / 60))
+
+
+def main(words):
+    jobs, keep, is_list, is_all, crates = 1, None, False, False, []
+    words = list(words)
+    while words:
+        word = words.pop(0)
+        if word == "--jobs" and words and words[0].isdigit():
+            jobs = int(words.pop(0))
+        elif word == "--keep" and words:
+            keep = words.pop(0)
+        elif word == "--list":
+            is_list = True
+        elif word == "--all":
+            is_all = True
+        elif word.startswith("-") or not os.path.exists("%s/wrong/%s.edit" % (ROOT, word)):
+            sys.exit(__doc__ if word.startswith("-") else "there is no wrong/%s.edit" % word)
+        else:
+            crates.append(word)
+    if is_list:
+        return 0 if list_all(crates or order_of_crates()) else 1
+    if is_all:
+        crates = order_of_crates()
+    if not crates:
+        sys.exit(__doc__)
+    signal.signal(signal.SIGTERM, lambda *_: sys.exit(143))
+    tried = {it: bodies_of(it) for it in crates}
+    trier = Trier(keep, jobs)
+    try:
+        later, sources = [], {}
+        for crate in crates:
+            sources[crate], more = trier.crate(crate, tried[crate])
+            print("-- %s: %.1f minutes" % (crate, trier.seconds[crate] / 60), flush=True)
+            later += more
+        trier.by_tests(later, sources)
+    finally:
+        trier.close()
+        table(tried, trier.seconds)
+    return 1 if any(it.is_weaker() for bodies in tried.values() for it in bodies) else 0
+
+
+if __name__ == "__main__":
+    sys.exit(main(sys.argv[1:]))
