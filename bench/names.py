@@ -12,6 +12,7 @@ is checked; nothing timed here is a test. The daemon is killed. Run ./carbon onc
 import http.client
 import json
 import os
+import shutil
 import signal
 import statistics
 import sys
@@ -98,8 +99,9 @@ def main():
     with folder() as place:
         daemon = Daemon(place)
         try:
+            shutil.rmtree(os.path.join(place, "data"))
             with open(os.path.join(place, "data"), "wb"):
-                pass  # a file where the folder would be: nothing is drained
+                pass  # a file where the folder was: nothing is drained
             seconds, held = daemon.seconds(), daemon.held()
             took = sum(send(daemon.line_port, [lines(k, min(k + AT_ONCE, count), now)]) for k in range(0, count, AT_ONCE))
             seconds, held = daemon.seconds() - seconds, daemon.held() - held

@@ -256,8 +256,9 @@ def run_held(number, count):
     lines = Lines(count, int(time.time()))
     with folder() as place:
         daemon = Daemon(place)
+        shutil.rmtree(os.path.join(place, "data"))
         with open(os.path.join(place, "data"), "wb"):
-            pass  # a file where the folder would be: every drain fails
+            pass  # a file where the folder was: every drain fails
         pieces = lines.parts(number)
         seconds, held = daemon.seconds(), daemon.held()
         took = send(daemon.line_port, pieces)

@@ -56,21 +56,27 @@ impl Net for HostNet {
     }
 }
 
-/// Closes the ports at a line `stop` on standard input. An input that is at its end stops nothing.
-pub(crate) fn close_at_stop(rt: HostRuntime, closer: NetCloser) {
+/// Closes the ports at a line `stop` on standard input, and at its end where that is a stop too.
+pub(crate) fn close_at_stop(rt: HostRuntime, closer: NetCloser, stops_at_end: bool) {
+    if is_stop_read(&rt) || stops_at_end {
+        let _ = eprintln!(rt; "carbon: stopping");
+        closer.close(&rt);
+    }
+}
+
+// Reads lines up to `stop`, or to the end of the input. A line that is no text is passed over.
+fn is_stop_read(rt: &HostRuntime) -> bool {
     for _ in 0..u64::MAX {
         let mut line = String::new(rt.alloc());
         match rt.read_line(&mut line) {
-            Ok(0) => return,
+            Ok(0) => return false,
             Ok(_) => {}
-            // a line that is no text is passed over
             Err(error) if error.kind() == ErrorKind::InvalidData => continue,
-            Err(_) => return,
+            Err(_) => return false,
         }
         if line.as_str().trim_end() == "stop" {
-            let _ = eprintln!(rt; "carbon: stopping");
-            closer.close(&rt);
-            return;
+            return true;
         }
     }
+    false
 }

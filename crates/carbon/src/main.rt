@@ -3,65 +3,103 @@
 //! The ring files stand below the working folder, those of class 0 in `data/00`, and so on to `data/15`.
 #![tactic(auto)]
 
-ghost use Rattle.std.specs.Prelude.{◌≡◌, IfOk, vec_len};
-
+mod host_folder;
 mod host_net;
+mod unready;
 
 use carbon_run::run;
-use carbon_words::words;
+use carbon_words::{Command, ServeOptions, read_words, words};
+use host_folder::{conf_folder, folders, lock_folder, want_descriptors};
 use host_net::{HostNet, close_at_stop};
-use outside_io::{FolderDisk, StdSink, StdSource};
-use std::alloc::AllocError;
+use outside_io::{StdSink, StdSource};
 use std::net::{IpAddr, Ipv4Addr};
 use std::process::ExitCode;
-use std::{io, thread};
-use tcp_net::{SystemClock, TcpNet};
+use std::sync::Wait;
+use std::thread::Threads;
+use std::{env, thread};
+use tcp_net::{NetCloser, NetSettings, SystemClock, TcpNet};
+use unready::Unready;
 
-/// How many classes there are, each with a disk of its own.
-const CLASSES: usize = metric_path::CLASSES as usize;
+/// Where the program is begun by its launcher, this variable is set: then the end of the standard input is a stop.
+const STOPS_AT_END: &str = "CARBON_STOPS_AT_END";
 
-fn main(rt: HostRuntime) -> io::Result<ExitCode> {
+/// The exit status where a line could not be written.
+const WRITE_FAULT: u8 = 7;
+
+fn main(rt: HostRuntime) -> ExitCode {
+    let status = match start(&rt, rt) {
+        Ok(status) => status,
+        Err(unready) => match println!(rt; "carbon: {unready}") {
+            Ok(()) => unready.status(),
+            Err(_) => WRITE_FAULT,
+        },
+    };
+    ExitCode::from(status)
+}
+
+// Runs what the words say, and answers its exit status. Words that are no command touch nothing.
+fn start<H: Threads + Wait + Sync>(threads: &H, rt: HostRuntime) -> Result<u8, Unready> {
     let alloc = rt.alloc();
-    let words = words(&rt, alloc)?;
-    let disks = folders(&rt)?;
+    let words = words(&rt, alloc).map_err(|_| Unready::NoMemory)?;
+    let command = read_words(alloc, &words).ok();
+    let _held = match command {
+        Some(_) => lock_folder(&rt)?,
+        None => None,
+    };
+    match command {
+        Some(Command::Serve(_, options)) => serve(threads, rt, &words, &options),
+        _ => run_with(threads, rt, &words, None),
+    }
+}
+
+// Binds the ports and listens for the stop.
+fn serve<H: Threads + Wait + Sync>(
+    threads: &H,
+    rt: HostRuntime,
+    words: &[String],
+    options: &ServeOptions,
+) -> Result<u8, Unready> {
+    want_descriptors(options)?;
+    let settings = NetSettings {
+        address: IpAddr::V4(Ipv4Addr::UNSPECIFIED),
+        line_patience: options.line_patience,
+    };
+    let Ok(net) = TcpNet::new(rt.alloc(), rt, settings) else {
+        return run_with(threads, rt, words, None);
+    };
+    listen_for_stop(threads, rt, net.closer()?)?;
+    run_with(threads, rt, words, Some(net))
+}
+
+// The thread is never joined: it may wait for a line when all else has ended.
+fn listen_for_stop<H: Threads>(
+    threads: &H,
+    rt: HostRuntime,
+    closer: NetCloser,
+) -> Result<(), Unready> {
+    let stops_at_end = env::var(&rt, STOPS_AT_END).is_ok();
+    match thread::spawn(threads, move || close_at_stop(rt, closer, stops_at_end)) {
+        Ok(_) => Ok(()),
+        Err(_) => Err(Unready::NoThread),
+    }
+}
+
+// The folders of a command that has ports are to be written.
+fn run_with<H: Threads + Wait + Sync>(
+    threads: &H,
+    rt: HostRuntime,
+    words: &[String],
+    net: Option<TcpNet<HostRuntime>>,
+) -> Result<u8, Unready> {
+    let alloc = rt.alloc();
+    let disks = folders(&rt, net.is_some())?;
     let mut input = StdSource::new(&rt);
     let mut out = StdSink::new(rt.clone()?);
-    let mut conf = FolderDisk::new(rt.clone()?, String::from_str(alloc, "conf")?);
+    let mut conf = conf_folder(&rt)?;
     let clock = SystemClock::new(rt);
-    let tcp = if is_server(&words) {
-        TcpNet::new(alloc, rt, IpAddr::V4(Ipv4Addr::UNSPECIFIED)).ok()
-    } else {
-        None
-    };
-    if let Some(tcp) = &tcp {
-        let closer = tcp.closer()?;
-        // Never joined: it may wait for a line when all else has ended.
-        let _ = thread::spawn(&rt, move || close_at_stop(rt, closer))?;
-    }
-    let mut net = HostNet::new(rt, tcp);
+    let mut net = HostNet::new(rt, net);
     let report = run(
-        &rt, alloc, &words, &mut input, &mut out, &mut conf, disks, &clock, &mut net,
+        threads, alloc, words, &mut input, &mut out, &mut conf, disks, &clock, &mut net,
     );
-    Ok(ExitCode::from(report.status))
-}
-
-/// Whether the command needs ports. Only then is the standard input listened to for the stop.
-fn is_server(words: &[String]) -> bool {
-    match words.first() {
-        Some(word) => word.as_str() == "serve",
-        None => false,
-    }
-}
-
-/// A disk for each class, over the folders `data/00` to `data/15`.
-fn folders(rt: &HostRuntime) -> Result<Vec<FolderDisk<HostRuntime>>, AllocError>
-    ensures { IfOk result (λ disks. vec_len disks ≡ 16) }
-{
-    let alloc = rt.alloc();
-    let mut disks = Vec::with_capacity(alloc, CLASSES)?;
-    for class in 0..CLASSES {
-        let folder = format!(in alloc; "data/{class:02}")?;
-        disks.push(FolderDisk::new(rt.clone()?, folder))?;
-    }
-    Ok(disks)
+    Ok(report.status)
 }

@@ -38,6 +38,7 @@ use std::thread::Threads;
 /// | `--order O` | which metric of a class is drained next: `max`, `sorted`, `timesorted` or `naive` | `sorted` |
 /// | `--line-port P`, `--http-port P` | `serve`: the ports, 0 to 65,535 | 2003, 8080 |
 /// | `--receivers N`, `--renderers N` | `serve`: how many threads serve the links of each port: 1 to 256 | 16 |
+/// | `--line-patience S` | `serve`: after how many seconds without a byte a link of metric lines is at its end, 0 to 86,400; 0: never. The net that is handed in keeps to it | 900 |
 /// | `--links N` | `serve`: how many links each port gives before it closes, to 1,000,000,000; 0: it never does | 0 |
 ///
 /// | Status | Comes |

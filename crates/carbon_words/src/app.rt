@@ -41,6 +41,7 @@ fn serve<'a>(alloc: Global) -> Result<Command<'a>, AllocError>
         .arg(option(alloc, "http-port"))?
         .arg(option(alloc, "receivers"))?
         .arg(option(alloc, "renderers"))?
+        .arg(option(alloc, "line-patience"))?
         .arg(option(alloc, "links"))
 }
 

@@ -21,6 +21,8 @@ pub struct ServeOptions {
     pub receivers: u32,
     /// How many threads answer HTTP requests.
     pub renderers: u32,
+    /// After how many seconds without a byte a link of metric lines is closed; 0: it never is.
+    pub line_patience: u32,
     /// How many links each port gives before it closes; 0: it never does.
     pub links: u64,
 }

@@ -56,6 +56,12 @@ const WORKERS: Choice = Choice {
     other: 16,
 };
 
+const LINE_PATIENCE: Choice = Choice {
+    least: 0,
+    most: 86_400,
+    other: 900,
+};
+
 const LINKS: Choice = Choice {
     least: 0,
     most: 1_000_000_000,
@@ -143,12 +149,14 @@ fn serve_options_in(values: &ArgMatches<'_>) -> Option<ServeOptions>
     let http_port = number_in(values, "http-port", HTTP_PORT)?;
     let receivers = number_in(values, "receivers", WORKERS)?;
     let renderers = number_in(values, "renderers", WORKERS)?;
+    let line_patience = number_in(values, "line-patience", LINE_PATIENCE)?;
     let links = number_in(values, "links", LINKS)?;
     Some(ServeOptions {
         line_port: line_port as u16,
         http_port: http_port as u16,
         receivers: receivers as u32,
         renderers: renderers as u32,
+        line_patience: line_patience as u32,
         links,
     })
 }

@@ -2,7 +2,8 @@
 ghost use Rattle.std.specs.Prelude.{◌≡◌, IfOk, vec_len};
 
 use carbon_run::run;
-use outside_io::{ClosedNet, FixedClock, FolderDisk, MemSink, MemSource};
+use folder_disk::FolderDisk;
+use outside_io::{ClosedNet, FixedClock, MemSink, MemSource};
 use std::alloc::{AllocError, Global};
 use std::process::Abort;
 use std::sync::Wait;

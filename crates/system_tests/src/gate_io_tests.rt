@@ -2,28 +2,69 @@
 use gate_io::*;
 use outside_io::{MemLink, MemSink, MemSource, Net, ReadEnd, Sink, Source, WriteEnd};
 use std::alloc::{AllocError, Global};
+use std::process::Abort;
+use std::sync::Wait;
 use std::test::Fail;
+use std::time::Clock;
 
 fn source(alloc: Global, bytes: &[u8]) -> Result<MemSource, AllocError> {
     Ok(MemSource::new(alloc, Vec::from_slice(alloc, bytes)?))
 }
 
+// The flags of a link's gate, and its mark.
+#[derive(Drop)]
+struct Flags {
+    begun: Flag,
+    opens: Flag,
+    marked: Flag,
+}
+
+fn flags_down(alloc: Global) -> Result<Flags, AllocError> {
+    Ok(Flags {
+        begun: Flag::new(alloc)?,
+        opens: Flag::new(alloc)?,
+        marked: Flag::new(alloc)?,
+    })
+}
+
+fn gate<R: Clock + Drop>(rt: R, flags: &Flags) -> Result<Gate<R>, AllocError> {
+    let begun = flags.begun.share()?;
+    Ok(Gate::new(rt, begun, flags.opens.share()?))
+}
+
+// A link without bytes, whose first write goes through the gate, and which marks its third byte.
+fn gated_link<R: Wait + Clock + Copy + Drop>(
+    rt: R,
+    alloc: Global,
+    flags: &Flags,
+    sent: &Sent,
+) -> Result<GateLink<R>, AllocError> {
+    let link = GateLink::new(rt, source(alloc, b"")?, sent.share()?);
+    let link = link.writing_at(gate(rt, flags)?);
+    Ok(link.marking(3, flags.marked.share()?))
+}
+
+// Two bytes are written and then a third one, which is marked.
+fn assert_written<R: Wait + Abort + Clock + Drop>(
+    rt: &R,
+    link: &mut GateLink<R>,
+    flags: &Flags,
+    sent: &Sent,
+) {
+    let told = link.write(b"ab");
+    assert!(rt; told == WriteEnd::Took(2) && flags.begun.is_up() && !flags.marked.is_up());
+    let told = link.write(b"c");
+    assert!(rt; told == WriteEnd::Took(1) && flags.marked.is_up());
+    assert!(rt; sent.are(rt, b"abc") && sent.begin_with(rt, b"ab"));
+}
+
 #[test]
 fn a_write_goes_through_an_open_gate_and_is_kept(rt: HostRuntime) -> Result<(), Fail> {
-    let alloc = rt.alloc();
-    let begun = Flag::new(alloc)?;
-    let opens = Flag::new(alloc)?;
-    let marked = Flag::new(alloc)?;
-    let sent = Sent::new(alloc)?;
-    opens.raise();
-    let mut link = GateLink::new(rt, source(alloc, b"")?, sent.share()?)
-        .writing_at(Gate::new(rt, begun.share()?, opens))
-        .marking(3, marked.share()?);
-    let told = link.write(b"ab");
-    assert!(rt; told == WriteEnd::Took(2) && begun.is_up() && !marked.is_up());
-    let told = link.write(b"c");
-    assert!(rt; told == WriteEnd::Took(1) && marked.is_up());
-    assert!(rt; sent.are(&rt, b"abc") && sent.begin_with(&rt, b"ab"));
+    let flags = flags_down(rt.alloc())?;
+    let sent = Sent::new(rt.alloc())?;
+    flags.opens.raise();
+    let mut link = gated_link(rt, rt.alloc(), &flags, &sent)?;
+    assert_written(&rt, &mut link, &flags, &sent);
     Ok(())
 }
 
@@ -56,17 +97,28 @@ fn first_byte(link: Option<MemLink>) -> Option<u8> {
     }
 }
 
-#[test]
-fn each_port_gives_its_links_from_the_front(rt: HostRuntime) -> Result<(), Fail> {
-    let alloc = rt.alloc();
-    let lines = vec![in alloc; link(alloc, b"1")?, link(alloc, b"2")?]?;
-    let http = vec![in alloc; link(alloc, b"3")?]?;
-    let mut net = MemNet::new(rt, lines, http);
+fn links(alloc: Global, bytes: &[u8]) -> Result<Vec<MemLink>, AllocError> {
+    let mut links = Vec::new(alloc);
+    for byte in bytes.chunks(1) {
+        links.push(link(alloc, byte)?)?;
+    }
+    Ok(links)
+}
+
+// The links that are left bring these bytes.
+fn assert_given<R: Wait>(rt: &impl Abort, net: &mut MemNet<MemLink, R>) {
     assert!(rt; net.bind(2003, 8080, 0).is_ok() && net.faults() == 0);
     assert!(rt; first_byte(net.next_lines()) == Some(b'1'));
     assert!(rt; first_byte(net.next_http()) == Some(b'3'));
     assert!(rt; first_byte(net.next_lines()) == Some(b'2'));
     assert!(rt; net.next_lines().is_none() && net.next_http().is_none());
+}
+
+#[test]
+fn each_port_gives_its_links_from_the_front(rt: HostRuntime) -> Result<(), Fail> {
+    let lines = links(rt.alloc(), b"12")?;
+    let mut net = MemNet::new(rt, lines, links(rt.alloc(), b"3")?);
+    assert_given(&rt, &mut net);
     Ok(())
 }
 

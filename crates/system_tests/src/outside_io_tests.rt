@@ -1,16 +1,15 @@
-// The stand-ins in memory, the folder, and the standard streams over stand-ins.
+// The stand-ins in memory, and the standard streams over stand-ins.
 ghost use Rattle.std.specs.Prelude.{◌<◌};
 
 use outside_io::{
-    Clock, ClosedNet, Disk, DiskFailed, FailingCalls, FixedClock, FolderDisk, MemDisk, MemLink,
-    MemSink, MemSource, Net, ReadEnd, Sink, Source, StdSink, StdSource, WriteEnd, WriteFault,
-    write_all,
+    Clock, ClosedNet, Disk, DiskFailed, FailingCalls, FixedClock, MemDisk, MemLink, MemSink,
+    MemSource, Net, ReadEnd, Sink, Source, StdSink, StdSource, WriteEnd, WriteFault, write_all,
 };
 use std::alloc::{AllocError, Allocator, Global};
 use std::fmt::Display;
-use std::io::{BufRead, ErrorKind, Input, Lines, Print, Read};
+use std::io::{self, BufRead, ErrorKind, Input, Lines, Print, Read};
+use std::process::Abort;
 use std::test::Fail;
-use std::{env, fs, io, process};
 
 // What four reads of at most five bytes come to, and the bytes of the last one that gave any.
 fn four_reads<S: Source>(source: &mut S) -> ([ReadEnd; 4], [u8; 5]) {
@@ -36,58 +35,55 @@ fn in_pieces(alloc: Global, most: usize, cuts: &[usize]) -> Result<MemSource, Al
     )
 }
 
+const CASES: [(usize, [usize; 2], [ReadEnd; 4]); 4] = [
+    (
+        9,
+        [7, 7],
+        [ReadEnd::Got(5), ReadEnd::Got(2), ReadEnd::End, ReadEnd::End],
+    ),
+    (
+        3,
+        [7, 7],
+        [
+            ReadEnd::Got(3),
+            ReadEnd::Got(3),
+            ReadEnd::Got(1),
+            ReadEnd::End,
+        ],
+    ),
+    (
+        9,
+        [1, 4],
+        [
+            ReadEnd::Got(1),
+            ReadEnd::Got(3),
+            ReadEnd::Got(3),
+            ReadEnd::End,
+        ],
+    ),
+    (
+        9,
+        [4, 1],
+        [
+            ReadEnd::Got(1),
+            ReadEnd::Got(3),
+            ReadEnd::Got(3),
+            ReadEnd::End,
+        ],
+    ),
+];
+
 #[test]
 fn sources_give_bytes_in_pieces(rt: HostRuntime) -> Result<(), Fail> {
-    let cases = [
-        (
-            9,
-            [7, 7],
-            [ReadEnd::Got(5), ReadEnd::Got(2), ReadEnd::End, ReadEnd::End],
-        ),
-        (
-            3,
-            [7, 7],
-            [
-                ReadEnd::Got(3),
-                ReadEnd::Got(3),
-                ReadEnd::Got(1),
-                ReadEnd::End,
-            ],
-        ),
-        (
-            9,
-            [1, 4],
-            [
-                ReadEnd::Got(1),
-                ReadEnd::Got(3),
-                ReadEnd::Got(3),
-                ReadEnd::End,
-            ],
-        ),
-        (
-            9,
-            [4, 1],
-            [
-                ReadEnd::Got(1),
-                ReadEnd::Got(3),
-                ReadEnd::Got(3),
-                ReadEnd::End,
-            ],
-        ),
-    ];
-    for (most, cuts, wanted) in cases {
-        let (ends, _) = four_reads(&mut in_pieces(rt.alloc(), most, &cuts)?);
-        assert!(rt; ends == wanted, "at most {most}");
+    for (most, cuts, wanted) in CASES {
+        let (ends, _) = four_reads(&mut in_pieces(rt.alloc(), most.max(1), &cuts)?);
+        assert!(rt; ends == wanted, "at most {most}, cut at {cuts:?}");
     }
     Ok(())
 }
 
-#[test]
-fn listed_reads_fail_and_take_nothing(rt: HostRuntime) -> Result<(), Fail> {
-    let alloc = rt.alloc();
-    let bytes = Vec::from_slice(alloc, b"ab")?;
-    let mut source = MemSource::new(alloc, bytes).failing(Vec::from_slice(alloc, &[1, 3])?);
-    let (ends, buf) = four_reads(&mut source);
+fn assert_listed_reads(rt: &impl Abort, source: &mut MemSource) {
+    let (ends, buf) = four_reads(source);
     let wanted = [
         ReadEnd::Failed,
         ReadEnd::Got(2),
@@ -95,38 +91,53 @@ fn listed_reads_fail_and_take_nothing(rt: HostRuntime) -> Result<(), Fail> {
         ReadEnd::End,
     ];
     assert!(rt; ends == wanted && buf == *b"ab\0\0\0" && source.read_faults() == 2);
+}
+
+#[test]
+fn listed_reads_fail_and_take_nothing(rt: HostRuntime) -> Result<(), Fail> {
+    let bytes = Vec::from_slice(rt.alloc(), b"ab")?;
+    let failing = Vec::from_slice(rt.alloc(), &[1, 3])?;
+    assert_listed_reads(&rt, &mut MemSource::new(rt.alloc(), bytes).failing(failing));
     Ok(())
+}
+
+fn assert_whole_texts(rt: &impl Abort, sink: &mut MemSink) {
+    let ends = [
+        write_all(sink, b""),
+        write_all(sink, b"one two"),
+        write_all(sink, b" three"),
+    ];
+    assert!(rt; ends == [Ok(()), Ok(()), Err(WriteFault)] && sink.write_faults() == 1);
+    assert!(rt; sink.bytes() == b"one two th".as_slice());
 }
 
 #[test]
 fn whole_texts_are_written(rt: HostRuntime) -> Result<(), Fail> {
-    let alloc = rt.alloc();
-    let calls = Vec::from_slice(alloc, &[5])?;
-    let mut sink = MemSink::with_room(alloc, 13)?.at_most(3).failing(calls);
-    let ends = [
-        write_all(&mut sink, b""),
-        write_all(&mut sink, b"one two"),
-        write_all(&mut sink, b" three"),
-    ];
-    assert!(rt; ends == [Ok(()), Ok(()), Err(WriteFault)] && sink.write_faults() == 1);
-    assert!(rt; sink.bytes() == b"one two th".as_slice() && sink.into_bytes().len() == 10);
+    let calls = Vec::from_slice(rt.alloc(), &[5])?;
+    let mut sink = MemSink::with_room(rt.alloc(), 13)?
+        .at_most(3)
+        .failing(calls);
+    assert_whole_texts(&rt, &mut sink);
+    assert!(rt; sink.into_bytes().len() == 10);
     Ok(())
+}
+
+fn assert_apart(rt: &impl Abort, link: &mut MemLink) {
+    let end = link.write(b"told");
+    let (ends, _) = four_reads(link);
+    assert!(rt; end == WriteEnd::Took(4) && ends[0] == ReadEnd::Got(3) && ends[1] == ReadEnd::End);
+    assert!(rt; link.sink.bytes() == b"told".as_slice());
+    assert!(rt; link.read_faults() == 0 && link.write_faults() == 0);
 }
 
 #[test]
 fn links_read_and_write_apart(rt: HostRuntime) -> Result<(), Fail> {
-    let alloc = rt.alloc();
+    let asked = Vec::from_slice(rt.alloc(), b"ask")?;
     let mut link = MemLink {
-        source: MemSource::new(alloc, Vec::from_slice(alloc, b"ask")?),
-        sink: MemSink::new(alloc),
+        source: MemSource::new(rt.alloc(), asked),
+        sink: MemSink::new(rt.alloc()),
     };
-    let end = link.write(b"told");
-    let (ends, _) = four_reads(&mut link);
-    assert!(rt; end == WriteEnd::Took(4) && ends[0] == ReadEnd::Got(3) && ends[1] == ReadEnd::End);
-    assert!(rt;
-        link.sink.bytes() == b"told".as_slice()
-            && (link.read_faults(), link.write_faults()) == (0, 0)
-    );
+    assert_apart(&rt, &mut link);
     Ok(())
 }
 
@@ -159,35 +170,88 @@ fn is_list(names: &[String], wanted: &[&str]) -> bool {
             .all(|(name, wanted)| name.as_str() == *wanted)
 }
 
+// A call of a disk, and what comes of it.
+#[derive(Clone, Copy)]
+enum Turn {
+    // A file of this length is made, or not.
+    Makes(&'static str, u64),
+    MakesNot(&'static str, u64),
+    // A file has this length, or is not there; or that is not told.
+    Has(&'static str, Option<u64>),
+    Untold(&'static str),
+    // These files are listed, in any order.
+    Lists(&'static [&'static str]),
+    // So many calls have failed.
+    Faults(u64),
+}
+
+fn takes<D: Disk>(disk: &mut D, turn: Turn) -> bool {
+    match turn {
+        Turn::Makes(name, len) => disk.create(name, len) == Ok(()),
+        Turn::MakesNot(name, len) => disk.create(name, len) == Err(DiskFailed),
+        Turn::Has(name, len) => disk.length(name) == Ok(len),
+        Turn::Untold(name) => disk.length(name) == Err(DiskFailed),
+        Turn::Lists(names) => lists(disk, names),
+        Turn::Faults(count) => disk.faults() == count,
+    }
+}
+
+fn assert_turns<D: Disk>(rt: &impl Abort, disk: &mut D, turns: &[Turn]) {
+    for (n, turn) in turns.iter().enumerate() {
+        assert!(rt; takes(disk, *turn), "turn {n}");
+    }
+}
+
+// The second goes beyond the room, and the third makes the first one shorter.
+const MADE: [Turn; 5] = [
+    Turn::Makes("b/c", 6),
+    Turn::MakesNot("a", 5),
+    Turn::Makes("b/c", 3),
+    Turn::Makes("a", 5),
+    Turn::Faults(1),
+];
+
+const KEPT: [Turn; 3] = [
+    Turn::Has("b/c", Some(3)),
+    Turn::Has("d", None),
+    Turn::Lists(&["a", "b/c", "c"]),
+];
+
 #[test]
 fn disks_keep_files(rt: HostRuntime) -> Result<(), Fail> {
+    let whole = Vec::from_slice(rt.alloc(), b"whole")?;
     let mut disk = MemDisk::new(rt.alloc(), 10);
-    // the second goes beyond the room, and the third makes the first one shorter
-    let made = [
-        disk.create("b/c", 6),
-        disk.create("a", 5),
-        disk.create("b/c", 3),
-        disk.create("a", 5),
-    ];
-    assert!(rt; made == [Ok(()), Err(DiskFailed), Ok(()), Ok(())] && disk.faults() == 1);
-    disk.put_file("c", Vec::from_slice(rt.alloc(), b"whole")?)?;
-    assert!(rt; disk.length("b/c") == Ok(Some(3)) && disk.length("d") == Ok(None));
-    assert!(rt; lists(&mut disk, &["a", "b/c", "c"]));
+    assert_turns(&rt, &mut disk, &MADE);
+    disk.put_file("c", whole)?;
+    assert_turns(&rt, &mut disk, &KEPT);
     Ok(())
 }
 
+// A disk of which the second of the calls that make or write fails, and the first and the third of
+// those that read.
+fn failing_disk(alloc: Global) -> Result<MemDisk, AllocError> {
+    let calls = Vec::from_slice(alloc, &[2])?;
+    let reads = Vec::from_slice(alloc, &[1, 3])?;
+    Ok(MemDisk::new(alloc, 10).failing(calls).failing_reads(reads))
+}
+
+const FAILED: [Turn; 6] = [
+    Turn::Makes("a", 4),
+    Turn::MakesNot("b", 4),
+    Turn::Untold("a"),
+    Turn::Has("b", None),
+    Turn::Untold("a"),
+    Turn::Faults(3),
+];
+
+const MENDED: [Turn; 1] = [Turn::Lists(&["a"])];
+
 #[test]
 fn listed_calls_of_a_disk_fail_and_are_counted(rt: HostRuntime) -> Result<(), Fail> {
-    let alloc = rt.alloc();
-    let mut disk = MemDisk::new(alloc, 10)
-        .failing(Vec::from_slice(alloc, &[2])?)
-        .failing_reads(Vec::from_slice(alloc, &[1, 3])?);
-    let made = [disk.create("a", 4), disk.create("b", 4)];
-    let lengths = [disk.length("a"), disk.length("b"), disk.length("a")];
-    assert!(rt; made == [Ok(()), Err(DiskFailed)]);
-    assert!(rt; lengths == [Err(DiskFailed), Ok(None), Err(DiskFailed)] && disk.faults() == 3);
+    let mut disk = failing_disk(rt.alloc())?;
+    assert_turns(&rt, &mut disk, &FAILED);
     disk.mend();
-    assert!(rt; lists(&mut disk, &["a"]));
+    assert_turns(&rt, &mut disk, &MENDED);
     let calls = disk.calls();
     assert!(rt; calls.names == 1 && calls.reading() == 4 && calls.writing() == 2);
     Ok(())
@@ -214,173 +278,6 @@ fn listed_writes_fail_and_change_nothing_or_tear(rt: HostRuntime) -> Result<(), 
         }
         assert!(rt; written_twice(disk) == Ok(wanted), "tears {tears}");
     }
-    Ok(())
-}
-
-// The path of a folder of this process's own among the temporary files, which does not stand there.
-fn fresh_folder(rt: &HostRuntime, name: &str) -> Result<String, Fail> {
-    let temp = env::temp_dir(rt)?;
-    let id = process::id(rt.process());
-    let folder = format!(in rt.alloc(); "{}/outside-io-{id}-{name}", temp.display())?;
-    let _ = fs::remove_dir_all(rt, folder.as_str());
-    Ok(folder)
-}
-
-// The name of a file that lies two folders deep, and its length.
-const DEEP: &str = "a/b/c.ring";
-
-const DEEP_LEN: usize = 8_000;
-
-// The byte at a place of that file: 5,000 that differ, from place 100 on, and 7 around them.
-fn deep_byte(place: usize) -> u8 {
-    if 100 <= place && place < 5_100 {
-        return (place % 251) as u8;
-    }
-    7
-}
-
-// The bytes of that file from one place up to another.
-fn deep_bytes(alloc: Global, first: usize, end: usize) -> Result<Vec<u8>, AllocError> {
-    let mut bytes = Vec::new(alloc);
-    for place in first..end {
-        bytes.push(deep_byte(place))?;
-    }
-    Ok(bytes)
-}
-
-fn bytes_of(alloc: Global, byte: u8, count: usize) -> Result<Vec<u8>, AllocError> {
-    vec![in alloc; byte; count]
-}
-
-// Makes the file with 7 in all its places, and writes the others in one piece.
-fn fill_deep(
-    disk: &mut FolderDisk<HostRuntime>,
-    sevens: &[u8],
-    piece: &[u8],
-) -> Result<(), DiskFailed> {
-    disk.create(DEEP, DEEP_LEN as u64)?;
-    disk.write_at(DEEP, 0, sevens)?;
-    disk.write_at(DEEP, 100, piece)
-}
-
-// Whether a disk over the folder gives the file's bytes from one place up to another.
-fn holds_deep(
-    rt: &HostRuntime,
-    folder: &str,
-    first: usize,
-    end: usize,
-) -> Result<bool, AllocError> {
-    let mut disk = folder_disk(rt, folder)?;
-    let wanted = deep_bytes(rt.alloc(), first, end)?;
-    let mut held = bytes_of(rt.alloc(), 0, wanted.len())?;
-    let read = disk.read_at(DEEP, first as u64, &mut held);
-    Ok(read.is_ok() && held[..] == wanted[..])
-}
-
-fn folder_disk(rt: &HostRuntime, folder: &str) -> Result<FolderDisk<HostRuntime>, AllocError> {
-    Ok(FolderDisk::new(*rt, String::from_str(rt.alloc(), folder)?))
-}
-
-fn deep_is_filled(rt: &HostRuntime, folder: &str) -> Result<bool, AllocError> {
-    let mut disk = folder_disk(rt, folder)?;
-    let sevens = bytes_of(rt.alloc(), 7, DEEP_LEN)?;
-    let piece = deep_bytes(rt.alloc(), 100, 5_100)?;
-    Ok(fill_deep(&mut disk, &sevens, &piece).is_ok())
-}
-
-#[test]
-fn the_next_disk_of_a_folder_finds_long_and_deep_files(rt: HostRuntime) -> Result<(), Fail> {
-    let folder = fresh_folder(&rt, "deep")?;
-    assert!(rt; deep_is_filled(&rt, folder.as_str())?);
-    let mut disk = folder_disk(&rt, folder.as_str())?;
-    assert!(rt; lists(&mut disk, &[DEEP]) && disk.length(DEEP) == Ok(Some(8_000)));
-    for (first, end) in [(0, DEEP_LEN), (95, 105), (4_190, 4_210), (5_095, 5_105)] {
-        assert!(rt;
-            holds_deep(&rt, folder.as_str(), first, end)?,
-            "from {first}"
-        );
-    }
-    fs::remove_dir_all(&rt, folder.as_str())?;
-    Ok(())
-}
-
-// Makes a file in a folder, and one at the top anew.
-fn fill_small(disk: &mut FolderDisk<HostRuntime>) -> Result<(), DiskFailed> {
-    disk.create("a/b.ring", 1_600)?;
-    disk.create("c", 3)?;
-    disk.write_at("c", 0, b"old")?;
-    disk.create("c", 2)
-}
-
-fn byte_of(disk: &mut FolderDisk<HostRuntime>, name: &str, at: u64) -> Result<u8, DiskFailed> {
-    let mut byte = [9u8];
-    disk.read_at(name, at, &mut byte)?;
-    Ok(byte[0])
-}
-
-// Writes and reads two files by turns, and makes the one that is open anew.
-fn files_in_turn(disk: &mut FolderDisk<HostRuntime>) -> Result<[u8; 4], DiskFailed> {
-    disk.create("c", 4)?;
-    disk.write_at("c", 1, b"abc")?;
-    disk.create("e", 3)?;
-    disk.write_at("e", 2, b"z")?;
-    disk.write_at("c", 3, b"d")?;
-    let other = byte_of(disk, "e", 2)?;
-    let held = [byte_of(disk, "c", 1)?, byte_of(disk, "c", 3)?];
-    disk.create("c", 2)?;
-    Ok([other, held[0], held[1], byte_of(disk, "c", 1)?])
-}
-
-// While a file is open, another disk of the folder finds it removed and makes one of its name. What is written
-// through the first disk is read through it, until it makes the file itself: then both have that one.
-fn remade(
-    rt: &HostRuntime,
-    folder: &str,
-    disk: &mut FolderDisk<HostRuntime>,
-) -> Result<Result<[u8; 3], DiskFailed>, Fail> {
-    let path = format!(in rt.alloc(); "{folder}/c")?;
-    fs::remove_file(rt, path.as_str())?;
-    let mut second = folder_disk(rt, folder)?;
-    Ok(turns_of_two(disk, &mut second))
-}
-
-fn turns_of_two(
-    disk: &mut FolderDisk<HostRuntime>,
-    second: &mut FolderDisk<HostRuntime>,
-) -> Result<[u8; 3], DiskFailed> {
-    second.create("c", 5)?;
-    second.write_at("c", 0, b"other")?;
-    disk.write_at("c", 0, b"mn")?;
-    let own = byte_of(disk, "c", 1)?;
-    disk.create("c", 2)?;
-    let empty = byte_of(disk, "c", 1)?;
-    disk.write_at("c", 1, b"h")?;
-    Ok([own, empty, byte_of(second, "c", 1)?])
-}
-
-#[test]
-fn folders_keep_files(rt: HostRuntime) -> Result<(), Fail> {
-    let folder = fresh_folder(&rt, "small")?;
-    let mut disk = folder_disk(&rt, folder.as_str())?;
-    assert!(rt; lists(&mut disk, &[]) && fill_small(&mut disk).is_ok());
-    assert!(rt; lists(&mut disk, &["a/b.ring", "c"]));
-    let lengths = [
-        disk.length("a/b.ring"),
-        disk.length("a"),
-        disk.length("c"),
-        disk.length("d"),
-    ];
-    assert!(rt; lengths == [Ok(Some(1_600)), Ok(None), Ok(Some(2)), Ok(None)]);
-    let mut bytes = [9u8; 2];
-    assert!(rt; disk.read_at("c", 0, &mut bytes).is_ok() && bytes == [0; 2] && disk.faults() == 0);
-    assert!(rt; disk.read_at("c", 1, &mut bytes).is_err(), "past the end");
-    assert!(rt;
-        disk.write_at("d", 0, b"x").is_err() && disk.faults() == 2,
-        "no such file"
-    );
-    assert!(rt; files_in_turn(&mut disk) == Ok(*b"zad\0") && disk.length("c") == Ok(Some(2)));
-    assert!(rt; remade(&rt, folder.as_str(), &mut disk)? == Ok(*b"n\0h") && disk.faults() == 2);
-    fs::remove_dir_all(&rt, folder.as_str())?;
     Ok(())
 }
 

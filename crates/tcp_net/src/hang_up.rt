@@ -5,34 +5,45 @@ use libc::types::pollfd;
 use std::io;
 use std::net::{Net, Shutdown};
 use std::os::unix::net::UnixStream;
-use std::sync::atomic::{AtomicBool, Ordering};
+use std::sync::OnceLock;
+use std::time::Duration;
 
-// A signal that is given once and then stands. A link sees it, and a link that waits for bytes is woken by it: the
-// watched end of a pair of sockets becomes ready as the other one is shut down, and stays so.
+// A signal that is given once and then stands. A link sees it, and a link that waits is woken by it: the watched end of
+// a pair of sockets becomes ready as the other one is shut down, and stays so.
 #[derive(Drop)]
 pub(crate) struct HangUp {
-    given: AtomicBool,
+    // the moment when it was given
+    given: OnceLock<Duration>,
+    // how long a link may go on then
+    rest: Duration,
     signal: UnixStream,
     watched: UnixStream,
 }
 
 impl HangUp {
-    pub(crate) fn new(rt: &impl Net) -> io::Result<Self> {
+    pub(crate) fn new(rt: &impl Net, rest: Duration) -> io::Result<Self> {
         let (signal, watched) = UnixStream::pair(rt)?;
         Ok(HangUp {
-            given: AtomicBool::new(false),
+            given: OnceLock::new(),
+            rest,
             signal,
             watched,
         })
     }
 
-    pub(crate) fn give(&self) {
-        self.given.store(true, Ordering::SeqCst);
+    // Gives it at this moment.
+    pub(crate) fn give(&self, now: Duration) {
+        let _ = self.given.try_set(now);
         let _ = self.signal.shutdown(Shutdown::Both);
     }
 
     pub(crate) fn is_given(&self) -> bool {
-        self.given.load(Ordering::SeqCst)
+        self.given.get().is_some()
+    }
+
+    // When the last link ends, once it was given.
+    pub(crate) fn deadline(&self) -> Option<Duration> {
+        Some(self.given.get()?.saturating_add(self.rest))
     }
 
     // What a link that waits looks at beside its own socket.

@@ -7,17 +7,23 @@
 
 mod faults;
 mod hang_up;
+mod head_end;
 mod keep_alive;
 mod linger;
 mod net_closer;
+mod net_settings;
+mod pace;
+mod patience;
 mod port;
 mod readiness;
 mod shared;
 mod system_clock;
 mod tcp_link;
 mod tcp_net;
+mod timed_stream;
 
 pub use net_closer::NetCloser;
+pub use net_settings::NetSettings;
 pub use port::BoundPorts;
 pub use system_clock::SystemClock;
 pub use tcp_link::TcpLink;

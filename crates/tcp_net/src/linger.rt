@@ -4,21 +4,28 @@ use libc::net::POLLIN;
 use std::io;
 use std::io::{ErrorKind, Read};
 use std::net::{Shutdown, TcpStream};
-use std::time::{Clock, Duration, Instant};
+use std::time::{Clock, Duration};
 
 const LINGER_SECONDS: u64 = 1;
 
-const LOOK_MILLIS: i32 = 100;
+const LOOK_MILLIS: u64 = 100;
 
 // Says that no more will be sent, and drops what still comes until the other end is at its end too, for about a second
-// at most. Were a connection closed over bytes that nobody has read, the system would reset it, and the other end
-// could lose the last bytes that it was sent.
-pub(crate) fn linger(rt: &impl Clock, stream: &TcpStream) -> io::Result<()> {
+// at most, and not past the deadline. Were a connection closed over bytes that nobody has read, the system would reset
+// it, and the other end could lose the last bytes that it was sent.
+pub(crate) fn linger(
+    rt: &impl Clock,
+    stream: &TcpStream,
+    deadline: Option<Duration>,
+) -> io::Result<()> {
     stream.shutdown(Shutdown::Write)?;
-    let begun = Instant::now(rt)?;
+    let until = rt
+        .monotonic()?
+        .saturating_add(Duration::from_secs(LINGER_SECONDS));
+    let until = deadline.map_or(until, |deadline| until.min(deadline));
     for _ in 0..u64::MAX {
         let at_end = drop_bytes(stream)?;
-        if at_end || begun.elapsed(rt)? >= Duration::from_secs(LINGER_SECONDS) {
+        if at_end || rt.monotonic()? >= until {
             break;
         }
     }
@@ -33,6 +40,7 @@ fn drop_bytes(mut stream: &TcpStream) -> io::Result<bool> {
         Err(fault) if fault.kind() == ErrorKind::WouldBlock => {}
         Err(fault) => return Err(fault),
     }
-    let waited = wait_for(&mut [asked_for(stream, POLLIN)], LOOK_MILLIS);
+    let limit = Duration::from_millis(LOOK_MILLIS);
+    let waited = wait_for(&mut [asked_for(stream, POLLIN)], Some(limit));
     Ok(waited == Readiness::Failed)
 }

@@ -5,8 +5,24 @@ use std::sync::Arc;
 use std::thread;
 use std::time::{Clock, Duration};
 
-// How long links go on to give bytes after their ports were closed.
-const GRACE_SECONDS: u64 = 1;
+// The times of a stop.
+#[derive(Clone, Copy)]
+pub(crate) struct StopTimes {
+    // how long links go on after their ports were closed
+    pub(crate) grace: Duration,
+    // how long they have then for what has come, and for what is being written
+    pub(crate) rest: Duration,
+}
+
+impl StopTimes {
+    // Those that `NetCloser::close` tells.
+    pub(crate) fn usual() -> Self {
+        StopTimes {
+            grace: Duration::from_secs(1),
+            rest: Duration::from_secs(5),
+        }
+    }
+}
 
 /// Closes a `TcpNet`, from any thread.
 #[derive(Drop)]
@@ -19,17 +35,24 @@ impl NetCloser {
         NetCloser { shared }
     }
 
-    /// Closes the net for good. It returns a second later, when no link gives any more.
+    /// Closes the net for good. It returns a second later, when all links were told to end.
     ///
-    /// At once both ports refuse, connections that nobody has taken yet are reset, and every call that waits for a
-    /// link answers that there is none. For one second more each link gives the bytes that come; then its source is
-    /// at its end, in the middle of a line or a request too. What is written to a link is sent, now and later, so a
-    /// reply that is under way is finished. A net that is closed before `bind` binds, and gives no link. A second
-    /// call changes nothing.
+    /// First the connections that nobody has taken yet are taken from the system; they are given as links to the calls
+    /// that want one, those that wait and later ones. Then both ports refuse, and a call that finds no such link left
+    /// answers that there is none.
+    ///
+    /// For one second more each link goes on as before. Then it gives what has come already, and its source is at its
+    /// end, in the middle of a line or a request too; so it is with links that are given later. What is written to a
+    /// link is sent, so a reply that is under way is finished. Five seconds after the links were told to end, six
+    /// after the call began, no source gives any more, and a write that has to wait fails.
+    ///
+    /// A net that is closed before `bind` binds, and gives no link. A second call changes nothing.
     pub fn close(&self, rt: &impl Clock) {
         self.shared.close_ports();
-        thread::sleep(rt, Duration::from_secs(GRACE_SECONDS));
-        self.shared.hang_up.give();
+        thread::sleep(rt, self.shared.grace);
+        // A clock that cannot be read has no five seconds.
+        let now = rt.monotonic().unwrap_or(Duration::ZERO);
+        self.shared.hang_up.give(now);
     }
 
     /// The ports, once they are bound.

@@ -1,7 +1,11 @@
 // A port that gives links.
 use libc::net::{SHUT_RDWR, shutdown};
+use std::alloc::Global;
+use std::collections::VecDeque;
+use std::io::ErrorKind;
 use std::net::{IpAddr, Net, SocketAddr, TcpListener, TcpStream};
 use std::os::fd::AsRawFd;
+use std::sync::Mutex;
 use std::sync::atomic::{AtomicBool, AtomicU64, Ordering};
 use std::time::{Clock, Duration};
 use std::{io, thread};
@@ -9,6 +13,12 @@ use std::{io, thread};
 // How long a thread waits after an accept that failed. Want of descriptors, say, is answered at once, and may pass only
 // as another link ends.
 const FAULT_PAUSE_MILLIS: u64 = 50;
+
+// How long a thread waits for another one that takes one of the last links.
+const TURN_PAUSE_MILLIS: u64 = 1;
+
+// How often a port that closes looks for one more connection. The system keeps up to 129 waiting.
+const MOST_LAST_LOOKS: usize = 1_024;
 
 /// The ports that are open.
 #[derive(Clone, Copy, Debug, PartialEq, Eq)]
@@ -29,13 +39,17 @@ pub(crate) struct Port {
     // how many calls have set out to give a link, and how many links have come
     begun: AtomicU64,
     given: AtomicU64,
+    closing: AtomicBool,
     closed: AtomicBool,
+    // the links that nobody had taken when the port closed
+    last: Mutex<VecDeque<TcpStream>>,
 }
 
 impl Port {
     // Opens a port of this address; number 0 is any free one.
     pub(crate) fn open<R: Net<Listener = TcpListener, Stream = TcpStream>>(
         rt: &R,
+        alloc: Global,
         address: IpAddr,
         number: u16,
         links: u64,
@@ -48,7 +62,9 @@ impl Port {
             links,
             begun: AtomicU64::new(0),
             given: AtomicU64::new(0),
+            closing: AtomicBool::new(false),
             closed: AtomicBool::new(false),
+            last: Mutex::new(VecDeque::new(alloc)),
         })
     }
 
@@ -56,15 +72,15 @@ impl Port {
         self.number
     }
 
-    // The next link, or `None` where the port is closed or all its links are given or waited for. An accept that fails
-    // is tried again after a pause.
+    // The next link, or `None` where the port is closed and nothing is left of its queue, or all its links are given or
+    // waited for. An accept that fails is tried again after a pause.
     pub(crate) fn next_stream(&self, rt: &impl Clock) -> Option<TcpStream> {
         if !self.begin_link() {
             return None;
         }
         for _ in 0..u64::MAX {
             if self.is_closed() {
-                break;
+                return self.next_last(rt);
             }
             if let Ok(stream) = self.accept() {
                 self.count_given();
@@ -73,6 +89,17 @@ impl Port {
             if !self.is_closed() {
                 thread::sleep(rt, Duration::from_millis(FAULT_PAUSE_MILLIS));
             }
+        }
+        None
+    }
+
+    // The next of the links that nobody had taken when the port closed.
+    fn next_last(&self, rt: &impl Clock) -> Option<TcpStream> {
+        for _ in 0..u64::MAX {
+            if let Some(mut last) = self.last.try_lock() {
+                return last.pop_front();
+            }
+            thread::sleep(rt, Duration::from_millis(TURN_PAUSE_MILLIS));
         }
         None
     }
@@ -97,13 +124,43 @@ impl Port {
     fn count_given(&self) {
         let before = self.given.fetch_add(1, Ordering::SeqCst);
         if 0 < self.links && self.links <= before.saturating_add(1) {
-            self.close();
+            self.refuse();
         }
     }
 
-    // From now on the port refuses, and each thread that waits for a link of it is woken and goes away without one.
-    // Links that nobody has taken yet are lost.
+    // Takes the links that wait in the system's queue, so that they are given now or later, and then refuses.
     pub(crate) fn close(&self) {
+        if self.closing.swap(true, Ordering::SeqCst) || self.is_closed() {
+            return;
+        }
+        self.empty_queue();
+        self.refuse();
+    }
+
+    // A connection that has failed while it waited is passed over.
+    fn empty_queue(&self) {
+        if self.listener.set_nonblocking(true).is_err() {
+            return;
+        }
+        for _ in 0..MOST_LAST_LOOKS {
+            match self.accept() {
+                Ok(stream) => self.keep(stream),
+                Err(fault) if fault.kind() == ErrorKind::WouldBlock => return,
+                Err(_) => {}
+            }
+        }
+    }
+
+    // Keeps one of the last links. Nobody else has the lock while the port is not closed. Without memory it is lost.
+    fn keep(&self, stream: TcpStream) {
+        if let Some(mut last) = self.last.try_lock() {
+            let _ = last.push_back(stream);
+        }
+    }
+
+    // From now on the port refuses, and each thread that waits for a link of it is woken. Links that stand in the
+    // system's queue are lost.
+    fn refuse(&self) {
         self.closed.store(true, Ordering::SeqCst);
         shutdown(self.listener.as_raw_fd(), SHUT_RDWR);
     }

@@ -2,6 +2,7 @@
 use libc::net::poll;
 use libc::types::pollfd;
 use std::os::fd::AsRawFd;
+use std::time::Duration;
 
 // What a wait came to.
 #[derive(Clone, Copy, PartialEq, Eq)]
@@ -23,8 +24,13 @@ pub(crate) fn asked_for(socket: &impl AsRawFd, events: i16) -> pollfd {
     }
 }
 
-// Waits until one of the sockets is ready for what it is asked for, at most so many milliseconds; -1 is for ever.
-pub(crate) fn wait_for(asked: &mut [pollfd], millis: i32) -> Readiness {
+// Waits until one of the sockets is ready for what it is asked for, at most so long: in whole milliseconds, and up to
+// 2^31 - 1 of them. With no limit it waits for ever.
+pub(crate) fn wait_for(asked: &mut [pollfd], limit: Option<Duration>) -> Readiness {
+    let millis = match limit {
+        Some(limit) => i32::try_from(limit.as_millis()).unwrap_or(i32::MAX),
+        None => -1,
+    };
     match poll(asked, millis) {
         0 => Readiness::TimedOut,
         count if 0 < count => Readiness::Ready,

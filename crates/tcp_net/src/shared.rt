@@ -1,16 +1,20 @@
 // What a net, its links and its closers share.
 use crate::hang_up::HangUp;
+use crate::net_closer::StopTimes;
 use crate::port::{BoundPorts, Port};
 use std::io;
 use std::net::Net;
 use std::sync::OnceLock;
 use std::sync::atomic::{AtomicBool, Ordering};
+use std::time::Duration;
 
 #[derive(Drop)]
 pub(crate) struct Shared {
     // none before `bind`
     ports: OnceLock<Ports>,
     closing: AtomicBool,
+    // how long links go on after the ports were closed
+    pub(crate) grace: Duration,
     pub(crate) hang_up: HangUp,
 }
 
@@ -21,11 +25,12 @@ pub(crate) struct Ports {
 }
 
 impl Shared {
-    pub(crate) fn new(rt: &impl Net) -> io::Result<Self> {
+    pub(crate) fn new(rt: &impl Net, times: StopTimes) -> io::Result<Self> {
         Ok(Shared {
             ports: OnceLock::new(),
             closing: AtomicBool::new(false),
-            hang_up: HangUp::new(rt)?,
+            grace: times.grace,
+            hang_up: HangUp::new(rt, times.rest)?,
         })
     }
 

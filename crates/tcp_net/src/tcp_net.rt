@@ -2,15 +2,20 @@
 ghost use Rattle.std.specs.Prelude.{◌≡◌, IfOk};
 
 use crate::faults::raised;
-use crate::net_closer::NetCloser;
+use crate::keep_alive::keep_alive;
+use crate::net_closer::{NetCloser, StopTimes};
+use crate::net_settings::NetSettings;
+use crate::patience::Patience;
 use crate::port::{BoundPorts, Port};
 use crate::shared::{Ports, Shared};
 use crate::tcp_link::TcpLink;
+use crate::timed_stream::TimedStream;
 use outside_io::{Net, NetFailed};
 use std::alloc::{AllocError, Global};
 use std::io;
 use std::io::ErrorKind;
-use std::net::{IpAddr, TcpListener, TcpStream};
+use std::net::{TcpListener, TcpStream};
+use std::os::fd::AsRawFd;
 use std::sync::Arc;
 use std::time::Clock;
 
@@ -23,21 +28,35 @@ use std::time::Clock;
 #[derive(Drop)]
 pub struct TcpNet<R> {
     rt: R,
-    address: IpAddr,
+    alloc: Global,
+    settings: NetSettings,
     shared: Arc<Shared>,
     faults: u64,
 }
 
 impl<R: std::net::Net<Listener = TcpListener, Stream = TcpStream> + Clock + Copy> TcpNet<R> {
-    /// A net on this address, with no port bound yet. It takes two descriptors, and each port and each link one more.
-    pub fn new(alloc: Global, rt: R, address: IpAddr) -> io::Result<Self>
+    /// A net with these settings, and with no port bound yet. It takes two descriptors, each port and each link one
+    /// more, and so at the stop does each connection that waits on a port.
+    pub fn new(alloc: Global, rt: R, settings: NetSettings) -> io::Result<Self>
         ensures { IfOk result (λ net. ⟦<TcpNet<R> as Net>⟧.faults net ≡ 0) }
     {
-        let shared = Shared::new(&rt)?;
+        TcpNet::with_times(alloc, rt, settings, StopTimes::usual())
+    }
+
+    pub(crate) fn with_times(
+        alloc: Global,
+        rt: R,
+        settings: NetSettings,
+        times: StopTimes,
+    ) -> io::Result<Self>
+        ensures { IfOk result (λ net. ⟦<TcpNet<R> as Net>⟧.faults net ≡ 0) }
+    {
+        let shared = Shared::new(&rt, times)?;
         Ok(TcpNet {
             shared: Arc::new(alloc, shared)?,
             rt,
-            address,
+            alloc,
+            settings,
             faults: 0,
         })
     }
@@ -53,7 +72,7 @@ impl<R: std::net::Net<Listener = TcpListener, Stream = TcpStream> + Clock + Copy
     }
 
     fn open(&self, number: u16, links: u64) -> io::Result<Port> {
-        Port::open(&self.rt, self.address, number, links)
+        Port::open(&self.rt, self.alloc, self.settings.address, number, links)
     }
 
     fn open_both(&self, line_port: u16, http_port: u16, links: u64) -> io::Result<()> {
@@ -90,12 +109,14 @@ impl<R: std::net::Net<Listener = TcpListener, Stream = TcpStream> + Clock + Copy
     fn next_lines(&self) -> Option<TcpLink<R>> {
         let shared = Arc::try_clone(&self.shared).ok()?;
         let stream = self.shared.ports()?.lines.next_stream(&self.rt)?;
-        Some(TcpLink::for_lines(self.rt, stream, shared))
+        keep_alive(stream.as_raw_fd());
+        let patience = Patience::for_lines(self.settings.line_patience);
+        Some(TcpLink::new(TimedStream::new(self.rt, stream, shared, patience)))
     }
 
     fn next_http(&self) -> Option<TcpLink<R>> {
         let shared = Arc::try_clone(&self.shared).ok()?;
         let stream = self.shared.ports()?.http.next_stream(&self.rt)?;
-        Some(TcpLink::for_http(self.rt, stream, shared))
+        Some(TcpLink::new(TimedStream::new(self.rt, stream, shared, Patience::for_http())))
     }
 }

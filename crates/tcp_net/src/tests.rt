@@ -1,19 +1,21 @@
 // The clock of the system, and both ends of connections in one process.
-use crate::port::{BoundPorts, Port};
-use crate::shared::Shared;
-use crate::tcp_link::{Patience, TcpLink};
+mod kit;
+mod paces;
+mod slow;
+mod stops;
+
+use crate::patience::Patience;
+use crate::tcp_link::TcpLink;
 use crate::{NetCloser, SystemClock, TcpNet};
+use kit::{Pair, bound_net, connect, connect_and_end, gives, is_refused, is_sent, settings};
 use libc::net::{SO_KEEPALIVE, SOL_SOCKET, getsockopt};
 use outside_io::{Clock, Net, NetFailed, ReadEnd, Sink, Source, WriteEnd};
 use std::io::{ErrorKind, Read, Write};
-use std::net::{IpAddr, Ipv4Addr, Shutdown, SocketAddr, TcpStream};
+use std::net::TcpStream;
 use std::os::fd::AsRawFd;
-use std::sync::Arc;
 use std::test::Fail;
-use std::time::{Duration, Instant};
+use std::time::{Duration, Instant, SystemTime, UNIX_EPOCH};
 use std::{io, thread};
-
-const LOCAL: IpAddr = IpAddr::V4(Ipv4Addr::LOCALHOST);
 
 // A clock that stands so many seconds after 1970, or cannot be read.
 #[derive(Clone, Copy, Drop)]
@@ -37,6 +39,7 @@ fn moments_are_brought_into_the_legal_range(rt: HostRuntime) -> Result<(), Fail>
     let cases = [
         (Some(31_535_999), 31_536_000),
         (Some(1_700_000_030), 1_700_000_030),
+        (Some(1_700_000_031), 1_700_000_031),
         (Some(4_000_000_001), 4_000_000_000),
         (None, 31_536_000),
     ];
@@ -53,74 +56,53 @@ fn moments_are_brought_into_the_legal_range(rt: HostRuntime) -> Result<(), Fail>
     Ok(())
 }
 
-fn connect(rt: HostRuntime, port: u16) -> io::Result<TcpStream> {
-    TcpStream::connect(&rt, SocketAddr::from((LOCAL, port)))
+fn system_seconds(rt: HostRuntime) -> Result<u64, Fail> {
+    let since = SystemTime::now(&rt)?.duration_since(UNIX_EPOCH);
+    Ok(since.map_err(|_| ErrorKind::Other)?.as_secs())
 }
 
-// The client's end of a connection over which a piece was sent, and nothing more comes.
-fn connect_and_send(rt: HostRuntime, port: u16, piece: &[u8]) -> io::Result<TcpStream> {
-    let mut client = connect(rt, port)?;
-    client.write_all(piece)?;
-    client.shutdown(Shutdown::Write)?;
-    Ok(client)
-}
-
-// Whether a source gives just this text and is then at its end.
-fn gives<S: Source>(source: &mut S, text: &[u8]) -> bool {
-    let mut rest = text;
-    let mut buf = [0u8; 64];
+#[test]
+fn the_clock_tells_the_second_of_the_system(rt: HostRuntime) -> Result<(), Fail> {
+    let clock = SystemClock::new(rt);
+    // a second may begin between the readings
     for _ in 0..10 {
-        let ReadEnd::Got(count) = source.read(&mut buf) else {
-            break
-        };
-        let Some(left) = rest.strip_prefix(&buf[..count]) else {
-            return false
-        };
-        rest = left;
+        let before = system_seconds(rt)?;
+        let now = clock.now();
+        if system_seconds(rt)? == before {
+            assert!(rt; now == before, "{now}");
+            return Ok(());
+        }
     }
-    rest.is_empty() && source.read(&mut buf) == ReadEnd::End
-}
-
-// Whether a client is sent just this piece and then the end.
-fn is_sent(client: &mut TcpStream, piece: &[u8]) -> io::Result<bool> {
-    let mut buf = [0u8; 64];
-    let count = client.read(&mut buf)?;
-    Ok(buf.get(..count) == Some(piece) && client.read(&mut buf)? == 0)
+    Err(Fail::new("each second was too short"))
 }
 
 fn keeps_alive(link: &TcpLink<HostRuntime>) -> bool {
     let mut value = [0u8; 16];
     let mut len = 4;
-    let fd = link.stream.as_raw_fd();
+    let fd = link.timed.stream.as_raw_fd();
     let status = unsafe { getsockopt(fd, SOL_SOCKET, SO_KEEPALIVE, &mut value, &mut len) };
     status == 0 && value[0] == 1
 }
 
-fn is_refused(rt: HostRuntime, ports: BoundPorts) -> bool {
-    connect(rt, ports.lines).is_err() && connect(rt, ports.http).is_err()
-}
-
-fn bound_net(rt: HostRuntime, links: u64) -> io::Result<(TcpNet<HostRuntime>, BoundPorts)> {
-    let mut net = TcpNet::new(rt.alloc(), rt, LOCAL)?;
-    let before = net.ports();
-    let bound = net.bind(0, 0, links);
-    match net.ports() {
-        Some(ports) if before.is_none() && bound == Ok(()) => Ok((net, ports)),
-        _ => Err(io::Error::from(ErrorKind::Other)),
-    }
+// How many seconds a link waits for bytes, and for room.
+fn waits_for(patience: &Patience) -> (Option<u64>, u64) {
+    let for_bytes = patience.for_bytes.map(|time| time.as_secs());
+    (for_bytes, patience.for_room.as_secs())
 }
 
 #[test]
 fn each_port_gives_its_links_and_then_refuses(rt: HostRuntime) -> Result<(), Fail> {
     let (net, ports) = bound_net(rt, 1)?;
-    let _sender = connect_and_send(rt, ports.lines, b"a.b 1.5 1700000000\n")?;
-    let mut browser = connect_and_send(rt, ports.http, b"GET /x HTTP/1.1\r\n\r\n")?;
+    let _sender = connect_and_end(rt, ports.lines, b"a.b 1.5 1700000000\n")?;
+    let mut browser = connect_and_end(rt, ports.http, b"GET /x HTTP/1.1\r\n\r\n")?;
     let mut lines = net.next_lines().expect(&rt, "a link of lines");
     let mut http = net.next_http().expect(&rt, "a link of HTTP");
     assert!(rt; net.next_lines().is_none() && net.next_http().is_none() && is_refused(rt, ports));
-    assert!(rt; lines.patience.for_bytes == -1 && lines.patience.for_room == 75_000);
-    assert!(rt; http.patience.for_bytes == 75_000 && http.patience.for_room == 75_000);
-    assert!(rt; keeps_alive(&lines) && lines.stream.nodelay()? && http.stream.nodelay()?);
+    assert!(rt; waits_for(&lines.timed.patience) == (None, 75));
+    assert!(rt; waits_for(&http.timed.patience) == (Some(75), 75));
+    assert!(rt;
+        keeps_alive(&lines) && lines.timed.stream.nodelay()? && http.timed.stream.nodelay()?
+    );
     assert!(rt; gives(&mut lines, b"a.b 1.5 1700000000\n"));
     let mut method = [0u8; 3];
     assert!(rt; http.read(&mut method) == ReadEnd::Got(3) && method == *b"GET");
@@ -135,7 +117,7 @@ fn each_port_gives_its_links_and_then_refuses(rt: HostRuntime) -> Result<(), Fai
 fn the_ports_are_those_that_are_asked_for(rt: HostRuntime) -> Result<(), Fail> {
     let (net, free) = bound_net(rt, 0)?;
     drop(net);
-    let mut net = TcpNet::new(rt.alloc(), rt, LOCAL)?;
+    let mut net = TcpNet::new(rt.alloc(), rt, settings(0))?;
     assert!(rt; net.bind(free.lines, free.http, 0) == Ok(()) && net.ports() == Some(free));
     Ok(())
 }
@@ -143,7 +125,7 @@ fn the_ports_are_those_that_are_asked_for(rt: HostRuntime) -> Result<(), Fail> {
 #[test]
 fn a_port_in_use_and_a_second_bind_are_faults(rt: HostRuntime) -> Result<(), Fail> {
     let (mut net, ports) = bound_net(rt, 0)?;
-    let mut other = TcpNet::new(rt.alloc(), rt, LOCAL)?;
+    let mut other = TcpNet::new(rt.alloc(), rt, settings(0))?;
     assert!(rt; other.bind(0, ports.http, 0) == Err(NetFailed) && other.faults() == 1);
     assert!(rt; net.bind(0, 0, 0) == Err(NetFailed) && net.faults() == 1);
     assert!(rt; net.ports() == Some(ports));
@@ -152,15 +134,16 @@ fn a_port_in_use_and_a_second_bind_are_faults(rt: HostRuntime) -> Result<(), Fai
 
 #[test]
 fn a_peer_that_is_silent_takes_nothing_or_goes_is_given_up(rt: HostRuntime) -> Result<(), Fail> {
-    let shared = Arc::new(rt.alloc(), Shared::new(&rt)?)?;
-    let port = Port::open(&rt, LOCAL, 0, 0)?;
-    let client = connect(rt, port.number())?;
-    let stream = port.next_stream(&rt).expect(&rt, "a stream");
     let patience = Patience {
-        for_bytes: 20,
-        for_room: 20,
+        for_bytes: Some(Duration::from_millis(20)),
+        for_room: Duration::from_millis(20),
+        for_exchange: None,
     };
-    let mut link = TcpLink::new(rt, stream, shared, patience);
+    let Pair {
+        client,
+        mut link,
+        shared: _,
+    } = Pair::new(rt, patience, 0)?;
     let mut buf = [0u8; 4096];
     assert!(rt; link.read(&mut buf) == ReadEnd::End && link.read_faults() == 0);
     for _ in 0..100_000 {

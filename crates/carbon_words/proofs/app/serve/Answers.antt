@@ -11,5 +11,6 @@ returns c =
     let http = option_added (codes "http-port") _ _ _ _ c.in_ok-arg-2.ensures c.option-2.ensures.local c.option-2.ensures.rule lines in
     let receivers = option_added (codes "receivers") _ _ _ _ c.in_ok-arg-3.ensures c.option-3.ensures.local c.option-3.ensures.rule http in
     let renderers = option_added (codes "renderers") _ _ _ _ c.in_ok-arg-4.ensures c.option-4.ensures.local c.option-4.ensures.rule receivers in
-    IfOk-weaker c.arg-5.result _ _
-    (λ r added. option_added (codes "links") _ _ _ _ added c.option-5.ensures.local c.option-5.ensures.rule renderers) c.arg-5.ensures
+    let patience = option_added (codes "line-patience") _ _ _ _ c.in_ok-arg-5.ensures c.option-5.ensures.local c.option-5.ensures.rule renderers in
+    IfOk-weaker c.arg-6.result _ _
+    (λ r added. option_added (codes "links") _ _ _ _ added c.option-6.ensures.local c.option-6.ensures.rule patience) c.arg-6.ensures

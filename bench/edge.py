@@ -1,0 +1,545 @@
+#!/usr/bin/env python3
+"""The edge of the built program: bad files, folders that cannot be written, slow and broken clients, and how it stops.
+
+Usage: bench/edge.py [WORD..]      (all cases without a word; else those whose name holds one)
+       bench/edge.py --list
+
+Each case runs the program over a folder in memory and real sockets, and prints `ok` or what it found instead, with its seconds. What is shown is
+what a sender, a dashboard or an operator sees: exit statuses, lines, replies, files. Cases that wait for a patience take as long as that, up to
+half a minute. Those that need another user's rights, few descriptors or a small file system are passed over, and say so, where this user may not
+have them. The exit status is 1 where a case found something else. Run ./carbon build first.
+"""
+import contextlib
+import os
+import re
+import resource
+import shutil
+import signal
+import socket
+import struct
+import subprocess
+import sys
+import tempfile
+import time
+
+from live import HERE, PROGRAM, class_of, folder, need_program
+
+LAUNCHER = os.path.abspath(os.path.join(HERE, "..", "carbon"))
+PORTS = re.compile(r"carbon: lines on (\d+), HTTP on (\d+)")
+NOBODY = 65534
+CASES = []
+
+
+class Passed(Exception):
+    """The case cannot be had here."""
+
+
+def case(function):
+    CASES.append(function)
+    return function
+
+
+def want(told, wanted, what):
+    if told != wanted:
+        raise AssertionError("%s: %r, not %r" % (what, told, wanted))
+
+
+class Daemon:
+    """`carbon serve` in a folder, begun without its launcher unless one is asked for."""
+
+    def __init__(self, place, *words, launched=False, user=None, **more):
+        command = [LAUNCHER if launched else PROGRAM, "serve", "--line-port", "0", "--http-port", "0", *words]
+        self.place = place
+        self.said = open(os.path.join(place, "stderr.txt"), "w+")
+        self.process = subprocess.Popen(
+            command, stdin=subprocess.PIPE, stdout=subprocess.PIPE, stderr=self.said, cwd=place, text=True, user=user, **more
+        )
+        self.line_port = self.http_port = None
+        for _ in range(300):
+            ports = PORTS.search(self.told())
+            if ports:
+                self.line_port, self.http_port = int(ports[1]), int(ports[2])
+                return
+            if self.process.poll() is not None:
+                return
+            time.sleep(0.02)
+        raise AssertionError("no ports after six seconds")
+
+    def told(self):
+        with open(self.said.name) as file:
+            return file.read()
+
+    def send(self, text, host="127.0.0.1"):
+        """Sends lines over a connection of their own, and waits until it is closed."""
+        with socket.create_connection((host, self.line_port), timeout=10) as link:
+            link.sendall(text.encode())
+            link.shutdown(socket.SHUT_WR)
+            while link.recv(4096):
+                pass
+
+    def ask(self, target, seconds=5, host="127.0.0.1"):
+        """The reply to a question: its status and its body."""
+        now = int(time.time())
+        head = "GET /render?target=%s&from=%d&until=%d&format=raw HTTP/1.0\r\n\r\n" % (target, now - 600, now)
+        reply = exchange(self.http_port, head.encode(), seconds, host)
+        front, _, body = reply.partition(b"\r\n\r\n")
+        return int(front.split()[1]), body.decode()
+
+    def stop(self, seconds=30):
+        """Tells it to stop, and answers its status, its last line and how long that took."""
+        begun = time.time()
+        self.process.stdin.write("stop\n")
+        self.process.stdin.flush()
+        status, line = self.end(seconds)
+        return status, line, time.time() - begun
+
+    def end(self, seconds=30):
+        out, _ = self.process.communicate(timeout=seconds)
+        return self.process.returncode, (out.splitlines() or [""])[-1]
+
+    def kill(self):
+        if self.process.poll() is None:
+            self.process.kill()
+            self.process.wait()
+
+
+def exchange(port, request, seconds=5, host="127.0.0.1"):
+    """All that comes back for a request, up to the end of the connection."""
+    with socket.create_connection((host, port), timeout=seconds) as link:
+        link.sendall(request)
+        reply = b""
+        while True:
+            piece = link.recv(65536)
+            if not piece:
+                return reply
+            reply += piece
+
+
+@contextlib.contextmanager
+def serving(*words, place=None, **more):
+    with contextlib.ExitStack() as stack:
+        if place is None:
+            place = stack.enter_context(folder())
+        daemon = Daemon(place, *words, **more)
+        stack.callback(daemon.kill)
+        yield daemon
+
+
+def path_of(place, metric):
+    return os.path.join(place, "data", "%02d" % class_of(metric.encode()), metric.replace(".", "/") + ".ring")
+
+
+def script(place, text):
+    ran = subprocess.run([PROGRAM, "script"], input=text, cwd=place, capture_output=True, text=True, timeout=60)
+    return ran.returncode, ran.stdout, ran.stderr
+
+
+def point(metric, value=1):
+    return "%s %s %d\n" % (metric, value, int(time.time()))
+
+
+def settled(found, seconds=10):
+    """Waits until this is so, and says whether it came to be."""
+    for _ in range(int(seconds * 50)):
+        if found():
+            return True
+        time.sleep(0.02)
+    return False
+
+
+# ---- files and folders
+
+
+@case
+def a_file_that_is_a_link_is_refused_at_the_start():
+    with folder() as place:
+        want(script(place, "a.b 1 1700000000\n")[0], 0, "a first run")
+        ring = path_of(place, "a.b")
+        os.rename(ring, os.path.join(place, "kept.ring"))
+        os.symlink(os.path.join(place, "kept.ring"), ring)
+        before = open(os.path.join(place, "kept.ring"), "rb").read()
+        with serving(place=place) as daemon:
+            status, line = daemon.end()
+            want((status, line), (5, "carbon: disk fault class %d" % class_of(b"a.b")), "status and line")
+            want("neither a plain file nor a folder" in daemon.told(), True, "the reason on standard error")
+        want(open(os.path.join(place, "kept.ring"), "rb").read(), before, "the file behind the link")
+
+
+@case
+def a_file_that_is_put_back_while_it_serves_keeps_its_points():
+    with folder() as place:
+        want(script(place, "".join("a.b %d %d\n" % (k, 1700000000 + 60 * k) for k in range(50)))[0], 0, "a first run")
+        ring = path_of(place, "a.b")
+        kept = os.path.join(place, "kept.ring")
+        os.rename(ring, kept)
+        with serving(place=place) as daemon:
+            shutil.copy(kept, ring)
+            daemon.send(point("a.b"))
+            want(settled(lambda: "a file is there" in daemon.told()), True, "the reason on standard error")
+            want(daemon.ask("a.b")[0], 200, "a question meanwhile")
+            daemon.stop()
+        want(open(ring, "rb").read(), open(kept, "rb").read(), "the file that was put back")
+
+
+@case
+def a_file_that_is_removed_while_it_serves_is_told_and_holds_up_its_class_alone():
+    with folder() as place:
+        want(script(place, "a.b 1 1700000000\n")[0], 0, "a first run")
+        ring = path_of(place, "a.b")
+        kept = open(ring, "rb").read()
+        with serving(place=place) as daemon:
+            os.remove(ring)
+            daemon.send(point("a.b", 7) + point("b.c", 8))
+            want(settled(lambda: ring[len(place) + 1 :] in daemon.told()), True, "the file on standard error")
+            want(settled(lambda: os.path.exists(path_of(place, "b.c"))), True, "another class")
+            open(ring, "wb").write(kept)
+            want(settled(lambda: open(ring, "rb").read() != kept), True, "the drain, once the file is back")
+            status, line, _ = daemon.stop()
+            want((status, line), (0, "stored 2 replaced 0 full 0 drains 2"), "the stop")
+
+
+@case
+def a_file_that_is_cut_while_it_serves_does_not_grow_again():
+    with folder() as place:
+        want(script(place, "a.b 1 1700000000\n")[0], 0, "a first run")
+        ring = path_of(place, "a.b")
+        with serving(place=place) as daemon:
+            with open(ring, "r+b") as file:
+                file.truncate(100)
+            daemon.send(point("a.b", 7))
+            want(settled(lambda: "shorter than it was" in daemon.told()), True, "the reason on standard error")
+            daemon.stop()
+        want(os.path.getsize(ring), 100, "its length")
+
+
+@case
+def a_folder_that_cannot_be_written_is_refused_at_the_start():
+    with own_folder() as place:
+        os.makedirs(os.path.join(place, "data", "03"))
+        os.chmod(os.path.join(place, "data", "03"), 0o555)
+        as_nobody(place)
+        os.chmod(os.path.join(place, "data", "03"), 0o555)
+        with serving(place=place, user=NOBODY) as daemon:
+            want(daemon.end(), (5, "carbon: disk fault class 3"), "status and line")
+
+
+@case
+def a_folder_that_cannot_be_read_is_no_empty_folder():
+    with own_folder() as place:
+        want(script(place, "a.b 1 1700000000\n")[0], 0, "a first run")
+        as_nobody(place)
+        inner = os.path.dirname(path_of(place, "a.b"))
+        os.chmod(inner, 0o000)
+        with serving(place=place, user=NOBODY) as daemon:
+            want(daemon.end(), (5, "carbon: disk fault class %d" % class_of(b"a.b")), "status and line")
+
+
+@case
+def a_file_that_cannot_be_read_is_no_new_metric():
+    with own_folder() as place:
+        want(script(place, "a.b 1 1700000000\n")[0], 0, "a first run")
+        as_nobody(place)
+        os.chmod(path_of(place, "a.b"), 0o000)
+        with serving(place=place, user=NOBODY) as daemon:
+            want(daemon.end(), (5, "carbon: disk fault class %d" % class_of(b"a.b")), "status and line")
+
+
+@case
+def a_rule_file_that_cannot_be_read_is_no_empty_one():
+    with own_folder() as place:
+        os.makedirs(os.path.join(place, "conf"))
+        open(os.path.join(place, "conf", "storage-schemas.conf"), "w").write("[a]\npattern = .*\nretentions = 60:10\n")
+        as_nobody(place)
+        os.chmod(os.path.join(place, "conf", "storage-schemas.conf"), 0o000)
+        with serving(place=place, user=NOBODY) as daemon:
+            want(daemon.end()[0], 5, "status")
+
+
+@contextlib.contextmanager
+def own_folder():
+    """A folder whose files may be another user's."""
+    with tempfile.TemporaryDirectory() as place:
+        os.chmod(place, 0o755)
+        yield place
+        for root, folders, _ in os.walk(place):
+            for name in folders:
+                os.chmod(os.path.join(root, name), 0o755)
+
+
+def as_nobody(place):
+    if os.geteuid() != 0:
+        raise Passed("only root has another user's rights")
+    for root, folders, files in os.walk(place):
+        os.chown(root, NOBODY, NOBODY)
+        for name in folders + files:
+            os.chown(os.path.join(root, name), NOBODY, NOBODY)
+
+
+@case
+def a_full_disk_loses_nothing_but_what_cannot_be_written():
+    with tempfile.TemporaryDirectory() as place:
+        if os.geteuid() != 0 or subprocess.run(["mount", "-t", "tmpfs", "-o", "size=1m", "carbon", place]).returncode:
+            raise Passed("no file system can be mounted")
+        try:
+            with serving(place=place) as daemon:
+                daemon.send("".join(point("m.n%d" % k) for k in range(600)))
+                want(settled(lambda: "No space left" in daemon.told()), True, "the reason on standard error")
+                want(daemon.ask("m.n599")[0], 200, "a question meanwhile")
+                status, line, took = daemon.stop()
+                want(status, 5, "the status of a stop that cannot write")
+        finally:
+            subprocess.run(["umount", place])
+
+
+# ---- one carbon a folder, and what the system gives
+
+
+@case
+def a_second_carbon_in_a_folder_is_refused():
+    with serving() as daemon:
+        with serving(place=daemon.place) as second:
+            want(second.end(), (12, "carbon: folder in use"), "the second one")
+        want(script(daemon.place, "")[0:2], (12, "carbon: folder in use\n"), "a script there")
+        daemon.kill()
+        with serving(place=daemon.place) as again:
+            want(again.line_port is not None, True, "one after a kill")
+
+
+@case
+def two_carbons_that_start_at_once_lose_nothing():
+    with folder() as place:
+        both = [Daemon(place), Daemon(place)]
+        serving_now = [daemon for daemon in both if daemon.line_port]
+        want(len(serving_now), 1, "how many serve")
+        serving_now[0].send("".join(point("a.n%d" % k) for k in range(1200)))
+        want(serving_now[0].stop()[0:2], (0, "stored 1200 replaced 0 full 0 drains 1200"), "the stop")
+        for daemon in both:
+            daemon.kill()
+
+
+@case
+def few_descriptors_are_told_at_the_start():
+    def few():
+        resource.setrlimit(resource.RLIMIT_NOFILE, (60, 60))
+
+    with serving("--receivers", "16", "--renderers", "16", preexec_fn=few) as daemon:
+        want(daemon.end(), (13, "carbon: file descriptors: 72 needed, 60 given"), "status and line")
+
+
+@case
+def words_that_are_no_command_touch_nothing():
+    with serving() as daemon:
+        ran = subprocess.run([PROGRAM, "serve", "--ports"], cwd=daemon.place, capture_output=True, text=True)
+        want((ran.returncode, ran.stdout), (2, "carbon: usage\n"), "status and line in a folder in use")
+
+
+# ---- ports and links
+
+
+@case
+def each_port_has_its_own_kind_on_all_addresses():
+    with serving() as daemon:
+        for host in "127.0.0.1", "127.0.0.2":
+            daemon.send(point("host." + host.replace(".", "_")), host)
+        status, body = daemon.ask("host.*", host="127.0.0.2")
+        want((status, body.count("\n")), (200, 2), "the answer")
+
+
+@case
+def a_reset_of_a_sender_frees_its_receiver():
+    with serving("--receivers", "1") as daemon:
+        link = socket.create_connection(("127.0.0.1", daemon.line_port))
+        link.sendall(b"a.b 1 ")
+        time.sleep(0.1)
+        link.setsockopt(socket.SOL_SOCKET, socket.SO_LINGER, struct.pack("ii", 1, 0))
+        link.close()
+        daemon.send(point("a.c"))
+        want(daemon.ask("a.c")[1].startswith("a.c,"), True, "the next sender's point")
+
+
+@case
+def refused_requests_leave_their_renderers():
+    with serving("--renderers", "2") as daemon:
+        for _ in range(20):
+            want(b"400" in exchange(daemon.http_port, b"no request\r\n\r\n")[:20], True, "a refusal")
+        want(daemon.ask("a.b")[0], 200, "a question afterwards")
+
+
+@case
+def thirty_two_links_of_each_kind_are_served_at_once():
+    with serving("--receivers", "32", "--renderers", "32") as daemon:
+        lines = [socket.create_connection(("127.0.0.1", daemon.line_port), 5) for _ in range(32)]
+        for k, link in enumerate(lines):
+            link.sendall(point("at.n%d" % k).encode())
+        want(settled(lambda: daemon.ask("at.*")[1].count("\n") == 32), True, "the points of all senders, whose links are open")
+        asks = [socket.create_connection(("127.0.0.1", daemon.http_port), 5) for _ in range(32)]
+        for link in asks:
+            link.sendall(b"GET /metrics/find?query=at HTTP/1.1\r\nHost: a\r\n\r\n")
+        want(all(link.recv(64).startswith(b"HTTP/1.1 200") for link in asks), True, "the replies on links that stay open")
+        for link in lines + asks:
+            link.close()
+
+
+@case
+def every_class_is_drained_while_lines_come():
+    names = {}
+    for k in range(1000):
+        names.setdefault(class_of(b"c.n%d" % k), "c.n%d" % k)
+    with serving() as daemon:
+        daemon.send("".join(point(name) for name in names.values()))
+        want(len(names), 16, "classes")
+        want(settled(lambda: all(os.path.exists(path_of(daemon.place, name)) for name in names.values())), True, "a file of each class")
+
+
+@case
+def a_long_reply_arrives_whole_at_a_slow_reader():
+    with serving() as daemon:
+        daemon.send("".join(point("long.n%06d" % k) for k in range(100_000)))
+        request = b"GET /metrics/index.json HTTP/1.0\r\n\r\n"
+        with socket.create_connection(("127.0.0.1", daemon.http_port), 20) as link:
+            link.sendall(request)
+            size = 0
+            tail = b""
+            while True:
+                piece = link.recv(1000)
+                if not piece:
+                    break
+                size += len(piece)
+                tail = (tail + piece)[-20:]
+        want(tail.endswith(b'"long.n099999"]'), True, "the end of the reply")
+        want(size > 100_000 * 16, True, "its length")
+
+
+# ---- patience
+
+
+@case
+def a_silent_sender_is_closed_and_its_receiver_goes_on():
+    with serving("--receivers", "1", "--line-patience", "2") as daemon:
+        silent = socket.create_connection(("127.0.0.1", daemon.line_port))
+        silent.settimeout(10)
+        begun = time.time()
+        want(silent.recv(10), b"", "the silent sender's end")
+        want(1.5 < time.time() - begun < 5, True, "seconds until then")
+        daemon.send(point("a.c"))
+        want(daemon.ask("a.c")[0], 200, "the next sender")
+
+
+@case
+def slow_heads_do_not_keep_the_renderers():
+    with serving("--renderers", "2") as daemon:
+        slow = [socket.create_connection(("127.0.0.1", daemon.http_port)) for _ in range(2)]
+        begun = time.time()
+        answered = None
+        for _ in range(60):
+            for link in slow:
+                with contextlib.suppress(OSError):
+                    link.sendall(b"G")
+            if answered is None and time.time() - begun > 19:
+                answered = daemon.ask("a.b", 15)[0]
+                break
+            time.sleep(0.5)
+        want(answered, 200, "a question behind two slow heads")
+        want(time.time() - begun < 30, True, "within half a minute")
+
+
+# ---- the stop
+
+
+@case
+def a_stop_waits_for_no_reader_that_stalls():
+    with serving() as daemon:
+        daemon.send("".join(point("long.n%06d" % k) for k in range(200_000)))
+        link = socket.socket()
+        link.setsockopt(socket.SOL_SOCKET, socket.SO_RCVBUF, 4096)
+        link.connect(("127.0.0.1", daemon.http_port))
+        link.sendall(b"GET /metrics/index.json HTTP/1.0\r\n\r\n" * 1)
+        time.sleep(1)
+        status, line, took = daemon.stop(60)
+        want((status, line), (0, "stored 200000 replaced 0 full 0 drains 200000"), "the stop")
+        want(took < 60, True, "seconds")
+        print("    (%.1f s, drains among them)" % took)
+        link.close()
+
+
+@case
+def lines_that_were_sent_before_the_stop_are_taken():
+    lost = 0
+    for turn in range(20):
+        with serving() as daemon:
+            links = [socket.create_connection(("127.0.0.1", daemon.line_port)) for _ in range(8)]
+            for k, link in enumerate(links):
+                link.sendall(point("a.n%d" % k).encode())
+                link.close()
+            status, line, _ = daemon.stop()
+            want(status, 0, "the status")
+            lost += line != "stored 8 replaced 0 full 0 drains 8"
+    want(lost, 0, "rounds of twenty in which a line was lost")
+
+
+@case
+def the_end_of_the_launcher_is_a_stop():
+    for how in signal.SIGTERM, signal.SIGHUP, signal.SIGKILL:
+        with serving(launched=True) as daemon:
+            daemon.send(point("a.b", 7))
+            daemon.process.send_signal(how)
+            gone = settled(lambda: refuses(daemon.line_port), 20)
+            want(gone, True, "the port after %s" % how.name)
+            settled(lambda: lock_is_free(daemon.place), 20)
+            want(os.path.exists(path_of(daemon.place, "a.b")), True, "the drained file after %s" % how.name)
+
+
+def refuses(port):
+    try:
+        socket.create_connection(("127.0.0.1", port), 1).close()
+        return False
+    except OSError:
+        return True
+
+
+def lock_is_free(place):
+    import fcntl
+
+    handle = os.open(place, os.O_RDONLY)
+    try:
+        fcntl.flock(handle, fcntl.LOCK_EX | fcntl.LOCK_NB)
+        return True
+    except OSError:
+        return False
+    finally:
+        os.close(handle)
+
+
+@case
+def any_other_line_stops_nothing():
+    with serving() as daemon:
+        daemon.process.stdin.write("stopp\nrestart\n\n")
+        daemon.process.stdin.flush()
+        time.sleep(0.5)
+        daemon.send(point("a.b"))
+        want(daemon.stop()[0:2], (0, "stored 1 replaced 0 full 0 drains 1"), "the stop")
+
+
+def main():
+    words = [word for word in sys.argv[1:] if not word.startswith("--")]
+    chosen = [one for one in CASES if not words or any(word in one.__name__ for word in words)]
+    if "--list" in sys.argv:
+        print("\n".join(one.__name__ for one in chosen))
+        return
+    need_program()
+    failed = 0
+    for one in chosen:
+        begun = time.time()
+        try:
+            one()
+            said = "ok"
+        except Passed as why:
+            said = "passed over: %s" % why
+        except (AssertionError, OSError, subprocess.TimeoutExpired) as why:
+            said = "NOT SO: %s" % why
+            failed += 1
+        print("%-80s %6.1f s  %s" % (one.__name__.replace("_", " "), time.time() - begun, said), flush=True)
+    sys.exit(1 if failed else 0)
+
+
+main()

@@ -1,0 +1,43 @@
+// Why a call for a file failed.
+use std::alloc::{AllocError, AllocFailed};
+use std::io;
+use thiserror::Error;
+
+/// Why a call for a file failed, as it is told to an operator.
+#[derive(Debug, Drop, Error)]
+pub(crate) enum FileFault {
+    #[error("{0}")]
+    System(io::Error),
+    #[error("no plain file")]
+    NotPlain,
+    #[error("it has {0}, which is neither a plain file nor a folder")]
+    HasOther(String),
+    #[error("removed or replaced while it was in use; put it back, or start again: a file that is missing then is made anew")]
+    Replaced,
+    #[error("shorter than it was; put it back whole, or remove it and start again")]
+    Shorter,
+    #[error("a file is there that is not this disk's to write over; start again to read it")]
+    InTheWay,
+    #[error("no file is made for a moment, since one could not be made")]
+    Paused,
+    #[error("out of memory")]
+    NoMemory,
+}
+
+impl From<io::Error> for FileFault {
+    fn from(error: io::Error) -> FileFault {
+        FileFault::System(error)
+    }
+}
+
+impl From<AllocError> for FileFault {
+    fn from(_refused: AllocError) -> FileFault {
+        FileFault::NoMemory
+    }
+}
+
+impl<T: Drop> From<AllocFailed<T>> for FileFault {
+    fn from(_refused: AllocFailed<T>) -> FileFault {
+        FileFault::NoMemory
+    }
+}

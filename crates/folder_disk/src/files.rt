@@ -1,0 +1,158 @@
+// The files of a folder, one open at a time.
+use crate::fault::FileFault;
+use crate::open_file::{Access, Links, OpenedFile};
+use std::alloc::AllocError;
+use std::fs::{self, File, OpenFile, OpenOptions};
+use std::io::{ErrorKind, Write};
+use std::rt::Files;
+
+// How many bytes at the front of a ring file are zero until the file is whole.
+const FRONT_BYTES: usize = 16;
+
+// The name of the file by which a folder is tried.
+const TRIAL: &str = "carbon.trial";
+
+// The files in a folder, and the one that was used last, which stays open.
+#[derive(Drop)]
+pub(crate) struct FolderFiles<R> {
+    pub(crate) rt: R,
+    pub(crate) folder: String,
+    links: Links,
+    kept: Option<OpenedFile>,
+}
+
+// An open file, and how long it is.
+#[derive(Drop)]
+struct Taken {
+    file: OpenedFile,
+    length: u64,
+}
+
+impl<R: Files<File = File> + AllocGlobal> FolderFiles<R> {
+    pub(crate) fn new(rt: R, folder: String, links: Links) -> Self {
+        FolderFiles {
+            rt,
+            folder,
+            links,
+            kept: None,
+        }
+    }
+
+    // No file stays open.
+    pub(crate) fn let_go(&mut self) {
+        self.kept = None;
+    }
+
+    pub(crate) fn path_of(&self, name: &str) -> Result<String, AllocError> {
+        joined(&self.rt, self.folder.as_str(), name)
+    }
+
+    pub(crate) fn length(&self, name: &str) -> Result<Option<u64>, FileFault> {
+        match self
+            .links
+            .metadata_of(&self.rt, self.path_of(name)?.as_str())
+        {
+            Ok(found) if found.is_file() => Ok(Some(found.len())),
+            Ok(found) if found.is_dir() => Ok(None),
+            Ok(_) => Err(FileFault::NotPlain),
+            Err(error) => match error.kind() {
+                ErrorKind::NotFound | ErrorKind::NotADirectory => Ok(None),
+                _ => Err(FileFault::System(error)),
+            },
+        }
+    }
+
+    pub(crate) fn read(&mut self, name: &str, at: u64, buf: &mut [u8]) -> Result<(), FileFault> {
+        let Taken { file, length: _ } = self.take(name, Access::Reading)?;
+        file.read(at, buf)?;
+        self.kept = Some(file);
+        Ok(())
+    }
+
+    pub(crate) fn write(&mut self, name: &str, at: u64, piece: &[u8]) -> Result<(), FileFault> {
+        let Taken { file, length } = self.take(name, Access::Writing)?;
+        file.write(length, at, piece)?;
+        self.kept = Some(file);
+        Ok(())
+    }
+
+    // The file that is open, where it serves; else this one, opened. Its name leads to it now. It is kept no more.
+    fn take(&mut self, name: &str, wanted: Access) -> Result<Taken, FileFault> {
+        let file = match self.kept.take() {
+            Some(file) if file.serves(name, wanted) => file,
+            _ => self.open(name, wanted)?,
+        };
+        let length = file.length_under_name(&self.rt, self.links)?;
+        Ok(Taken { file, length })
+    }
+
+    fn open(&self, name: &str, wanted: Access) -> Result<OpenedFile, FileFault> {
+        let path = self.path_of(name)?;
+        let name = String::from_str(self.rt.alloc(), name)?;
+        OpenedFile::open(&self.rt, name, path, wanted)
+    }
+
+    // Makes a file of zero bytes, and the folders that it stands in. Where the name is taken, it has to be that of a plain file which was
+    // never whole: one that begins with zeros.
+    pub(crate) fn create(&mut self, name: &str, length: u64) -> Result<(), FileFault> {
+        self.kept = None;
+        let path = self.path_of(name)?;
+        if let Some((folder, _)) = path.rsplit_once('/') {
+            fs::create_dir_all(&self.rt, folder)?;
+        }
+        let file = self.made(name)?;
+        file.clear(length)?;
+        self.kept = Some(file);
+        Ok(())
+    }
+
+    fn made(&self, name: &str) -> Result<OpenedFile, FileFault> {
+        let path = self.path_of(name)?;
+        let own = String::from_str(self.rt.alloc(), name)?;
+        match OpenedFile::create(&self.rt, own, path) {
+            Err(FileFault::System(error)) if error.kind() == ErrorKind::AlreadyExists => {
+                self.unfinished(name)
+            }
+            made => made,
+        }
+    }
+
+    // The file under a name that is taken, where it was never whole.
+    fn unfinished(&self, name: &str) -> Result<OpenedFile, FileFault> {
+        let file = self.open(name, Access::Writing)?;
+        let length = file.length_under_name(&self.rt, self.links)?;
+        let mut front = [0; FRONT_BYTES];
+        if file.begins_with_zeros(length, &mut front)? {
+            Ok(file)
+        } else {
+            Err(FileFault::InTheWay)
+        }
+    }
+
+    // Makes a file, brings it to the device and removes it, so that a folder which takes no files is found before a point is.
+    pub(crate) fn try_folder(&self) -> Result<(), FileFault> {
+        fs::create_dir_all(&self.rt, self.folder.as_str())?;
+        let path = self.path_of(TRIAL)?;
+        // one that a killed run left is no one else's
+        let _ = fs::remove_file(&self.rt, path.as_str());
+        let mut options = OpenOptions::new();
+        options.write(true).create_new(true);
+        let mut file = options.open(&self.rt, path.as_str())?;
+        file.write_all(b"carbon\n")?;
+        file.sync_all()?;
+        fs::remove_file(&self.rt, path.as_str())?;
+        Ok(())
+    }
+}
+
+pub(crate) fn joined(
+    rt: &impl AllocGlobal,
+    folder: &str,
+    name: &str,
+) -> Result<String, AllocError> {
+    let mut path = String::with_capacity(rt.alloc(), folder.len() + 1 + name.len())?;
+    path.push_str(folder)?;
+    path.push('/')?;
+    path.push_str(name)?;
+    Ok(path)
+}

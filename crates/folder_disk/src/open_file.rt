@@ -1,0 +1,170 @@
+// A file that is open, and whether its name still leads to it.
+use crate::fault::FileFault;
+use std::fs::{self, File, Metadata, OpenFile, OpenOptions};
+use std::io;
+use std::io::ErrorKind;
+use std::os::unix::fs::{FileExt, MetadataExt};
+use std::rt::Files;
+
+// What an open file may be used for.
+#[derive(Clone, Copy, PartialEq, Eq)]
+pub(crate) enum Access {
+    Both,
+    Reading,
+    Writing,
+}
+
+impl Access {
+    fn allows(self, wanted: Access) -> bool {
+        self == Access::Both || self == wanted
+    }
+}
+
+// What is done where a name is a link to a file.
+#[derive(Clone, Copy, PartialEq, Eq)]
+pub(crate) enum Links {
+    Refused,
+    Followed,
+}
+
+impl Links {
+    // What stands under a name.
+    pub(crate) fn metadata_of(self, rt: &impl Files, path: &str) -> io::Result<Metadata> {
+        match self {
+            Links::Refused => fs::symlink_metadata(rt, path),
+            Links::Followed => fs::metadata(rt, path),
+        }
+    }
+}
+
+// Which file of the system it is.
+#[derive(Clone, Copy, PartialEq, Eq)]
+struct Place {
+    device: u64,
+    node: u64,
+}
+
+impl Place {
+    // That of a plain file.
+    fn of(found: &Metadata) -> Result<Place, FileFault> {
+        if !found.is_file() {
+            return Err(FileFault::NotPlain);
+        }
+        Ok(Place {
+            device: found.dev(),
+            node: found.ino(),
+        })
+    }
+}
+
+// An open file of the folder.
+#[derive(Drop)]
+pub(crate) struct OpenedFile {
+    name: String,
+    path: String,
+    access: Access,
+    place: Place,
+    file: File,
+}
+
+impl OpenedFile {
+    // Opens the file of this path, for reading and writing where the system lets it, else for what is wanted alone. Whether it stands under
+    // the name itself, and not behind a link, `length_under_name` says.
+    pub(crate) fn open<R: Files<File = File>>(
+        rt: &R,
+        name: String,
+        path: String,
+        wanted: Access,
+    ) -> Result<OpenedFile, FileFault> {
+        let mut options = OpenOptions::new();
+        options.read(true).write(true);
+        if let Ok(file) = options.open(rt, path.as_str()) {
+            return OpenedFile::of(name, path, Access::Both, file);
+        }
+        options
+            .read(wanted == Access::Reading)
+            .write(wanted == Access::Writing);
+        let file = options.open(rt, path.as_str())?;
+        OpenedFile::of(name, path, wanted, file)
+    }
+
+    // Makes the file of this path, where nothing has the name.
+    pub(crate) fn create<R: Files<File = File>>(
+        rt: &R,
+        name: String,
+        path: String,
+    ) -> Result<OpenedFile, FileFault> {
+        let mut options = OpenOptions::new();
+        options.read(true).write(true).create_new(true);
+        let file = options.open(rt, path.as_str())?;
+        OpenedFile::of(name, path, Access::Both, file)
+    }
+
+    fn of(name: String, path: String, access: Access, file: File) -> Result<Self, FileFault> {
+        let place = Place::of(&file.metadata()?)?;
+        Ok(OpenedFile {
+            name,
+            path,
+            access,
+            place,
+            file,
+        })
+    }
+
+    pub(crate) fn serves(&self, name: &str, wanted: Access) -> bool {
+        self.name.as_str() == name && self.access.allows(wanted)
+    }
+
+    // How long the file is now that stands under the name, which has to be this one.
+    pub(crate) fn length_under_name(
+        &self,
+        rt: &impl Files,
+        links: Links,
+    ) -> Result<u64, FileFault> {
+        let found = match links.metadata_of(rt, self.path.as_str()) {
+            Ok(found) => found,
+            Err(error) if error.kind() == ErrorKind::NotFound => return Err(FileFault::Replaced),
+            Err(error) => return Err(FileFault::System(error)),
+        };
+        if Place::of(&found)? != self.place {
+            return Err(FileFault::Replaced);
+        }
+        Ok(found.len())
+    }
+
+    pub(crate) fn read(&self, at: u64, buf: &mut [u8]) -> Result<(), FileFault> {
+        match self.file.read_exact_at(buf, at) {
+            Ok(()) => Ok(()),
+            Err(error) if error.kind() == ErrorKind::UnexpectedEof => Err(FileFault::Shorter),
+            Err(error) => Err(FileFault::System(error)),
+        }
+    }
+
+    // Puts a piece over bytes that the file has, whose length is given.
+    pub(crate) fn write(&self, length: u64, at: u64, piece: &[u8]) -> Result<(), FileFault> {
+        if at > length || piece.len() as u64 > length - at {
+            return Err(FileFault::Shorter);
+        }
+        Ok(self.file.write_all_at(piece, at)?)
+    }
+
+    // Leaves so many zero bytes. They take no place on the file system until they are written.
+    pub(crate) fn clear(&self, length: u64) -> io::Result<()> {
+        self.file.set_len(0)?;
+        self.file.set_len(length)
+    }
+
+    // Whether the file begins with so many zero bytes, or has zero bytes alone.
+    pub(crate) fn begins_with_zeros(
+        &self,
+        length: u64,
+        front: &mut [u8],
+    ) -> Result<bool, FileFault> {
+        let count = length.min(front.len() as u64) as usize;
+        let Some(front) = front.get_mut(..count) else {
+            return Ok(true);
+        };
+        self.read(0, front)?;
+        Ok(front.iter().all(|byte| *byte == 0))
+    }
+}

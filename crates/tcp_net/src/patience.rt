@@ -1,0 +1,50 @@
+// How long a link waits for its other end.
+use crate::pace::{Allowance, ExchangeTimes};
+use std::time::Duration;
+
+const SILENCE_SECONDS: u64 = 75;
+
+#[derive(Clone, Copy)]
+pub(crate) struct Patience {
+    // for the next bytes; none is for ever
+    pub(crate) for_bytes: Option<Duration>,
+    // for room for more bytes
+    pub(crate) for_room: Duration,
+    // for whole requests and replies, where the link brings such
+    pub(crate) for_exchange: Option<ExchangeTimes>,
+}
+
+impl Patience {
+    // For a link of lines that may be silent for so many seconds; 0 is for ever.
+    pub(crate) fn for_lines(seconds: u32) -> Self {
+        let for_bytes = match seconds {
+            0 => None,
+            _ => Some(Duration::from_secs(u64::from(seconds))),
+        };
+        Patience {
+            for_bytes,
+            for_room: Duration::from_secs(SILENCE_SECONDS),
+            for_exchange: None,
+        }
+    }
+
+    pub(crate) fn for_http() -> Self {
+        Patience {
+            for_bytes: Some(Duration::from_secs(SILENCE_SECONDS)),
+            for_room: Duration::from_secs(SILENCE_SECONDS),
+            for_exchange: Some(ExchangeTimes {
+                head: Duration::from_secs(20),
+                body: kilobytes_after(60),
+                reply: kilobytes_after(20),
+            }),
+        }
+    }
+}
+
+// So many seconds, and one more for each 1,024 bytes.
+fn kilobytes_after(seconds: u64) -> Allowance {
+    Allowance {
+        at_once: Duration::from_secs(seconds),
+        bytes_a_second: 1_024,
+    }
+}

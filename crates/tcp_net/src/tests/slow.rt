@@ -1,0 +1,212 @@
+// Other ends that are slow, silent or gone.
+use super::kit::{Pair, bind, connect_and_send, gives, read_out, settings};
+use crate::TcpNet;
+use crate::pace::{Allowance, ExchangeTimes};
+use crate::patience::Patience;
+use outside_io::{Net, ReadEnd, Sink, Source, WriteEnd, write_all};
+use std::io::{Read, Write};
+use std::net::{Shutdown, TcpStream};
+use std::test::Fail;
+use std::thread;
+use std::thread::Threads;
+use std::time::{Duration, Instant};
+
+// Of a link for HTTP whose head, body and reply have 200 milliseconds each, however many their bytes are.
+fn short_patience() -> Patience {
+    let at_once = Duration::from_millis(200);
+    let allowance = Allowance {
+        at_once,
+        bytes_a_second: u64::MAX,
+    };
+    let mut patience = Patience::for_http();
+    patience.for_exchange = Some(ExchangeTimes {
+        head: at_once,
+        body: allowance,
+        reply: allowance,
+    });
+    patience
+}
+
+// Sends a byte each 10 milliseconds, while the other end is there, for 3 seconds at most.
+fn drip(rt: HostRuntime, mut client: &TcpStream) {
+    for _ in 0..300 {
+        if client.write_all(b"x").is_err() {
+            break;
+        }
+        thread::sleep(&rt, Duration::from_millis(10));
+    }
+}
+
+// How a link ends that is sent this and then drips.
+fn end_of_drips(
+    threads: &impl Threads,
+    rt: HostRuntime,
+    first: &[u8],
+) -> Result<(ReadEnd, u64), Fail> {
+    let Pair {
+        mut client,
+        mut link,
+        shared: _,
+    } = Pair::new(rt, short_patience(), 0)?;
+    client.write_all(first)?;
+    let reading = move || read_out(&mut link);
+    let (end, ()) = thread::join(threads, reading, || drip(rt, &client));
+    Ok(end)
+}
+
+#[test]
+fn a_head_or_a_body_that_drips_is_ended(rt: HostRuntime) -> Result<(), Fail> {
+    let firsts: [&[u8]; 2] = [b"GET / HTTP/1.1\r\n", b"POST / HTTP/1.1\r\n\r\n"];
+    for first in firsts {
+        let begun = Instant::now(&rt)?;
+        let (end, reads) = end_of_drips(&rt, rt, first)?;
+        let millis = begun.elapsed(&rt)?.as_millis();
+        assert!(rt; end == ReadEnd::End && 0 < reads, "{end:?} after {reads}");
+        assert!(rt; (200..10_000).contains(&millis), "{millis}");
+    }
+    Ok(())
+}
+
+// Takes 1,000 bytes each 10 milliseconds, so often.
+fn sip(rt: HostRuntime, mut client: &TcpStream, times: u64) {
+    let mut buf = [0u8; 1_000];
+    for _ in 0..times {
+        let _ = client.read(&mut buf);
+        thread::sleep(&rt, Duration::from_millis(10));
+    }
+}
+
+// Writes until that fails.
+fn write_out<K: Sink>(out: &mut K) {
+    let piece = [b'x'; 4096];
+    for _ in 0..u64::MAX {
+        if out.write(&piece) == WriteEnd::Failed {
+            break;
+        }
+    }
+}
+
+#[test]
+fn a_reply_that_is_sipped_fails(rt: HostRuntime) -> Result<(), Fail> {
+    let Pair {
+        client,
+        mut link,
+        shared: _,
+    } = Pair::new(rt, short_patience(), 0)?;
+    let begun = Instant::now(&rt)?;
+    let writing = || {
+        write_out(&mut link);
+        begun.elapsed(&rt)
+    };
+    let (elapsed, ()) = thread::join(&rt, writing, || sip(rt, &client, 60));
+    let millis = elapsed?.as_millis();
+    assert!(rt; (200..10_000).contains(&millis), "{millis}");
+    assert!(rt; link.write_faults() == 1);
+    Ok(())
+}
+
+#[test]
+fn a_sender_of_lines_may_be_silent_for_so_long(rt: HostRuntime) -> Result<(), Fail> {
+    let (net, ports) = bind(TcpNet::new(rt.alloc(), rt, settings(1))?, 0)?;
+    let client = connect_and_send(rt, ports.lines, b"a 1 2\n")?;
+    let mut link = net.next_lines().expect(&rt, "a link of lines");
+    let begun = Instant::now(&rt)?;
+    assert!(rt; gives(&mut link, b"a 1 2\n"));
+    let millis = begun.elapsed(&rt)?.as_millis();
+    // `gives` reads the end twice
+    assert!(rt; (1_990..10_000).contains(&millis), "{millis}");
+    drop(client);
+    Ok(())
+}
+
+// How a link ends whose other end goes away, with bytes that it has not read or with none, and how many faults it has.
+fn end_of_peer(rt: HostRuntime, has_unread: bool) -> Result<(ReadEnd, u64), Fail> {
+    let Pair {
+        client,
+        mut link,
+        shared: _,
+    } = Pair::new(rt, Patience::for_http(), 0)?;
+    if has_unread {
+        write_all(&mut link, b"unread")?;
+        client.peek(&mut [0u8; 6])?;
+    }
+    drop(client);
+    let (end, _) = read_out(&mut link);
+    Ok((end, link.read_faults()))
+}
+
+#[test]
+fn a_reset_is_a_failed_read(rt: HostRuntime) -> Result<(), Fail> {
+    let cases = [(false, (ReadEnd::End, 0)), (true, (ReadEnd::Failed, 1))];
+    for (has_unread, end) in cases {
+        let found = end_of_peer(rt, has_unread)?;
+        assert!(rt; found == end, "{found:?}");
+    }
+    Ok(())
+}
+
+// How many bytes come before the end, by 1,000 at a time, where each is the count before it modulo 251.
+fn count_in_order(mut client: &TcpStream) -> usize {
+    let mut buf = [0u8; 1_000];
+    let mut total = 0usize;
+    for _ in 0..u64::MAX {
+        let count = client.read(&mut buf).unwrap_or(0);
+        let Some(piece) = buf.get(..count) else { break };
+        for byte in piece {
+            if usize::from(*byte) != total % 251 {
+                return 0;
+            }
+            total = total.saturating_add(1);
+        }
+        if count == 0 {
+            break;
+        }
+    }
+    total
+}
+
+fn pattern(rt: HostRuntime, len: usize) -> Result<Vec<u8>, Fail> {
+    let mut bytes = Vec::with_capacity(rt.alloc(), len)?;
+    for index in 0..len {
+        bytes.push((index % 251) as u8)?;
+    }
+    Ok(bytes)
+}
+
+// How many writes it takes to send all of it; none where one fails.
+fn send_all<K: Sink>(out: &mut K, mut bytes: &[u8]) -> u64 {
+    for writes in 0..u64::MAX {
+        if bytes.is_empty() {
+            return writes;
+        }
+        let WriteEnd::Took(count) = out.write(bytes) else {
+            return 0
+        };
+        bytes = bytes.get(count..).unwrap_or(&[]);
+    }
+    0
+}
+
+#[test]
+fn a_large_reply_arrives_whole_where_it_is_taken_in_small_pieces(
+    rt: HostRuntime,
+) -> Result<(), Fail> {
+    const LEN: usize = 16 << 20;
+    let bytes = pattern(rt, LEN)?;
+    let Pair {
+        client,
+        mut link,
+        shared: _,
+    } = Pair::new(rt, Patience::for_http(), 0)?;
+    let sending = || {
+        let writes = send_all(&mut link, &bytes);
+        let _ = link.timed.stream.shutdown(Shutdown::Write);
+        writes
+    };
+    let (writes, count) = thread::join(&rt, sending, || count_in_order(&client));
+    assert!(rt;
+        count == LEN && 1 < writes,
+        "{count} bytes, {writes} writes"
+    );
+    Ok(())
+}

@@ -1,0 +1,203 @@
+// What a stop gives, and when it ends.
+use super::kit::{
+    BoundNet, Pair, bind, connect, connect_and_send, gives, is_refused, is_sent, settings,
+    stop_times,
+};
+use crate::TcpNet;
+use crate::patience::Patience;
+use outside_io::{Net, ReadEnd, Sink, Source, WriteEnd};
+use std::io::{Read, Write};
+use std::net::TcpStream;
+use std::process::Abort;
+use std::test::Fail;
+use std::thread::Threads;
+use std::time::{Clock, Duration, Instant};
+use std::{io, thread};
+
+fn quick_net(rt: HostRuntime, links: u64) -> io::Result<BoundNet> {
+    let times = stop_times(50, 300);
+    bind(
+        TcpNet::with_times(rt.alloc(), rt, settings(0), times)?,
+        links,
+    )
+}
+
+// Senders that wait in the queue, and have sent a line each.
+fn queue_up(rt: HostRuntime, port: u16) -> io::Result<[TcpStream; 3]> {
+    Ok([
+        connect_and_send(rt, port, b"a 1 2\n")?,
+        connect_and_send(rt, port, b"b 1 2\n")?,
+        connect_and_send(rt, port, b"c 1 2\n")?,
+    ])
+}
+
+// How many of these texts the next links of lines give.
+fn count_given(net: &TcpNet<HostRuntime>) -> u64 {
+    let mut count = 0u64;
+    let texts: [&[u8]; 3] = [b"a 1 2\n", b"b 1 2\n", b"c 1 2\n"];
+    for text in texts {
+        if let Some(mut link) = net.next_lines() {
+            if gives(&mut link, text) {
+                count = count.saturating_add(1);
+            }
+        }
+    }
+    count
+}
+
+// Whether the next link for HTTP brings a request and takes a reply, and then ends.
+fn answers(net: &TcpNet<HostRuntime>) -> bool {
+    let Some(mut link) = net.next_http() else {
+        return false
+    };
+    gives(&mut link, b"GET / HTTP/1.1\r\n\r\n") && link.write(b"404") == WriteEnd::Took(3)
+}
+
+fn assert_queue_given(
+    rt: &impl Abort,
+    net: &TcpNet<HostRuntime>,
+    browser: &mut TcpStream,
+    given: u64,
+) -> Result<(), Fail> {
+    let count = count_given(net);
+    assert!(rt; count == given, "{count}");
+    assert!(rt; answers(net) && is_sent(browser, b"404")?);
+    assert!(rt; net.next_lines().is_none());
+    Ok(())
+}
+
+#[test]
+fn links_that_wait_at_the_stop_are_given(rt: HostRuntime) -> Result<(), Fail> {
+    // by how many links a port gives
+    for (links, given) in [(0, 3), (2, 2)] {
+        let (net, ports) = quick_net(rt, links)?;
+        let senders = queue_up(rt, ports.lines)?;
+        let mut browser = connect_and_send(rt, ports.http, b"GET / HTTP/1.1\r\n\r\n")?;
+        net.closer()?.close(&rt);
+        assert!(rt; is_refused(rt, ports));
+        assert_queue_given(&rt, &net, &mut browser, given)?;
+        drop(senders);
+    }
+    Ok(())
+}
+
+// Takes up to 4,096 bytes each 50 milliseconds, for a second.
+fn sip(rt: HostRuntime, mut client: &TcpStream) {
+    let mut buf = [0u8; 4096];
+    for _ in 0..20 {
+        let _ = client.read(&mut buf);
+        thread::sleep(&rt, Duration::from_millis(50));
+    }
+}
+
+// Writes to the next link for HTTP until that fails, and drops it.
+fn write_out(net: &TcpNet<HostRuntime>) {
+    let piece = [b'x'; 4096];
+    if let Some(mut link) = net.next_http() {
+        for _ in 0..u64::MAX {
+            if link.write(&piece) == WriteEnd::Failed {
+                break;
+            }
+        }
+    }
+}
+
+// How many milliseconds a link is written to whose other end takes little or nothing, where the net is closed at once.
+fn millis_of_reply(threads: &impl Threads, rt: HostRuntime, sips: bool) -> Result<u128, Fail> {
+    let (net, ports) = quick_net(rt, 0)?;
+    let closer = net.closer()?;
+    let client = connect(rt, ports.http)?;
+    let begun = Instant::now(&rt)?;
+    let writing = || {
+        write_out(&net);
+        begun.elapsed(&rt)
+    };
+    let stopping = || {
+        closer.close(&rt);
+        if sips {
+            sip(rt, &client);
+        }
+    };
+    let (elapsed, ()) = thread::join(threads, writing, stopping);
+    Ok(elapsed?.as_millis())
+}
+
+#[test]
+fn a_reader_that_stalls_or_sips_does_not_hold_up_the_stop(rt: HostRuntime) -> Result<(), Fail> {
+    for sips in [false, true] {
+        let millis = millis_of_reply(&rt, rt, sips)?;
+        assert!(rt; (300..10_000).contains(&millis), "{millis}");
+    }
+    Ok(())
+}
+
+// How a source ends of which a piece is read each millisecond.
+fn read_slowly<S: Source>(rt: HostRuntime, source: &mut S) -> ReadEnd {
+    let mut buf = [0u8; 4096];
+    for _ in 0..u64::MAX {
+        match source.read(&mut buf) {
+            ReadEnd::Got(_) => thread::sleep(&rt, Duration::from_millis(1)),
+            end => return end,
+        }
+    }
+    ReadEnd::Failed
+}
+
+// Sends while the other end is there.
+fn send_on(mut client: &TcpStream) {
+    let piece = [b'x'; 4096];
+    for _ in 0..u64::MAX {
+        if client.write_all(&piece).is_err() {
+            break;
+        }
+    }
+}
+
+#[test]
+fn a_sender_that_goes_on_is_ended_after_the_stop(rt: HostRuntime) -> Result<(), Fail> {
+    let Pair {
+        client,
+        mut link,
+        shared,
+    } = Pair::new(rt, Patience::for_lines(0), 200)?;
+    let begun = Instant::now(&rt)?;
+    shared.hang_up.give(rt.monotonic()?);
+    let reading = move || {
+        let end = read_slowly(rt, &mut link);
+        (end, begun.elapsed(&rt))
+    };
+    let ((end, elapsed), ()) = thread::join(&rt, reading, || send_on(&client));
+    let millis = elapsed?.as_millis();
+    assert!(rt;
+        end == ReadEnd::End && (200..10_000).contains(&millis),
+        "{end:?} at {millis}"
+    );
+    Ok(())
+}
+
+// How many milliseconds it takes to drop a link that was written to, and whose other end stays.
+fn millis_of_drop(rt: HostRuntime, is_stopped: bool) -> Result<u128, Fail> {
+    let Pair {
+        client,
+        mut link,
+        shared,
+    } = Pair::new(rt, Patience::for_http(), 0)?;
+    if is_stopped {
+        shared.hang_up.give(rt.monotonic()?);
+    }
+    let _ = link.write(b"404");
+    let begun = Instant::now(&rt)?;
+    drop(link);
+    let millis = begun.elapsed(&rt)?.as_millis();
+    drop(client);
+    Ok(millis)
+}
+
+#[test]
+fn a_last_wait_is_short_after_the_stop(rt: HostRuntime) -> Result<(), Fail> {
+    for (is_stopped, range) in [(false, 1_000..10_000), (true, 0..900)] {
+        let millis = millis_of_drop(rt, is_stopped)?;
+        assert!(rt; range.contains(&millis), "{millis}");
+    }
+    Ok(())
+}

@@ -1,0 +1,161 @@
+// A TCP stream whose other end has to keep its times.
+ghost use Rattle.std.specs.Prelude.{◌≡◌, ◌≤◌, length};
+ghost use Rattle.std.specs.Io.{ReadsAtMost, WritesAtMost};
+
+use crate::linger::linger;
+use crate::pace::Pace;
+use crate::patience::Patience;
+use crate::readiness::{Readiness, asked_for, wait_for};
+use crate::shared::Shared;
+use libc::net::{POLLIN, POLLOUT};
+use std::io;
+use std::io::{ErrorKind, Read, Write};
+use std::net::TcpStream;
+use std::sync::Arc;
+use std::time::{Clock, Duration};
+
+// Its calls give up where the other end has been waited for too long, and all after the hang-up.
+#[derive(Drop)]
+pub(crate) struct TimedStream<R: Clock + Copy> {
+    rt: R,
+    pub(crate) stream: TcpStream,
+    shared: Arc<Shared>,
+    pub(crate) patience: Patience,
+    // where requests come
+    pace: Option<Pace>,
+}
+
+impl<R: Clock + Copy> TimedStream<R> {
+    // The calls of the stream answer `WouldBlock` where they would have to wait.
+    pub(crate) fn new(rt: R, stream: TcpStream, shared: Arc<Shared>, patience: Patience) -> Self {
+        TimedStream {
+            rt,
+            stream,
+            shared,
+            patience,
+            pace: patience.for_exchange.map(Pace::new),
+        }
+    }
+
+    // The next bytes, at least one; 0 is the end. After the hang-up no bytes are waited for.
+    pub(crate) fn receive(&mut self, buf: &mut [u8]) -> io::Result<usize>
+        ensures { ReadsAtMost result buf.new }
+    {
+        for _ in 0..u64::MAX {
+            let waits = !self.shared.hang_up.is_given();
+            match (&self.stream).read(buf) {
+                Ok(count) if 0 < count => return self.take_in_time(count, buf),
+                Err(fault) if fault.kind() == ErrorKind::WouldBlock => {}
+                ended => return ended,
+            }
+            if !waits {
+                return Ok(0);
+            }
+            match self.wait_for_bytes()? {
+                Readiness::Ready => {}
+                Readiness::TimedOut => return Ok(0),
+                Readiness::Failed => break,
+            }
+        }
+        Err(io::Error::from(ErrorKind::Other))
+    }
+
+    // So many bytes, or the end where they come too late.
+    fn take_in_time(&mut self, count: usize, buf: &[u8]) -> io::Result<usize>
+        requires { count ≤ length buf.now }
+        ensures { ReadsAtMost result buf.now }
+    {
+        if let Some(pace) = &mut self.pace {
+            pace.note_read(&buf[..count], self.rt.monotonic()?);
+        }
+        match self.time_to_read()? {
+            Some(Duration::ZERO) => Ok(0),
+            _ => Ok(count),
+        }
+    }
+
+    // How much longer bytes may come; none: there is no end to it.
+    fn time_to_read(&self) -> io::Result<Option<Duration>> {
+        let request = self.pace.as_ref().and_then(Pace::deadline);
+        match least(request, self.shared.hang_up.deadline()) {
+            Some(deadline) => Ok(Some(deadline.saturating_sub(self.rt.monotonic()?))),
+            None => Ok(None),
+        }
+    }
+
+    // Waits until bytes have come, or the hang-up.
+    fn wait_for_bytes(&self) -> io::Result<Readiness> {
+        let limit = least(self.time_to_read()?, self.patience.for_bytes);
+        let mut asked = [
+            asked_for(&self.stream, POLLIN),
+            self.shared.hang_up.watched(),
+        ];
+        Ok(wait_for(&mut asked, limit))
+    }
+
+    // Sends a front of the piece. After a wait that was too long it tries once more, since the system says that there
+    // is room only once there is much of it.
+    pub(crate) fn send(&mut self, piece: &[u8]) -> io::Result<usize>
+        ensures { WritesAtMost result piece.now }
+    {
+        let mut may_wait = true;
+        for _ in 0..u64::MAX {
+            match (&self.stream).write(piece) {
+                Ok(count) => return Ok(self.count_sent(count)),
+                Err(fault) if may_wait && fault.kind() == ErrorKind::WouldBlock => {}
+                Err(fault) => return Err(fault),
+            }
+            match self.wait_for_room()? {
+                Readiness::Ready => {}
+                Readiness::TimedOut => may_wait = false,
+                Readiness::Failed => break,
+            }
+        }
+        Err(io::Error::from(ErrorKind::Other))
+    }
+
+    fn count_sent(&mut self, count: usize) -> usize
+        ensures { result ≡ count }
+    {
+        if let Some(pace) = &mut self.pace {
+            pace.note_write(count);
+        }
+        count
+    }
+
+    // Waits until the system takes bytes again, or the hang-up where that is still to come, and counts the time.
+    fn wait_for_room(&mut self) -> io::Result<Readiness> {
+        let begun = self.rt.monotonic()?;
+        let limit = match &self.pace {
+            Some(pace) => pace.wait_left().min(self.patience.for_room),
+            None => self.patience.for_room,
+        };
+        let room = asked_for(&self.stream, POLLOUT);
+        let hang_up = &self.shared.hang_up;
+        let readiness = match hang_up.deadline() {
+            Some(deadline) => {
+                let left = deadline.saturating_sub(begun);
+                wait_for(&mut [room], Some(limit.min(left)))
+            }
+            None => wait_for(&mut [room, hang_up.watched()], Some(limit)),
+        };
+        if let Some(pace) = &mut self.pace {
+            pace.note_wait(self.rt.monotonic()?.saturating_sub(begun));
+        }
+        Ok(readiness)
+    }
+
+    // Ends the connection so that the last bytes that were sent arrive.
+    pub(crate) fn linger(&self) -> io::Result<()> {
+        linger(&self.rt, &self.stream, self.shared.hang_up.deadline())
+    }
+}
+
+// The lesser of two times, of which each may be none.
+fn least(one: Option<Duration>, other: Option<Duration>) -> Option<Duration> {
+    match (one, other) {
+        (Some(one), Some(other)) => Some(one.min(other)),
+        (one, None) => one,
+        (None, other) => other,
+    }
+}
