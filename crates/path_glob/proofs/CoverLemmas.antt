@@ -37,6 +37,10 @@ row_of_plain (b ∷ text) plain =
     let others = row_of_plain text (All-tail (λ x. is_special x ≡ false) b text plain) in
     rw (o.no_list, o.no_row, o.no_any, others) refl
 
+-- a byte without a wildcard comes first
+pub row_of_byte : (b : ℕ) (rest : List ℕ) → is_special b ≡ false → row_of (b ∷ rest) ≡ Exact b ∷ row_of rest
+row_of_byte b rest e = let o = ordinary_of b e in rw (o.no_list, o.no_row, o.no_any) refl
+
 pub pieces_of_plain : (text : List ℕ) → IsPlain text → pieces_of text ≡ map Plain (map Exact text)
 pieces_of_plain text plain =
     opened_nowhere [] text (λ k d within. (ordinary_of _ (plain k d within)).no_braces) ∙ ap (map Plain) (row_of_plain text plain)

@@ -1,8 +1,10 @@
 mod CoverLemmas
 mod FaultLemmas
 mod FirstLemmas
-mod FlagLemmas
+mod BitLemmas
 mod OrderLemmas
 mod PartLemmas
+mod PlaceLemmas
 mod PositionLemmas
+mod SearchLemmas
 pub mod StretchLemmas

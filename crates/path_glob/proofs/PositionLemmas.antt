@@ -1,14 +1,12 @@
 -- How positions in a node lead on, piece by piece.
-use Rattle.std.proofs.Common.{◌≡◌, ℕ, zero, suc, ◌+◌, ◌-◌, ◌<◌, ◌≤◌, ◌⊎◌, inl, inr, Bool, true, false, ◌&&◌, ◌||◌, List, [], ◌∷◌, ◌++◌, map, length, drop, take, get_or, refl, sym, ap, ◌∙◌, subst, arith, add-one, append_assoc, append-nil, length-append}
+use Rattle.std.proofs.Common.{◌≡◌, ℕ, zero, suc, ◌+◌, ◌-◌, ◌<◌, ◌≤◌, ◌⊎◌, inl, inr, Bool, true, false, ◌&&◌, ◌||◌, List, [], ◌∷◌, ◌++◌, map, length, drop, take, get_or, refl, sym, ap, ◌∙◌, subst, arith, append_assoc, append-nil, length-append}
 use Rattle.std.proofs.Math.Seq.{drop-append_seam, drop-length}
 use Rattle.std.proofs.lemmas.List.{drop-drop, drop_more, get_or-drop, length-drop, take-append-drop}
 use Rattle.std.proofs.lemmas.Bool.{cases_lt, eqb-true}
-use Rattle.std.specs.List.{list_any}
 use Rattle.path_glob.specs.declared.cut.ByteSet.{ByteSet}
 use Rattle.path_glob.specs.declared.cut.ByteSet.TheVariants.{One, Any, Members}
 use Rattle.path_glob.specs.declared.cut.SimplePiece.TheVariants.{Byte}
 use Rattle.path_glob.specs.Parts.{covers_byte, simple_said}
-use Rattle.path_glob.proofs.FlagLemmas.{set_before, set_somewhere}
 use Rattle.path_glob.proofs.PartLemmas.{same_byte}
 use Rattle.path_glob.specs.Glob.{Simple, AnyRow, Piece, Plain, Braces, Covers, NodeCovers, RowCovers, SomeCovers}
 use Rattle.path_glob.specs.Positions.{Adds, Leads}
@@ -87,15 +85,23 @@ adds_more value values node old a b new one others j within = (
 )
 
 -- any row of bytes
-pub leads_any_row : (node : List ℕ) (flags : List Bool) (new : ℕ → Bool) → ((j : ℕ) → j ≤ length node → new j ≡ list_any (λ flag. flag) (take (j + 1) flags))
-    → Leads (Covers AnyRow) node (λ i. get_or flags i false) new
-leads_any_row node flags new is j within = (
+pub leads_any_row : (node : List ℕ) (old new : ℕ → Bool)
+    → ((j : ℕ) → j ≤ length node → (new j ≡ true → (i : ℕ) × (i ≤ j) × (old i ≡ true)) × ((i : ℕ) × (i ≤ j) × (old i ≡ true) → new j ≡ true))
+    → Leads (Covers AnyRow) node old new
+leads_any_row node old new is j within = (
   λ has.
-      let w = set_somewhere flags j (rw (add-one j) at (sym (is j within) ∙ has)) in
+      let w = (is j within).0 has in
       let onward : drop w.0 node ≡ take (j - w.0) (drop w.0 node) ++ drop j node =
       sym (take-append-drop (j - w.0) (drop w.0 node)) ∙ ap (λ (l : List ℕ). take (j - w.0) (drop w.0 node) ++ l) (drop-drop (j - w.0) w.0 node ∙ ap (λ (n : ℕ). drop n node) (omega (arith, w.1))) in
-      (w.0, take (j - w.0) (drop w.0 node), omega (arith, w.1), w.2, onward, tt),
-  λ w. is j within ∙ rw (add-one j) (set_before flags j w.0 (omega (arith, lengths node w.1 w.0 j w.2 within w.4)) w.3),
+      (w.0, take (j - w.0) (drop w.0 node), omega (arith, w.1, within), w.2, onward, tt),
+  λ w. (is j within).1 (w.0, omega (arith, lengths node w.1 w.0 j w.2 within w.4), w.3),
+)
+
+-- no position leads nowhere
+pub leads_none : {R : List ℕ → Type 0} (node : List ℕ) (a : ℕ → Bool) → ((j : ℕ) → j ≤ length node → a j ≡ false) → Leads R node a a
+leads_none node a none j within = (
+  λ has. absurd (let e = sym (none j within) ∙ has in cc),
+  λ w. absurd (let e = sym (none w.0 w.2) ∙ w.3 in cc),
 )
 
 -- one byte that passes a test

@@ -3,5 +3,8 @@ pub mod Reading
 pub mod Faults
 pub mod Parts
 pub mod Positions
+pub mod Places
+pub mod Steps
 pub mod Laws
 pub mod Stretch
+pub mod Search

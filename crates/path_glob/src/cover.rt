@@ -6,9 +6,14 @@ ghost use Rattle.path_glob.specs.Glob.{Fits, NodeCovers, RowCovers, SomeCovers};
 ghost use Rattle.path_glob.specs.Reading.{globs_of, is_special, pieces_of, row_of, values_of};
 ghost use Rattle.path_glob.specs.Laws.{literal_front};
 ghost use Rattle.path_glob.specs.Positions.{Leads, held};
+ghost use Rattle.path_glob.specs.Steps.{StepIn};
 
 use crate::cut::{cut_at, next_braces, next_piece};
+use crate::places::{Node, Places};
 use crate::positions::Positions;
+
+// With pieces of so many bytes the places of a node's bytes are looked up once.
+const MANY_PIECES: usize = 64;
 
 /// Whether the glob with this text fits the path with this one.
 pub(crate) fn text_fits(glob: &[u8], path: &[u8]) -> bool
@@ -41,8 +46,8 @@ fn last_fits(pieces: &[u8], nodes: &[u8]) -> bool
     }
 }
 
-// Whether the pieces of a glob's node cover a node.
-fn node_fits(pieces: &[u8], node: &[u8]) -> bool
+/// Whether the pieces of a glob's node cover a node.
+pub(crate) fn node_fits(pieces: &[u8], node: &[u8]) -> bool
     requires { length node.now ≤ 240 }
     ensures { IsTrue result ↔ NodeCovers (pieces_of pieces.now) node.now }
 {
@@ -63,7 +68,27 @@ fn pieces_fit(pieces: &[u8], bytes: &[u8]) -> bool
     if pieces == b"*".as_slice() {
         return true;
     }
-    after_node(pieces, bytes, Positions::start()).has(bytes.len())
+    if pieces.len() < MANY_PIECES {
+        return is_covered(pieces, &Node::new(bytes));
+    }
+    many_fit(pieces, bytes)
+}
+
+// The same, where so many pieces are held against a node that its places are looked up once.
+fn many_fit(pieces: &[u8], bytes: &[u8]) -> bool
+    requires { length bytes.now ≤ 240 }
+    ensures { IsTrue result ↔ NodeCovers (pieces_of pieces.now) bytes.now }
+{
+    let places = Places::of(bytes);
+    is_covered(pieces, &Node::with_places(bytes, &places))
+}
+
+// Whether the pieces lead from the first position of a node to the last.
+fn is_covered(pieces: &[u8], node: &Node<'_>) -> bool
+    requires { length node.now ≤ 240 }
+    ensures { IsTrue result ↔ NodeCovers (pieces_of pieces.now) node.now }
+{
+    after_node(pieces, node, Positions::start()).has(node.len())
 }
 
 /// What stands before the first wildcard, bracket or brace.
@@ -91,7 +116,7 @@ fn is_special(b: u8) -> bool
 }
 
 // The positions to which these lead over what the pieces of a glob's node cover.
-fn after_node(pieces: &[u8], node: &[u8], start: Positions) -> Positions
+fn after_node(pieces: &[u8], node: &Node<'_>, start: Positions) -> Positions
     requires { length node.now ≤ 240 }
     ensures { Leads (NodeCovers (pieces_of pieces.now)) node.now (held start) (held result) }
 {
@@ -106,7 +131,7 @@ fn after_node(pieces: &[u8], node: &[u8], start: Positions) -> Positions
 }
 
 // The same over what one of the values between braces covers.
-fn after_values(values: &[u8], node: &[u8], start: Positions) -> Positions
+fn after_values(values: &[u8], node: &Node<'_>, start: Positions) -> Positions
     requires { length node.now ≤ 240 }
     ensures { Leads (SomeCovers (values_of values.now)) node.now (held start) (held result) }
 {
@@ -120,15 +145,62 @@ fn after_values(values: &[u8], node: &[u8], start: Positions) -> Positions
 }
 
 // The same over what a row of simple pieces covers.
-fn after_row(row: &[u8], node: &[u8], start: Positions) -> Positions
+fn after_row(row: &[u8], node: &Node<'_>, start: Positions) -> Positions
     requires { length node.now ≤ 240 }
     ensures { Leads (RowCovers (row_of row.now)) node.now (held start) (held result) }
 {
     let mut rest = row;
     let mut reached = start;
-    while let Some(first) = next_piece(rest) {
-        reached = reached.after(first.piece, node);
-        rest = first.after;
+    while let Some(step) = next_step(rest, node, reached) {
+        reached = step.reached;
+        if reached.is_none() {
+            return reached;
+        }
+        rest = step.after;
     }
     reached
+}
+
+// Where the first piece of a row leads, and what follows it.
+#[derive(Clone, Copy)]
+struct Step<'a> {
+    reached: Positions,
+    after: &'a [u8],
+}
+
+// The same over what the first piece of a row covers. The pieces of one byte are the most, and are not read
+// as pieces first.
+fn next_step<'a>(row: &'a [u8], node: &Node<'_>, start: Positions) -> Option<Step<'a>>
+    requires { length node.now ≤ 240 }
+    ensures { StepIn row.now node.now (held start) result }
+{
+    let Some((first, after)) = row.split_first() else {
+        return None;
+    };
+    if *first == b'*' {
+        let reached = start.after_any_row();
+        return Some(Step { reached, after });
+    }
+    if !is_special(*first) {
+        let reached = start.after_one(*first, node);
+        return Some(Step { reached, after });
+    }
+    any_step(row, node, start)
+}
+
+// The same of any piece.
+fn any_step<'a>(row: &'a [u8], node: &Node<'_>, start: Positions) -> Option<Step<'a>>
+    requires { length node.now ≤ 240 }
+    ensures { StepIn row.now node.now (held start) result }
+{
+    match next_piece(row) {
+        Some(first) => {
+            let reached = start.after(first.piece, node);
+            return Some(Step {
+                reached,
+                after: first.after,
+            });
+        }
+        None => return None,
+    }
 }

@@ -9,19 +9,30 @@
 //!   as `a-f`. The first member is no `!`. A first `-`, and one directly before the `]`, is itself;
 //! - `{` values `}`, one of the values, which commas separate: each is a row of the pieces above, and may
 //!   have none.
+//!
+//! [`Glob::matches`] holds a glob against one path. [`GlobSearch`] holds it against many, remembers what came of
+//! the nodes whose trying takes long, and counts its [`Work`].
 
 mod check;
 mod cover;
 mod cut;
 mod fault;
 mod glob;
+mod glob_search;
 mod laws;
+mod node_search;
+mod places;
 mod positions;
+#[cfg(test)]
+mod tests;
+mod work;
 
 pub use fault::GlobFault;
 pub use glob::Glob;
+pub use glob_search::GlobSearch;
 pub use laws::{
     braces_stand_for_their_values, bytes_stand_for_themselves, dashes_make_ranges,
     globs_are_whole_stretches, lists_stand_for_one_byte, texts_with_one_front_stand_together,
     values_are_closed, wildcards_stay_within_a_node,
 };
+pub use work::Work;

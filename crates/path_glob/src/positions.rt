@@ -1,31 +1,28 @@
 //! How the positions in a node move on over its bytes.
-ghost use Rattle.std.specs.Prelude.{◌≡◌, ℕ, ◌+◌, ◌<◌, ◌≤◌, ◌||◌, ◌&&◌, Bool, true, false, get_or, length, take};
+ghost use Rattle.std.specs.Prelude.{◌≡◌, ◌≢◌, ◌↔◌, ◌⊎◌, ℕ, ◌+◌, ◌==◌, ◌<◌, ◌≤◌, ◌||◌, ◌&&◌, Bool, true, false, IsTrue, get_or, length};
+ghost use Rattle.std.specs.Int.{bit_at};
 ghost use Rattle.std.specs.List.{list_any};
 ghost use Rattle.path_glob.specs.Glob.{Covers, is_within};
 ghost use Rattle.path_glob.specs.Reading.{members_of, ranges_of};
 ghost use Rattle.path_glob.specs.Parts.{RangeIn, covers_byte, simple_said};
+ghost use Rattle.path_glob.specs.Positions.{HeldBefore, Leads, SetBefore, held};
 
 use crate::cut::{ByteSet, SimplePiece};
+use crate::places::Node;
 
-// How many positions a node may have: one before each byte, and one behind the last.
-const POSITIONS: usize = 241;
-
-/// Some of the positions in a node, with a flag for each: those that a front of a glob's pieces leads to.
+/// Some of the positions in a node: those that a front of a glob's pieces leads to. There are at most 241 in
+/// a node, one before each byte and one behind the last, and each is a bit.
 #[derive(Clone, Copy)]
 pub(crate) struct Positions {
-    flags: [bool; POSITIONS],
+    words: [u64; 4],
 }
 
 impl Positions {
-    ghost use Rattle.path_glob.specs.Positions.{Leads, held};
-
     /// No position.
     pub(crate) fn none() -> Positions
         ensures { (j : ℕ) → held result j ≡ false }
     {
-        Positions {
-            flags: [false; POSITIONS],
-        }
+        Positions { words: [0; 4] }
     }
 
     /// The position before the first byte.
@@ -33,69 +30,160 @@ impl Positions {
         ensures first { held result 0 ≡ true }
         ensures other { (j : ℕ) → 0 < j → held result j ≡ false }
     {
-        let mut flags = [false; POSITIONS];
-        flags[0] = true;
-        Positions { flags }
+        Positions {
+            words: [1, 0, 0, 0],
+        }
     }
 
     /// Whether this position is among them.
+    #[tactic(auto, unfolding(crate::specs::Positions::bit_of))]
     pub(crate) fn has(self, place: usize) -> bool
         requires { place < 241 }
         ensures { result ≡ held self place }
     {
-        self.flags[place]
+        (self.words[place / 64] >> (place % 64)) & 1 == 1
+    }
+
+    /// Whether there is none.
+    pub(crate) fn is_none(self) -> bool
+        ensures { IsTrue result → (j : ℕ) → j < 241 → held self j ≡ false }
+    {
+        let [a, b, c, d] = self.words;
+        a | b | c | d == 0
     }
 
     /// These positions, and the others.
     pub(crate) fn with(self, others: Positions) -> Positions
         ensures { (j : ℕ) → j < 241 → held result j ≡ (held self j || held others j) }
     {
-        let mut flags = [false; POSITIONS];
-        for i in 0..POSITIONS {
-            flags[i] = self.flags[i] | others.flags[i];
+        let [a, b, c, d] = self.words;
+        let [e, f, g, h] = others.words;
+        Positions {
+            words: [a | e, b | f, c | g, d | h],
         }
-        Positions { flags }
+    }
+
+    // Those that are among the others too.
+    fn among(self, others: Positions) -> Positions
+        ensures { (j : ℕ) → j < 241 → held result j ≡ (held self j && held others j) }
+    {
+        let [a, b, c, d] = self.words;
+        let [e, f, g, h] = others.words;
+        Positions {
+            words: [a & e, b & f, c & g, d & h],
+        }
+    }
+
+    /// These, and one more.
+    pub(crate) fn and(self, place: usize) -> Positions
+        requires { place < 241 }
+        ensures added { held result place ≡ true }
+        ensures others { (j : ℕ) → j ≢ place → held result j ≡ held self j }
+    {
+        let mut words = self.words;
+        words[place / 64] |= 1 << (place % 64);
+        Positions { words }
     }
 
     /// The positions to which these lead over bytes that the piece covers.
-    pub(crate) fn after(self, piece: SimplePiece<'_>, node: &[u8]) -> Positions
+    pub(crate) fn after(self, piece: SimplePiece<'_>, node: &Node<'_>) -> Positions
         requires { length node.now ≤ 240 }
         ensures { Leads (Covers (simple_said piece.entry)) node.now (held self) (held result) }
     {
         match piece {
-            SimplePiece::AnyRow => return self.after_any_row(node),
+            SimplePiece::AnyRow => return self.after_any_row(),
             SimplePiece::Byte(bytes) => return self.after_byte(bytes, node),
         }
     }
 
-    // Those to which these lead over any row of bytes.
-    fn after_any_row(self, node: &[u8]) -> Positions
-        requires { length node.now ≤ 240 }
-        ensures { (j : ℕ) → j ≤ length node.now
-            → held result j ≡ list_any (λ flag. flag) (take (j + 1) self.flags) }
+    /// Those to which these lead over any row of bytes.
+    pub(crate) fn after_any_row(self) -> Positions
+        ensures { (j : ℕ) → j < 241 → ((held result j ≡ true) ↔ HeldBefore self j) }
     {
-        let mut flags = [false; POSITIONS];
-        let mut is_past = false;
-        for i in 0..node.len() + 1 {
-            is_past |= self.flags[i];
-            flags[i] = is_past;
+        let [a, b, c, d] = self.words;
+        Positions {
+            words: [
+                onward(0, a),
+                onward(a, b),
+                onward(a | b, c),
+                onward(a | b | c, d),
+            ],
         }
-        Positions { flags }
+    }
+
+    /// Those to which these lead over this byte.
+    pub(crate) fn after_one(self, b: u8, node: &Node<'_>) -> Positions
+        requires { length node.now ≤ 240 }
+        ensures first { held result 0 ≡ false }
+        ensures next { (j : ℕ) → j < length node.now
+            → held result (j + 1) ≡ (held self j && (get_or node.now j 0 == b)) }
+    {
+        self.among(node.before(b)).next()
     }
 
     // Those to which these lead over one of these bytes.
-    fn after_byte(self, bytes: ByteSet<'_>, node: &[u8]) -> Positions
+    fn after_byte(self, bytes: ByteSet<'_>, node: &Node<'_>) -> Positions
         requires { length node.now ≤ 240 }
         ensures first { held result 0 ≡ false }
         ensures next { (j : ℕ) → j < length node.now
             → held result (j + 1) ≡ (held self j && covers_byte bytes.entry (get_or node.now j 0)) }
     {
-        let mut flags = [false; POSITIONS];
-        for i in 0..node.len() {
-            flags[i + 1] = self.flags[i] && is_covered(bytes, node[i]);
-        }
-        Positions { flags }
+        self.among(node.covered(bytes)).next()
     }
+
+    // Those one place on.
+    fn next(self) -> Positions
+        ensures first { held result 0 ≡ false }
+        ensures next { (j : ℕ) → j < 240 → held result (j + 1) ≡ held self j }
+    {
+        let [a, b, c, d] = self.words;
+        Positions {
+            words: [
+                next_word(a, 0),
+                next_word(b, a),
+                next_word(c, b),
+                next_word(d, c),
+            ],
+        }
+    }
+}
+
+// The bits of a word from its lowest one on, or all where the words before it have one.
+fn onward(before: u64, word: u64) -> u64
+    ensures lowest { 0 < word → SetBefore word 63 }
+    ensures bits { (i : ℕ) → i < 64
+        → ((bit_at result i ≡ 1) ↔ ((0 < before) ⊎ SetBefore word i)) }
+{
+    if before != 0 {
+        return u64::MAX;
+    }
+    if word == 0 {
+        return 0;
+    }
+    u64::MAX << word.trailing_zeros()
+}
+
+// The bits of a word one place on, behind the last of the word before it.
+fn next_word(word: u64, before: u64) -> u64
+    ensures first { bit_at result 0 ≡ bit_at before 63 }
+    ensures next { (i : ℕ) → i < 63 → bit_at result (i + 1) ≡ bit_at word i }
+{
+    (word << 1) | (before >> 63)
+}
+
+/// The positions before the bytes of a node that are one of these.
+pub(crate) fn covered(bytes: ByteSet<'_>, node: &[u8]) -> Positions
+    requires { length node.now ≤ 240 }
+    ensures { (j : ℕ) → j < length node.now
+        → held result j ≡ covers_byte bytes.entry (get_or node.now j 0) }
+{
+    let mut found = Positions::none();
+    for i in 0..node.len() {
+        if is_covered(bytes, node[i]) {
+            found = found.and(i);
+        }
+    }
+    found
 }
 
 // Whether a byte is one of these.

@@ -1,4 +1,4 @@
-use Rattle.std.proofs.Common.{◌∙◌, ◌∷◌, ℕ, List, [], ap, sym, subst, refl}
+use Rattle.std.proofs.Common.{◌∙◌, ℕ, List, sym, subst, refl}
 use Rattle.std.proofs.lemmas.Slice.Eq.{bytes_eq-Decides}
 use Rattle.path_glob.specs.Glob.{NodeCovers}
 use Rattle.path_glob.specs.Reading.{pieces_of}

@@ -1,17 +1,19 @@
-use Rattle.std.proofs.Common.{◌≡◌, ◌||◌, ◌+◌, ◌∙◌, Bool, ap, sym, arith, get_or, false, take, add-one}
-use Rattle.std.specs.List.{list_any}
-use Rattle.std.proofs.lemmas.List.{length-set}
-use Rattle.path_glob.proofs.FlagLemmas.{any_more, flags_more}
+use Rattle.std.proofs.Common.{◌∷◌, [], arith, subst, sym, get_or, ℕ}
+use Rattle.std.specs.Int.Bits.{or_zero_l}
+use Rattle.path_glob.proofs.BitLemmas.{AreOnward, onward_of_four}
 use Rattle.path_glob.proofs.positions.Positions.after_any_row.Goals as goal
 
-pub loop-i-preserved : goal.loop-i-preserved
-loop-i-preserved c =
-    let flags = c.args.self.flags in
-    let i = c.loop-i.i in
-    let past : (c.loop-i.is_past || get_or flags i false) ≡ list_any (λ flag. flag) (take (i + 1) flags) =
-    ap (λ (t : Bool). t || get_or flags i false) c.loop-i.invariant.past ∙ rw add-one (sym (any_more flags i)) in
-    record {
-      size = length-set c.loop-i.flags i _ ∙ c.loop-i.invariant.size;
-      past = past;
-      done = flags_more (λ j. list_any (λ flag. flag) (take (j + 1) flags)) c.loop-i.flags i _ (omega arith) past c.loop-i.invariant.done;
-    }
+pub returns : goal.returns
+returns c = λ j small.
+    let ws = c.args.self.words in
+    let a = get_or ws 0 0 in
+    let b = get_or ws 1 0 in
+    let first = sym (or_zero_l a) in
+    onward_of_four ws (c.onward.result ∷ c.onward-2.result ∷ c.onward-3.result ∷ c.onward-4.result ∷ []) j
+    ((
+      c.onward.ensures.lowest,
+      c.onward.ensures.bits,
+      subst (λ (n : ℕ). AreOnward n (b ∷ get_or ws 2 0 ∷ get_or ws 3 0 ∷ []) (c.onward-2.result ∷ c.onward-3.result ∷ c.onward-4.result ∷ [])) first
+          (c.onward-2.ensures.lowest, c.onward-2.ensures.bits, (c.onward-3.ensures.lowest, c.onward-3.ensures.bits, (c.onward-4.ensures.lowest, c.onward-4.ensures.bits, tt))),
+    ))
+    (omega (arith, small))

@@ -1,5 +1,5 @@
-use Rattle.path_glob.proofs.FlagLemmas.{none_held}
+use Rattle.path_glob.proofs.BitLemmas.{none_held}
 use Rattle.path_glob.proofs.positions.Positions.none.Goals as goal
 
 pub returns : goal.returns
-returns c = λ j. none_held 241 j
+returns c = λ j. none_held 4 j

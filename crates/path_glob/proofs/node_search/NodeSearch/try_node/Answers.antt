@@ -1,0 +1,13 @@
+use Rattle.std.proofs.Common.{ℕ, List, subst, sym}
+use Rattle.path_glob.specs.Glob.{NodeCovers}
+use Rattle.path_glob.specs.Reading.{pieces_of}
+use Rattle.path_glob.proofs.CoverLemmas.{Tells}
+use Rattle.path_glob.proofs.SearchLemmas.{verdicts_kept}
+use Rattle.path_glob.proofs.node_search.NodeSearch.try_node.Goals as goal
+
+pub invariant_of-self-2 : goal.invariant_of-self-2
+invariant_of-self-2 c =
+    let pieces = c.self.inside.pieces.now in
+    let key = c.in_ok-tried.tried in
+    let tells = subst (λ (node : List ℕ). Tells c.node_fits-covers.result (NodeCovers (pieces_of pieces) node)) (sym c.in_ok-tried.ensures.items) c.node_fits-covers.ensures in
+    verdicts_kept pieces key c.node_fits-covers.result c.self.inside.tried.entries c.insert.new.self.entries c.self.invariant tells c.in_ok-insert.ensures.updates.1 c.in_ok-insert.ensures.updates.3
