@@ -9,20 +9,22 @@ ghost use Rattle.find_api.specs.Runs.{AddsFound, EndsNodes, IsBehindNode, TellsA
 use crate::node::Node;
 use crate::run::{behind_run, run_of};
 use metric_path::MetricPath;
-use path_glob::{Glob, texts_with_one_front_stand_together};
+use path_glob::{Glob, GlobSearch, Work, texts_with_one_front_stand_together};
 use std::alloc::{AllocError, Global};
 
-/// The nodes that a glob finds, in order and each once.
+/// The nodes that a glob finds, in order and each once. More work than may be done ends it as want of memory
+/// does.
 pub(crate) fn find_nodes(
     alloc: Global,
     glob: &Glob,
     names: &[MetricPath],
+    work: &mut Work,
 ) -> Result<Vec<Node>, AllocError>
     requires { IsStrictlySortedBy (slice_cmp nat_cmp) names.now }
     ensures { IfOk result (λ nodes. Finds glob.now names.now nodes.items) }
 {
     let mut nodes = Vec::new(alloc);
-    push_nodes(alloc, glob, names, &mut nodes)?;
+    push_nodes(alloc, glob, names, work, &mut nodes)?;
     nodes.sort()?;
     nodes.dedup();
     Ok(nodes)
@@ -37,9 +39,10 @@ pub(crate) fn expand_paths(
     requires { IsStrictlySortedBy (slice_cmp nat_cmp) names.now }
     ensures { IfOk result (λ paths. Expands globs.now names.now paths.items) }
 {
+    let mut work = Work::of_question();
     let mut paths = Vec::new(alloc);
     for glob in globs {
-        let nodes = find_nodes(alloc, glob, names)?;
+        let nodes = find_nodes(alloc, glob, names, &mut work)?;
         push_paths(nodes, &mut paths)?;
         paths.sort()?;
         paths.dedup();
@@ -64,18 +67,21 @@ fn push_nodes(
     alloc: Global,
     glob: &Glob,
     names: &[MetricPath],
+    work: &mut Work,
     nodes: &mut Vec<Node>,
 ) -> Result<(), AllocError>
     requires { IsStrictlySortedBy (slice_cmp nat_cmp) names.now }
     ensures { OnOk result (AddsFound glob.now names.now nodes.old.items nodes.new.items) }
 {
     let count = node_count(glob);
+    let mut search = GlobSearch::new(alloc, glob)?;
     let mut rest = run_of(names, glob.literal_front());
     while let Some((name, others)) = rest.split_first() {
         rest = others;
         if let Some(node) = told_node(alloc, name, count)? {
             rest = behind_node(&node, name, others);
-            if glob.matches(&node.path) {
+            let fits = search.matches(work, &node.path)?;
+            if fits {
                 nodes.push(node)?;
             }
         }

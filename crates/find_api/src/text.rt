@@ -9,7 +9,7 @@ ghost use Rattle.find_api.specs.Texts.{IsExpandText, IsFindText, joined, last_no
 use crate::find::{expand_paths, find_nodes};
 use crate::node::Node;
 use metric_path::MetricPath;
-use path_glob::Glob;
+use path_glob::{Glob, Work};
 use serde_json::Value;
 use std::alloc::{AllocError, Global};
 
@@ -24,7 +24,7 @@ pub fn find_text(alloc: Global, globs: &[Glob], names: &[MetricPath]) -> Result<
     let Some(glob) = globs.last() else {
         unreachable!()
     };
-    let nodes = find_nodes(alloc, glob, names)?;
+    let nodes = find_nodes(alloc, glob, names, &mut Work::of_question())?;
     write_nodes(alloc, nodes.as_slice())
 }
 

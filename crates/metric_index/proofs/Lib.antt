@@ -3,3 +3,4 @@ mod FrontLemmas
 pub mod IndexLemmas
 mod LiteralLemmas
 mod WalkLemmas
+mod VerdictLemmas

@@ -4,6 +4,7 @@ ghost use Rattle.std.specs.Prelude.{◌≡◌};
 use crate::finding::fitted;
 use crate::front::{is_literal, least_path};
 use crate::hit::Hit;
+use crate::verdicts::Verdicts;
 use metric_path::MetricPath;
 use path_glob::Glob;
 use std::alloc::{AllocError, Global};
@@ -104,7 +105,20 @@ impl<V: Drop> Index<V> {
 
     /// The known paths that a glob fits, in byte order, each once and with its entry. Only paths that begin
     /// with the glob's literal front are looked at, and a glob without a wildcard is one look-up.
-    pub fn find(&self, alloc: Global, glob: &Glob) -> Result<Vec<Hit<'_, V>>, AllocError>
+    pub fn find(&self, alloc: Global, glob: &Verdicts<'_>) -> Result<Vec<Hit<'_, V>>, AllocError>
+        ensures { IfOk result (λ hits. Finds self.now (IsFitted glob.now) (map seen hits.items)) }
+    {
+        self.find_by(alloc, glob.glob(), glob)
+    }
+
+    // The same of a glob, of which this is known beforehand.
+    fn find_by(
+        &self,
+        alloc: Global,
+        glob: &Glob,
+        known: &Verdicts<'_>,
+    ) -> Result<Vec<Hit<'_, V>>, AllocError>
+        requires same { known.now ≡ glob.now }
         ensures { IfOk result (λ hits. Finds self.now (IsFitted glob.now) (map seen hits.items)) }
     {
         let entries = &self.entries;
@@ -112,8 +126,27 @@ impl<V: Drop> Index<V> {
             return Ok(Vec::new(alloc));
         };
         if is_literal(glob) {
-            return fitted(alloc, entries.range(&least..=&least), glob);
+            return fitted(alloc, entries.range(&least..=&least), glob, known);
         }
-        fitted(alloc, entries.range(&least..), glob)
+        fitted(alloc, entries.range(&least..), glob, known)
+    }
+
+    /// How many known paths a search for this glob has to look at, or `most` where there are more.
+    pub fn width(&self, alloc: Global, glob: &Glob, most: usize) -> Result<usize, AllocError> {
+        if is_literal(glob) {
+            return Ok(0);
+        }
+        if self.entries.len() <= most {
+            return Ok(self.entries.len());
+        }
+        let front = glob.literal_front();
+        let Some(least) = least_path(alloc, front)? else {
+            return Ok(0);
+        };
+        let from = self.entries.range(&least..).take(most);
+        Ok(
+            from.take_while(|(path, _)| path.text().starts_with(front))
+                .count(),
+        )
     }
 }

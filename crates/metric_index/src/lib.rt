@@ -5,6 +5,8 @@ mod finding;
 mod front;
 mod hit;
 mod index;
+mod verdicts;
 
 pub use hit::Hit;
 pub use index::Index;
+pub use verdicts::Verdicts;

@@ -14,6 +14,7 @@ mod table;
 
 pub use found_metric::FoundMetric;
 pub use known::Known;
+pub use metric_index::Verdicts;
 pub use table::MetricTable;
 
 #[cfg(test)]

@@ -6,7 +6,7 @@ use crate::found::metrics_of;
 use crate::found_metric::FoundMetric;
 use crate::known::Known;
 use crate::layout_list::LayoutList;
-use metric_index::Index;
+use metric_index::{Index, Verdicts};
 use metric_path::MetricPath;
 use path_glob::Glob;
 use ring_format::Layout;
@@ -118,11 +118,20 @@ impl MetricTable {
     }
 
     /// The known metrics that a glob fits, in byte order of their paths, each once.
-    pub fn find(&self, alloc: Global, glob: &Glob) -> Result<Vec<FoundMetric<'_>>, AllocError>
+    pub fn find(
+        &self,
+        alloc: Global,
+        glob: &Verdicts<'_>,
+    ) -> Result<Vec<FoundMetric<'_>>, AllocError>
         ensures { IfOk result (λ found. Finds self.now (IsFitted glob.now) (map seen found.items)) }
     {
         let hits = self.index.find(alloc, glob)?;
         metrics_of(alloc, &self.layouts, &hits)
+    }
+
+    /// How many metrics a search for this glob has to look at, or `most` where there are more.
+    pub fn width(&self, alloc: Global, glob: &Glob, most: usize) -> Result<usize, AllocError> {
+        self.index.width(alloc, glob, most)
     }
 
     /// The paths of all known metrics, in byte order.

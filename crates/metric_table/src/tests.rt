@@ -69,6 +69,7 @@ fn a_metric_is_drained_and_taken_out(rt: HostRuntime) -> Result<(), Fail> {
 fn found(alloc: Global, table: &MetricTable, glob: &[u8]) -> Result<Vec<u8>, Fail> {
     let glob = Glob::new(alloc, glob)?;
     let mut text = Vec::new(alloc);
+    let glob = Verdicts::none(alloc, &glob);
     for metric in table.find(alloc, &glob)?.iter() {
         text.extend_from_slice(metric.path.text())?;
         let drains = format!(in alloc; "={} ", metric.drains)?;

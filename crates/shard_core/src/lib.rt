@@ -21,5 +21,6 @@ pub use laws::{
     what_was_looked_at_may_be_read_later,
 };
 pub use looked::{LookCount, LookFault, Looked};
+pub use metric_table::Verdicts;
 pub use planned::{Planned, Wrote};
 pub use shard::Shard;

@@ -5,9 +5,8 @@ ghost use Rattle.shard_core.specs.Looks.{CountsFound, bucket_count, series_of};
 
 use crate::looked::LookCount;
 use crate::shard::Shard;
-use metric_table::FoundMetric;
+use metric_table::{FoundMetric, Verdicts};
 use outside_io::Disk;
-use path_glob::Glob;
 use ring_format::Layout;
 use series_fetch::{Window, window_of};
 use std::alloc::AllocError;
@@ -23,7 +22,7 @@ impl<D: Disk> Shard<D> {
     /// memory.
     pub fn count_looks(
         &self,
-        glob: &Glob,
+        glob: &Verdicts<'_>,
         from: u64,
         until: u64,
         now: u64,

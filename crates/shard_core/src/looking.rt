@@ -1,9 +1,8 @@
 //! Looking at metrics.
 use crate::looked::Looked;
 use crate::shard::Shard;
-use metric_table::FoundMetric;
+use metric_table::{FoundMetric, Verdicts};
 use outside_io::Disk;
-use path_glob::Glob;
 use point_cache::Points;
 use series_fetch::{Window, window_of};
 use std::alloc::AllocError;
@@ -22,7 +21,7 @@ impl<D: Disk> Shard<D> {
     /// those of which the question has no bucket. The disk is not read.
     pub fn look(
         &self,
-        glob: &Glob,
+        glob: &Verdicts<'_>,
         from: u64,
         until: u64,
         now: u64,

@@ -12,6 +12,7 @@ use drain_order::{Picker, Strategy};
 use metric_path::MetricPath;
 use metric_table::MetricTable;
 use outside_io::Disk;
+use path_glob::Glob;
 use point_cache::PointCache;
 use schema_rules::Rules;
 use std::alloc::{AllocError, Global};
@@ -111,6 +112,11 @@ impl<D: Disk> Shard<D> {
         // Each path is legal, and they rise.
         let _ = self.table.len();
         self.table.names(self.alloc)
+    }
+
+    /// How many metrics a look with this glob has to look at, or `most` where there are more.
+    pub fn width(&self, glob: &Glob, most: usize) -> Result<usize, AllocError> {
+        self.table.width(self.alloc, glob, most)
     }
 
     /// The disk.

@@ -11,6 +11,7 @@ use crate::named::Named;
 use crate::order_desk::OrderDesk;
 use crate::store::Store;
 use crate::try_end::TryEnd;
+use crate::wanted::{Wanted, want_all};
 use outside_io::Disk;
 use render_plan::Need;
 use series_set::SeriesRows;
@@ -19,14 +20,14 @@ use std::alloc::{AllocError, Global};
 use std::sync::{MutexGuard, Wait};
 
 impl<D: Disk, N: Named> Store<D, N> {
-    ghost use Rattle.std.specs.Prelude.{◌≡◌, ◌≤◌, ◌+◌, ◌^◌, All, IfOk, length, vec_len};
+    ghost use Rattle.std.specs.Prelude.{◌≡◌, ◌≤◌, ◌+◌, ◌^◌, All, IfOk, length, vec_len, []};
     ghost use Rattle.render_plan.specs.Bounds.{AreRows};
     ghost use Rattle.render_plan.specs.Needed.{AreEnds};
     ghost use Rattle.shared_history.specs.Events.{MayAsk, ask_by};
     ghost use Rattle.shared_history.specs.Parts.{own_entries};
     ghost use Rattle.shared_store.specs.Asking.{AnswersTry, AreAllDesksOf, AreDesks, AreDesksOf, EntersBehind, EntersTries, IsNoMove, MarksAll, TriesTo};
     ghost use Rattle.shared_store.specs.Asks.{Asks};
-    ghost use Rattle.shared_store.specs.Passes.{HasRoom, LooksOn};
+    ghost use Rattle.shared_store.specs.Passes.{Enters, HasRoom, LooksOn};
 
     // The locks of all classes, taken in order.
     pub(crate) fn lock_all<'a>(
@@ -129,7 +130,7 @@ impl<D: Disk, N: Named> Store<D, N> {
         alloc: Global,
         desks: Vec<MutexGuard<'_, ClassDesk<D, N>>>,
         pass: &mut Pass,
-        needs: &[Need],
+        needs: &[Wanted<'_>],
         now: u32,
         attempt: u32,
     ) -> Result<SeriesRows, TryEnd>
@@ -159,7 +160,7 @@ impl<D: Disk, N: Named> Store<D, N> {
         rt: &impl Wait,
         alloc: Global,
         pass: &mut Pass,
-        needs: &[Need],
+        needs: &[Wanted<'_>],
         now: u32,
         attempt: u32,
     ) -> Result<SeriesRows, TryEnd>
@@ -180,20 +181,13 @@ impl<D: Disk, N: Named> Store<D, N> {
         self.answer(rt, alloc, desks, pass, needs, now, attempt)
     }
 
-    /// The series that these needs find at the moment `now`: a list for each need, in byte order of
-    /// the paths, all as they are at one moment of the history, which is the entry of the
-    /// question's last try. No lock is held while series are read, but at a third try.
-    ///
-    /// # Errors
-    ///
-    /// What is found is counted at the same moment. A disk that fails while series are read is
-    /// entered, and ends the question.
-    pub fn ask(
+    // The tries of a question.
+    fn ask_wanted(
         &self,
         rt: &impl Wait,
         alloc: Global,
         pass: &mut Pass,
-        needs: &[Need],
+        needs: &[Wanted<'_>],
         now: u32,
     ) -> Result<SeriesRows, AskFault>
         requires one { pass.old.table ≡ N.table }
@@ -212,6 +206,52 @@ impl<D: Disk, N: Named> Store<D, N> {
             }
         }
         unreachable!()
+    }
+
+    /// The series that these needs find at the moment `now`: a list for each need, in byte order of
+    /// the paths, all as they are at one moment of the history, which is the entry of the
+    /// question's last try. Globs that are much work are held against the names before the locks of all
+    /// classes are taken. No lock is held while series are read, but at a third try.
+    ///
+    /// # Errors
+    ///
+    /// What is found is counted at the same moment. A disk that fails while series are read is
+    /// entered, and ends the question. Globs that are too much work end it as want of memory does.
+    pub fn ask(
+        &self,
+        rt: &impl Wait,
+        alloc: Global,
+        pass: &mut Pass,
+        needs: &[Need],
+        now: u32,
+    ) -> Result<SeriesRows, AskFault>
+        requires one { pass.old.table ≡ N.table }
+        requires room { HasRoom pass.old }
+        requires needs { All AreEnds needs.now }
+        requires now { now ≤ 4_000_000_000 }
+        ensures asks { Asks N.start N.told N.passes now needs.now result pass.old pass.new }
+        ensures rows { IfOk result AreRows }
+        ensures looks { LooksOn pass.old pass.new }
+    {
+        let Ok(names) = self.names_for(rt, alloc, needs) else {
+            return Err(self.give_up(rt, pass));
+        };
+        let Ok(wanted) = want_all(alloc, needs, names.as_slice()) else {
+            return Err(self.give_up(rt, pass));
+        };
+        self.ask_wanted(rt, alloc, pass, wanted.as_slice(), now)
+    }
+
+    #[tactic(auto, using(crate::proofs::AskPassLemmas::on_same))]
+    // A question ends before its first try, for want of memory.
+    fn give_up(&self, rt: &impl Wait, pass: &mut Pass) -> AskFault
+        requires one { pass.old.table ≡ N.table }
+        ensures fault { result ≡ AskFault.NoMemory }
+        ensures enters { Enters N.start N.passes [] pass.old pass.new }
+        ensures looks { LooksOn pass.old pass.new }
+    {
+        self.order.lock(rt).see_all(pass);
+        AskFault::NoMemory
     }
 }
 

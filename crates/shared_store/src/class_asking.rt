@@ -2,9 +2,9 @@
 use crate::class_desk::ClassDesk;
 use crate::named::Named;
 use crate::order_desk::OrderDesk;
+use crate::wanted::Wanted;
 use carbon_model::Values;
 use outside_io::Disk;
-use render_plan::Need;
 use shard_core::{LookCount, LookFault, Looked};
 use shared_history::{Event, Pass, agree, enter_ask, mark, see};
 use std::alloc::AllocError;
@@ -42,27 +42,30 @@ impl<D: Disk, N: Named> ClassDesk<D, N> {
 
     /// How many metrics of the class a need finds, and how many values of them. Nothing of them is
     /// copied.
-    pub(crate) fn count(&self, need: &Need, now: u32) -> Result<LookCount, AllocError>
+    pub(crate) fn count(&self, need: &Wanted<'_>, now: u32) -> Result<LookCount, AllocError>
         requires ends { AreEnds need.now }
         requires now { now ≤ 4_000_000_000 }
         ensures { IfOk result
             (CountsClass self.now.class (replay N.start self.now.list) now need.now) }
     {
+        let glob = need.glob(self.class());
+        let need = need.need();
         self.shard
-            .count_looks(&need.glob, need.from, need.until, u64::from(now))
+            .count_looks(glob, need.from, need.until, u64::from(now))
     }
 
     /// The metrics of the class that a need finds, in byte order of their paths. The disk is not
     /// read.
-    pub(crate) fn look(&self, need: &Need, now: u32) -> Result<Vec<Looked>, AllocError>
+    pub(crate) fn look(&self, need: &Wanted<'_>, now: u32) -> Result<Vec<Looked>, AllocError>
         requires ends { AreEnds need.now }
         requires now { now ≤ 4_000_000_000 }
         ensures looks { IfOk result (λ looked. Looks self.now.class (replay N.start self.now.list)
             (IsFitted need.now.glob) now need.now.from need.now.until looked.items) }
         ensures readable { IfOk result (λ looked. All IsReadable looked.items) }
     {
-        self.shard
-            .look(&need.glob, need.from, need.until, u64::from(now))
+        let glob = need.glob(self.class());
+        let need = need.need();
+        self.shard.look(glob, need.from, need.until, u64::from(now))
     }
 
     /// Reads a metric of the class that was looked at when the pass had seen what it sees now. A

@@ -9,8 +9,8 @@ ghost use Rattle.shared_store.specs.Counting.{CountsNeed, CountsNeeds, SumsUp};
 use crate::ask_fault::AskFault;
 use crate::class_desk::ClassDesk;
 use crate::named::Named;
+use crate::wanted::Wanted;
 use outside_io::Disk;
-use render_plan::Need;
 use shard_core::LookCount;
 use std::alloc::AllocError;
 use std::sync::MutexGuard;
@@ -31,7 +31,7 @@ const NONE: LookCount = LookCount {
 /// count above 2^64 - 1 is answered as want of memory.
 pub(crate) fn count_all<D: Disk, N: Named>(
     desks: &[MutexGuard<'_, ClassDesk<D, N>>],
-    needs: &[Need],
+    needs: &[Wanted<'_>],
     now: u32,
 ) -> Result<(), AskFault>
     requires sixteen { length desks.now ≡ 16 }
@@ -56,7 +56,7 @@ pub(crate) fn count_all<D: Disk, N: Named>(
 // How much all needs find.
 fn count_needs<D: Disk, N: Named>(
     desks: &[MutexGuard<'_, ClassDesk<D, N>>],
-    needs: &[Need],
+    needs: &[Wanted<'_>],
     now: u32,
 ) -> Result<LookCount, AllocError>
     requires sixteen { length desks.now ≡ 16 }
@@ -76,7 +76,7 @@ fn count_needs<D: Disk, N: Named>(
 // How much one need finds in all classes.
 fn count_need<D: Disk, N: Named>(
     desks: &[MutexGuard<'_, ClassDesk<D, N>>],
-    need: &Need,
+    need: &Wanted<'_>,
     now: u32,
 ) -> Result<LookCount, AllocError>
     requires sixteen { length desks.now ≡ 16 }

@@ -8,8 +8,8 @@ ghost use Rattle.shared_store.specs.Asking.{AreDesks, AreDesksOf, LooksUp, Pairw
 use crate::class_desk::ClassDesk;
 use crate::found_set::FoundSet;
 use crate::named::Named;
+use crate::wanted::Wanted;
 use outside_io::Disk;
-use render_plan::Need;
 use std::alloc::{AllocError, Global};
 use std::sync::MutexGuard;
 
@@ -17,7 +17,7 @@ use std::sync::MutexGuard;
 pub(crate) fn find_all<D: Disk, N: Named>(
     alloc: Global,
     desks: &[MutexGuard<'_, ClassDesk<D, N>>],
-    needs: &[Need],
+    needs: &[Wanted<'_>],
     now: u32,
 ) -> Result<Vec<FoundSet>, AllocError>
     requires sixteen { length desks.now ≡ 16 }
@@ -38,7 +38,7 @@ pub(crate) fn find_all<D: Disk, N: Named>(
 fn find<D: Disk, N: Named>(
     alloc: Global,
     desks: &[MutexGuard<'_, ClassDesk<D, N>>],
-    need: &Need,
+    need: &Wanted<'_>,
     now: u32,
 ) -> Result<FoundSet, AllocError>
     requires sixteen { length desks.now ≡ 16 }

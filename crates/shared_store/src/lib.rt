@@ -13,6 +13,7 @@ mod drain_end;
 mod draining;
 mod events;
 mod finding;
+mod foreseeing;
 mod found_set;
 mod laws;
 mod named;
@@ -29,6 +30,7 @@ mod step;
 mod store;
 mod tally;
 mod try_end;
+mod wanted;
 
 pub use ask_fault::AskFault;
 pub use call_room::{MOST_CALL_ENTRIES, has_room};

@@ -3,14 +3,16 @@
 use crate::given::{glob_of, path_of, text_of};
 use crate::telling::push_next;
 use case_lines::{Case, CaseFault};
-use metric_index::Index;
+use metric_index::{Hit, Index, Verdicts};
 use metric_path::MetricPath;
+use path_glob::Work;
 use std::alloc::Global;
 
 /// Tells a case of an index; `false` where the verb is of another subject.
 pub fn tell(alloc: Global, told: &mut String, case: &Case) -> Result<bool, CaseFault> {
     match case.verb() {
         "hits" => tell_hits(alloc, told, case)?,
+        "known-hits" => tell_known_hits(alloc, told, case)?,
         "entry" => tell_entry(alloc, told, case)?,
         "hits-sweep" => tell_sweep(alloc, told, case)?,
         _ => return Ok(false),
@@ -21,9 +23,26 @@ pub fn tell(alloc: Global, told: &mut String, case: &Case) -> Result<bool, CaseF
 /// `hits GLOB STEP..`: what the glob finds in an index after these steps, as `PATH=ENTRY` in its order. A step is `+PATH,ENTRY`, which
 /// enters a path, `=PATH,ENTRY`, which sets the entry of one that is there, or `-PATH`, which takes one out.
 fn tell_hits(alloc: Global, told: &mut String, case: &Case) -> Result<(), CaseFault> {
-    let index = index_of(alloc, case)?;
+    let index = index_of(alloc, case.rest(1))?;
     let glob = glob_of(alloc, case.bytes(0)?)?;
-    for hit in index.find(alloc, &glob)?.iter() {
+    push_hits(told, &index.find(alloc, &Verdicts::none(alloc, &glob))?)
+}
+
+/// `known-hits GLOB COUNT NAME.. STEP..`: the same, where the glob was held against so many names beforehand, which are in byte order.
+fn tell_known_hits(alloc: Global, told: &mut String, case: &Case) -> Result<(), CaseFault> {
+    let count = case.small(1)? as usize;
+    let mut names = Vec::new(alloc);
+    for name in case.rest(2).iter().take(count) {
+        names.push(path_of(alloc, name.as_slice())?)?;
+    }
+    let glob = glob_of(alloc, case.bytes(0)?)?;
+    let known = Verdicts::of_paths(alloc, &glob, &names, &mut Work::of_question())?;
+    let index = index_of(alloc, case.rest(2_usize.saturating_add(count)))?;
+    push_hits(told, &index.find(alloc, &known)?)
+}
+
+fn push_hits(told: &mut String, hits: &[Hit<'_, String>]) -> Result<(), CaseFault> {
+    for hit in hits {
         push_next(told, hit.path.as_str())?;
         write!(told, "={}", *hit.entry)?;
     }
@@ -32,7 +51,7 @@ fn tell_hits(alloc: Global, told: &mut String, case: &Case) -> Result<(), CaseFa
 
 /// `entry PATH STEP..`: the entry that the path has after these steps, or `none`, and how many paths there are.
 fn tell_entry(alloc: Global, told: &mut String, case: &Case) -> Result<(), CaseFault> {
-    let index = index_of(alloc, case)?;
+    let index = index_of(alloc, case.rest(1))?;
     match index.get(&path_of(alloc, case.bytes(0)?)?) {
         Some(entry) => told.push_str(entry.as_str())?,
         None => told.push_str("none")?,
@@ -40,9 +59,9 @@ fn tell_entry(alloc: Global, told: &mut String, case: &Case) -> Result<(), CaseF
     Ok(write!(told, " of {}", index.len())?)
 }
 
-fn index_of(alloc: Global, case: &Case) -> Result<Index<String>, CaseFault> {
+fn index_of(alloc: Global, steps: &[Vec<u8>]) -> Result<Index<String>, CaseFault> {
     let mut index = Index::new(alloc);
-    for step in case.rest(1) {
+    for step in steps {
         make_step(alloc, &mut index, step.as_slice())?;
     }
     Ok(index)
@@ -89,6 +108,7 @@ fn tell_sweep(alloc: Global, told: &mut String, case: &Case) -> Result<(), CaseF
     let index = index_of_servers(alloc, case.small(0)?)?;
     let glob = glob_of(alloc, case.bytes(2)?)?;
     let mut hits: usize = 0;
+    let glob = Verdicts::none(alloc, &glob);
     for _ in 0..case.small(1)? {
         hits = hits.saturating_add(index.find(alloc, &glob)?.len());
     }

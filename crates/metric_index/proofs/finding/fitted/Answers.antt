@@ -6,6 +6,7 @@ use Rattle.std.proofs.lemmas.Map.Iter.{rest_all, rest_more}
 use Rattle.std.proofs.lemmas.Slice.Eq.{starts_is}
 use Rattle.path_glob.specs.Laws.{BeginsWith, literal_front}
 use Rattle.metric_index.specs.Found.{IsFitted, seen}
+use Rattle.metric_index.proofs.VerdictLemmas.{fitted_by}
 use Rattle.metric_index.proofs.WalkLemmas.{Walks, walk_breaks, walk_ends, walk_finds, walk_passes}
 use Rattle.metric_index.proofs.finding.fitted.Goals as goal
 use Rattle.metric_index.proofs.finding.fitted.Goals.{in-None, in-Some+then-not-starts_with}
@@ -18,7 +19,7 @@ loop-path-preserved-in-Continue-1 g c =
     let hits = map seen c.loop-path.hits.items in
     let left = rest_more deref_pair c.loop-path.path-iterator c.next.new.self c.next.result (c.in-Some.path, c.in-Some.entry) c.in-Some.is c.next.ensures.steps in
     let walks = subst (λ (l : List (List ℕ × _)). Walks fits front c.args.entries l hits) left c.loop-path.invariant in
-    let found = walk_finds fits front c.args.entries entry c.next.new.self hits walks (c.matches.ensures.0 c.if-matches.true) in
+    let found = walk_finds fits front c.args.entries entry c.next.new.self hits walks (fitted_by c.args.known.now c.args.glob.now c.in-Some.path.now c.requires.same (c.fits.ensures.0 c.if-fits.true)) in
     let more = ap (map seen) c.in_ok-push.ensures.items ∙ map-append seen c.loop-path.hits.items _ in
     subst (Walks fits front c.args.entries c.next.new.self) (sym more) found
 
@@ -30,7 +31,7 @@ loop-path-preserved g c =
     let hits = map seen c.loop-path.hits.items in
     let left = rest_more deref_pair c.loop-path.path-iterator c.next.new.self c.next.result (c.in-Some.path, c.in-Some.entry) c.in-Some.is c.next.ensures.steps in
     let walks = subst (λ (l : List (List ℕ × _)). Walks fits front c.args.entries l hits) left c.loop-path.invariant in
-    walk_passes fits front c.args.entries entry c.next.new.self hits walks (λ fit. absurd (let yes = sym c.if-matches.false ∙ c.matches.ensures.1 fit in cc))
+    walk_passes fits front c.args.entries entry c.next.new.self hits walks (λ fit. absurd (let yes = sym c.if-fits.false ∙ c.fits.ensures.1 (fitted_by c.args.glob.now c.args.known.now c.in-Some.path.now (sym c.requires.same) fit) in cc))
 
 pub returns : goal.returns
 returns g c =

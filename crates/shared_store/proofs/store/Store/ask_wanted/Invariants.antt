@@ -1,7 +1,7 @@
 use Rattle.std.proofs.Common.{◌<◌}
 use Rattle.shared_store.specs.Asking.{SoFar}
 use Rattle.shared_store.specs.Passes.{LooksOn}
-use Rattle.shared_store.proofs.store.Store.ask.Given as goal
+use Rattle.shared_store.proofs.store.Store.ask_wanted.Given as goal
 
 abbrev pub invariant-loop-again : goal.invariant-loop-again
 invariant-loop-again g l = record {

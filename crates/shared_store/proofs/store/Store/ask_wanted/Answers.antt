@@ -5,7 +5,7 @@ use Rattle.shared_store.specs.declared.try_end.TryEnd.{TryEnd}
 use Rattle.shared_store.specs.declared.try_end.TryEnd.TheVariants.{Moved, Ended}
 use Rattle.shared_store.proofs.AskChainLemmas.{asks_fault, asks_rows, few_more, may_ask, room_left, so_far_more}
 use Rattle.shared_store.proofs.AskPassLemmas.{on_both}
-use Rattle.shared_store.proofs.store.Store.ask.Goals as goal
+use Rattle.shared_store.proofs.store.Store.ask_wanted.Goals as goal
 
 pub attempt-requires-clause-may : goal.attempt-requires-clause-may
 attempt-requires-clause-may g c =

@@ -5,7 +5,7 @@ use Rattle.std.proofs.lemmas.Result.{IfOk-weaker}
 use Rattle.path_glob.specs.Laws.{BeginsWith, literal_front}
 use Rattle.metric_index.specs.Found.{Finds, IsFitted, Picks, seen}
 use Rattle.metric_index.proofs.FindLemmas.{finds_none, least_moved, one_range, part_from, part_from_least, part_only_least, part_rising}
-use Rattle.metric_index.proofs.index.Index.find.Goals as goal
+use Rattle.metric_index.proofs.index.Index.find_by.Goals as goal
 
 pub returns-in_default : goal.returns-in_default
 returns-in_default g c =

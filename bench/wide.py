@@ -1,0 +1,148 @@
+#!/usr/bin/env python3
+"""What questions cost whose globs are held against very many names, and what they make others wait.
+
+Usage: bench/wide.py [NAMES]      (100,000 without a number)
+
+Runs `carbon serve` over a folder in memory with so many names, a point each: once a hundred names below each of the branches `servers.web0000` and on,
+once all of one node. Then each of these is asked, while another client asks for one series by its whole name, again and again:
+
+  usual      one star for a node, which finds a hundred names or none
+  braces     `{` and 400 times `*w*e*b*x`, each with another ending, `}` for a node: 4,000 bytes
+  a head     three targets of such globs, which differ: about the most that a head of 16,384 bytes holds
+  a form     128 targets of such globs, which differ, in a form of half a megabyte
+  left       the form again, whose client leaves at once: how long the daemon goes on computing
+
+Printed are the status, the seconds until the answer, and the longest time that the other client waited for one of its answers: it takes the same locks
+as a line's point, and more. Nothing timed here is a test. Run ./carbon build first.
+"""
+import http.client
+import re
+import socket
+import subprocess
+import sys
+import threading
+import time
+import urllib.parse
+
+from live import PROGRAM, folder, need_program
+
+PORTS = re.compile(r"carbon: lines on (\d+), HTTP on (\d+)")
+NOW = int(time.time()) // 60 * 60
+
+
+def branches(count):
+    return ["servers.web%04d.m%02d" % (k // 100, k % 100) for k in range(count)]
+
+
+def nodes(count):
+    return ["web%06dw" % k for k in range(count)]
+
+
+def braces(salt):
+    """A node's pattern of about 4,000 bytes that fits none of the names."""
+    return "{" + ",".join("*w*e*b*%c%c" % (97 + (salt + k) % 26, 97 + (salt + k // 26) % 26) for k in range(390)) + "}"
+
+
+class Daemon:
+    def __init__(self, place):
+        self.process = subprocess.Popen(
+            [PROGRAM, "serve", "--line-port", "0", "--http-port", "0", "--limit", "10000000"],
+            stdin=subprocess.PIPE, stdout=subprocess.DEVNULL, stderr=subprocess.PIPE, cwd=place, text=True,
+        )
+        for line in self.process.stderr:
+            ports = PORTS.search(line)
+            if ports:
+                break
+        else:
+            sys.exit("no ports: status %d" % self.process.wait())
+        self.lines, self.http = int(ports[1]), int(ports[2])
+        threading.Thread(target=self.process.stderr.read, daemon=True).start()
+
+    def seconds(self):
+        return time.clock_gettime((~self.process.pid << 3) | 2)
+
+    def put(self, names):
+        with socket.create_connection(("127.0.0.1", self.lines)) as link:
+            link.sendall("".join("%s 1 %d\n" % (name, NOW) for name in names).encode())
+            link.shutdown(socket.SHUT_WR)
+            link.recv(1)
+
+    def ask(self, globs, method="GET"):
+        query = urllib.parse.urlencode([("target", glob) for glob in globs] + [("from", "-5min"), ("format", "raw")], safe="{},*.")
+        link = http.client.HTTPConnection("127.0.0.1", self.http, timeout=300)
+        begun = time.perf_counter()
+        if method == "GET":
+            link.request("GET", "/render?" + query)
+        else:
+            link.request("POST", "/render", query, {"Content-Type": "application/x-www-form-urlencoded"})
+        reply = link.getresponse()
+        count = len(reply.read().splitlines())
+        link.close()
+        return reply.status, count, time.perf_counter() - begun
+
+    def leave(self, globs):
+        """Asks and leaves at once: how long the processor still works."""
+        query = urllib.parse.urlencode([("target", glob) for glob in globs], safe="{},*.").encode()
+        head = b"POST /render HTTP/1.1\r\nHost: a\r\nContent-Type: application/x-www-form-urlencoded\r\nContent-Length: %d\r\n\r\n" % len(query)
+        link = socket.create_connection(("127.0.0.1", self.http))
+        link.sendall(head + query)
+        link.close()
+        begun, last, at = time.perf_counter(), self.seconds(), time.perf_counter()
+        while time.perf_counter() - at < 0.3:
+            time.sleep(0.02)
+            if self.seconds() - last > 0.002:
+                last, at = self.seconds(), time.perf_counter()
+        return at - begun
+
+    def stop(self):
+        self.process.stdin.write("stop\n")
+        self.process.stdin.close()
+        if self.process.wait(120):
+            sys.exit("status %d at the end" % self.process.returncode)
+
+
+class Other(threading.Thread):
+    """The client that asks for one series by its whole name."""
+
+    def __init__(self, daemon, name):
+        super().__init__(daemon=True)
+        self.port, self.name, self.is_over, self.longest = daemon.http, name, threading.Event(), 0.0
+        self.start()
+
+    def run(self):
+        link = http.client.HTTPConnection("127.0.0.1", self.port, timeout=300)
+        while not self.is_over.is_set():
+            begun = time.perf_counter()
+            link.request("GET", "/render?target=%s&from=-5min&format=raw" % self.name)
+            link.getresponse().read()
+            self.longest = max(self.longest, time.perf_counter() - begun)
+            time.sleep(0.0005)
+
+    def end(self):
+        self.is_over.set()
+        self.join()
+        return self.longest
+
+
+def measure(shape, names, usual, front, back):
+    hostile = [front + braces(salt) + back for salt in range(128)]
+    with folder() as place:
+        daemon = Daemon(place)
+        daemon.put(names)
+        for what, globs, method in (("usual", [usual], "GET"), ("braces", hostile[:1], "GET"), ("a head", hostile[:3], "GET"), ("a form", hostile, "POST")):
+            other = Other(daemon, names[0])
+            time.sleep(0.2)
+            status, count, seconds = daemon.ask(globs, method)
+            print("%-9s %-7s %d, %d series, %.3f s, the other waited %.1f ms" % (shape, what, status, count, seconds, 1000 * other.end()))
+        print("%-9s %-7s computed on for %.2f s" % (shape, "left", daemon.leave(hostile)))
+        daemon.stop()
+
+
+def main():
+    need_program()
+    count = int(sys.argv[1]) if len(sys.argv) > 1 else 100_000
+    measure("branches", branches(count), "servers.*.m01", "servers.", ".m01")
+    measure("one node", nodes(count), "web00001*", "", "")
+
+
+main()
