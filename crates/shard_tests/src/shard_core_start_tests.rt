@@ -1,39 +1,175 @@
 // Starts of shards over disks in memory.
+use crate::shard_kit::{DAMAGED, Held, SOUND, file_of, paths_in, put_held, read_rules, text_of};
 use drain_order::Strategy;
 use outside_io::{Disk, MemDisk};
-use schema_rules::{RuleFault, Rules};
+use schema_rules::Rules;
 use shard_core::*;
 use std::alloc::{AllocError, Global};
+use std::process::Abort;
 use std::test::Fail;
-
-// A file's name, the numbers that it begins with, and its size, up to which it is zero.
-type Held = (&'static str, &'static [u32], usize);
 
 // More points than any test puts.
 const LIMIT: u64 = 1_000_000;
 
-// The head of one archive of 10 points of 60 seconds each; its file has 148 bytes.
-const SOUND: &[u32] = &[1, 600, 500_000, 1, 28, 60, 10];
-
-// No method has the number 9.
-const DAMAGED: &[u32] = &[9, 600, 500_000, 1, 28, 60, 10];
-
-fn file_of(alloc: Global, numbers: &[u32], size: usize) -> Result<Vec<u8>, AllocError> {
-    let mut bytes = Vec::new(alloc);
-    for number in numbers {
-        bytes.extend_from_slice(&number.to_be_bytes())?;
-    }
-    bytes.resize(size, 0)?;
-    Ok(bytes)
-}
-
 fn disk_with(alloc: Global, files: &[Held]) -> Result<MemDisk, AllocError> {
     let mut disk = MemDisk::new(alloc, 0);
-    for (name, numbers, size) in files {
-        disk.put_file(name, file_of(alloc, numbers, *size)?)?;
+    for held in files {
+        put_held(alloc, &mut disk, held)?;
     }
     Ok(disk)
 }
+
+// The shard of class 12 over a disk, with the rules of files that are not there.
+fn start(
+    alloc: Global,
+    disk: MemDisk,
+    rules: Rules,
+) -> Result<Shard<MemDisk>, (MemDisk, StartFault)> {
+    Shard::start(alloc, 12, disk, rules, LIMIT, Strategy::Naive)
+}
+
+// ---- heads
+
+fn refused_for(alloc: Global, refusal: &(MemDisk, StartFault)) -> Result<Vec<u8>, AllocError> {
+    Vec::from_slice(alloc, text_of(&refusal.1).as_bytes())
+}
+
+// What a start finds: the paths of its metrics, or what it is refused for.
+fn found(alloc: Global, disk: MemDisk) -> Result<Vec<u8>, Fail> {
+    let rules = read_rules(alloc, b"")?;
+    match start(alloc, disk, rules) {
+        Ok(shard) => Ok(paths_in(alloc, &shard)?),
+        Err(refusal) => Ok(refused_for(alloc, &refusal)?),
+    }
+}
+
+fn assert_found(
+    rt: &impl Abort,
+    alloc: Global,
+    what: &str,
+    files: &[Held],
+    want: &str,
+) -> Result<(), Fail> {
+    let found = found(alloc, disk_with(alloc, files)?)?;
+    assert!(rt; found.as_slice() == want.as_bytes(), "{what}");
+    Ok(())
+}
+
+// What a start finds over a sound file of `a.b`, over one that counts as none, and over a damaged
+// one.
+const RING: &str = "a.b";
+
+const NONE: &str = "";
+
+const DAMAGED_FILE: &str = "a/b.ring";
+
+// What the file of `a.b` is, the numbers that it begins with, its size, and what the start finds.
+const HEADS: [(&str, &[u32], usize, &str); 16] = [
+    ("sound", SOUND, 148, RING),
+    ("zero", &[], 28, NONE),
+    ("empty", &[], 0, NONE),
+    (
+        "shorter than four numbers",
+        &[1, 600, 500_000],
+        15,
+        DAMAGED_FILE,
+    ),
+    ("shorter than its rows", SOUND, 27, DAMAGED_FILE),
+    (
+        "of method 0",
+        &[0, 600, 500_000, 1, 28, 60, 10],
+        148,
+        DAMAGED_FILE,
+    ),
+    ("of method 9", DAMAGED, 148, DAMAGED_FILE),
+    ("of no archive", &[1, 600, 500_000, 0], 148, DAMAGED_FILE),
+    ("of 26 archives", &[1, 600, 500_000, 26], 400, DAMAGED_FILE),
+    (
+        "of an offset too far",
+        &[1, 600, 500_000, 1, 29, 60, 10],
+        148,
+        DAMAGED_FILE,
+    ),
+    (
+        "of another retention",
+        &[1, 601, 500_000, 1, 28, 60, 10],
+        148,
+        DAMAGED_FILE,
+    ),
+    ("a byte too short", SOUND, 147, DAMAGED_FILE),
+    ("a byte too long", SOUND, 149, DAMAGED_FILE),
+    (
+        "of a factor above one",
+        &[1, 600, 1_000_001, 1, 28, 60, 10],
+        148,
+        DAMAGED_FILE,
+    ),
+    (
+        "of steps 60 and 120",
+        &[1, 2400, 0, 2, 40, 60, 10, 160, 120, 20],
+        400,
+        RING,
+    ),
+    (
+        "of steps 60 and 90",
+        &[1, 1800, 0, 2, 40, 60, 10, 160, 90, 20],
+        400,
+        DAMAGED_FILE,
+    ),
+];
+
+#[test]
+fn heads_of_files(rt: HostRuntime) -> Result<(), Fail> {
+    for (what, numbers, size, want) in HEADS.iter() {
+        assert_found(
+            &rt,
+            rt.alloc(),
+            what,
+            &[("a/b.ring", *numbers, *size)],
+            want,
+        )?;
+    }
+    Ok(())
+}
+
+// The files, and the name of the first that is damaged, in byte order.
+const NAMES: [(&[Held], &str); 4] = [
+    (
+        &[("a/r.ring", DAMAGED, 148), ("a/b.ring", DAMAGED, 148)],
+        "a/b.ring",
+    ),
+    (
+        &[
+            ("a/r.ring", DAMAGED, 148),
+            ("a/b.ring", SOUND, 148),
+            ("a/2.ring", SOUND, 20),
+        ],
+        "a/2.ring",
+    ),
+    (
+        &[
+            ("a/2.ring", DAMAGED, 148),
+            ("a.ring", DAMAGED, 148),
+            ("a/b.ring", DAMAGED, 148),
+        ],
+        "a.ring",
+    ),
+    // no file of the class stands before it
+    (
+        &[("a.b.ring", DAMAGED, 148), ("a/r.ring", DAMAGED, 148)],
+        "a/r.ring",
+    ),
+];
+
+#[test]
+fn the_first_damaged_name_is_told(rt: HostRuntime) -> Result<(), Fail> {
+    for (files, want) in NAMES.iter() {
+        assert_found(&rt, rt.alloc(), want, files, want)?;
+    }
+    Ok(())
+}
+
+// ---- what a start does with its disk
 
 // What a file holds: nothing where it is not there.
 fn bytes_in<D: Disk>(alloc: Global, disk: &mut D, name: &str) -> Result<Vec<u8>, AllocError> {
@@ -46,177 +182,51 @@ fn bytes_in<D: Disk>(alloc: Global, disk: &mut D, name: &str) -> Result<Vec<u8>,
     Ok(bytes)
 }
 
-// The rules of files that are not there.
-fn no_rules(alloc: Global) -> Result<Rules, RuleFault> {
-    Rules::read(alloc, b"", b"")
+fn holds<D: Disk>(alloc: Global, disk: &mut D, held: &Held) -> Result<bool, AllocError> {
+    let (name, numbers, size) = held;
+    let bytes = bytes_in(alloc, disk, name)?;
+    let want = file_of(alloc, numbers, *size)?;
+    Ok(bytes.as_slice() == want.as_slice())
 }
 
-// What the start of class 12 finds on a disk.
-fn found(alloc: Global, disk: MemDisk, rules: Rules) -> &'static str {
-    match Shard::start(alloc, 12, disk, rules, LIMIT, Strategy::Naive) {
-        Ok(shard) => match shard.names() {
-            Ok(names) if names.is_empty() => "none",
-            Ok(_) => "ring",
-            Err(_) => "unread",
-        },
-        Err((_, StartFault::Damaged(_))) => "damaged",
-        Err(_) => "fault",
+fn count_files<D: Disk>(disk: &mut D) -> Option<usize> {
+    match disk.names() {
+        Ok(names) => Some(names.len()),
+        Err(_fault) => None,
     }
 }
 
-#[test]
-fn heads_of_files(rt: HostRuntime) -> Result<(), Fail> {
-    let alloc = rt.alloc();
-    // what the file is, the numbers that it begins with, its size, and what the start finds
-    let cases: [(&str, &[u32], usize, &str); 16] = [
-        ("sound", SOUND, 148, "ring"),
-        ("zero", &[], 28, "none"),
-        ("empty", &[], 0, "none"),
-        (
-            "shorter than four numbers",
-            &[1, 600, 500_000],
-            15,
-            "damaged",
-        ),
-        ("shorter than its rows", SOUND, 27, "damaged"),
-        (
-            "of method 0",
-            &[0, 600, 500_000, 1, 28, 60, 10],
-            148,
-            "damaged",
-        ),
-        ("of method 9", DAMAGED, 148, "damaged"),
-        ("of no archive", &[1, 600, 500_000, 0], 148, "damaged"),
-        ("of 26 archives", &[1, 600, 500_000, 26], 400, "damaged"),
-        (
-            "of an offset too far",
-            &[1, 600, 500_000, 1, 29, 60, 10],
-            148,
-            "damaged",
-        ),
-        (
-            "of another retention",
-            &[1, 601, 500_000, 1, 28, 60, 10],
-            148,
-            "damaged",
-        ),
-        ("a byte too short", SOUND, 147, "damaged"),
-        ("a byte too long", SOUND, 149, "damaged"),
-        (
-            "of a factor above one",
-            &[1, 600, 1_000_001, 1, 28, 60, 10],
-            148,
-            "damaged",
-        ),
-        (
-            "of steps 60 and 120",
-            &[1, 2400, 0, 2, 40, 60, 10, 160, 120, 20],
-            400,
-            "ring",
-        ),
-        (
-            "of steps 60 and 90",
-            &[1, 1800, 0, 2, 40, 60, 10, 160, 90, 20],
-            400,
-            "damaged",
-        ),
-    ];
-    for (what, numbers, size, want) in cases {
-        let mut disk = MemDisk::new(alloc, 0);
-        disk.put_file("a/b.ring", file_of(alloc, numbers, size)?)?;
-        assert_eq!(rt; found(alloc, disk, no_rules(alloc)?), want, "{what}");
+// The disk behind a start that finds no damaged file.
+fn disk_after(alloc: Global, disk: MemDisk) -> Result<MemDisk, Fail> {
+    let rules = read_rules(alloc, b"")?;
+    match start(alloc, disk, rules) {
+        Ok(shard) => Ok(shard.finish()),
+        Err(_refusal) => Err(Fail::new("no file of the class is damaged")),
     }
-    Ok(())
-}
-
-// The damaged file that the start of class 12 tells.
-fn damaged_name(alloc: Global, disk: MemDisk, rules: Rules) -> Option<String> {
-    match Shard::start(alloc, 12, disk, rules, LIMIT, Strategy::Naive) {
-        Ok(_) => None,
-        Err(refusal) => {
-            let (_, fault) = refusal;
-            name_in(fault)
-        }
-    }
-}
-
-fn name_in(fault: StartFault) -> Option<String> {
-    match fault {
-        StartFault::Damaged(name) => Some(name),
-        StartFault::DiskFault | StartFault::NoMemory => None,
-    }
-}
-
-#[test]
-fn the_first_damaged_name_is_told(rt: HostRuntime) -> Result<(), Fail> {
-    let alloc = rt.alloc();
-    let cases: [(&[Held], &str); 4] = [
-        (
-            &[("a/r.ring", DAMAGED, 148), ("a/b.ring", DAMAGED, 148)],
-            "a/b.ring",
-        ),
-        (
-            &[
-                ("a/r.ring", DAMAGED, 148),
-                ("a/b.ring", SOUND, 148),
-                ("a/2.ring", SOUND, 20),
-            ],
-            "a/2.ring",
-        ),
-        (
-            &[
-                ("a/2.ring", DAMAGED, 148),
-                ("a.ring", DAMAGED, 148),
-                ("a/b.ring", DAMAGED, 148),
-            ],
-            "a.ring",
-        ),
-        // no file of the class stands before it
-        (
-            &[("a.b.ring", DAMAGED, 148), ("a/r.ring", DAMAGED, 148)],
-            "a/r.ring",
-        ),
-    ];
-    for (files, want) in cases {
-        let disk = disk_with(alloc, files)?;
-        let Some(name) = damaged_name(alloc, disk, no_rules(alloc)?) else {
-            panic!(rt; "{want} is damaged")
-        };
-        assert_eq!(rt; name.as_str(), want);
-    }
-    Ok(())
 }
 
 // The path `b` is of class 5.
+const OTHERS: [Held; 4] = [
+    ("x.txt", DAMAGED, 28),
+    ("a.b.ring", DAMAGED, 30),
+    ("b.ring", DAMAGED, 148),
+    ("a/b.ring", SOUND, 148),
+];
+
 #[test]
 fn other_files_are_left_alone(rt: HostRuntime) -> Result<(), Fail> {
-    let alloc = rt.alloc();
-    let files: [Held; 4] = [
-        ("x.txt", DAMAGED, 28),
-        ("a.b.ring", DAMAGED, 30),
-        ("b.ring", DAMAGED, 148),
-        ("a/b.ring", SOUND, 148),
-    ];
-    let disk = disk_with(alloc, &files)?;
-    let Ok(shard) = Shard::start(alloc, 12, disk, no_rules(alloc)?, LIMIT, Strategy::Naive) else {
-        panic!(rt; "no file of the class is damaged")
-    };
-    let mut disk = shard.finish();
-    for (name, numbers, size) in files {
-        let bytes = bytes_in(alloc, &mut disk, name)?;
-        assert_eq!(rt; bytes, file_of(alloc, numbers, size)?, "{name}");
+    let mut disk = disk_after(rt.alloc(), disk_with(rt.alloc(), &OTHERS)?)?;
+    for held in OTHERS.iter() {
+        assert!(rt; holds(rt.alloc(), &mut disk, held)?, "{}", held.0);
     }
-    let Ok(names) = disk.names() else {
-        panic!(rt; "the names are listed")
-    };
-    assert_eq!(rt; names.len(), 4);
+    assert!(rt; count_files(&mut disk) == Some(4));
     Ok(())
 }
 
 // How many faults the disk counts after a start that it lets succeed or fails, `None` where the start ends
 // otherwise.
 fn faults_of_start(alloc: Global, disk: MemDisk, rules: Rules) -> Option<u64> {
-    match Shard::start(alloc, 12, disk, rules, LIMIT, Strategy::Naive) {
+    match start(alloc, disk, rules) {
         Ok(shard) => Some(shard.finish().faults()),
         Err(refusal) => {
             let (disk, fault) = refusal;
@@ -235,7 +245,7 @@ fn a_failed_call_is_counted(rt: HostRuntime) -> Result<(), Fail> {
     for (call, want) in [(1, 1), (2, 1), (3, 1), (4, 0)] {
         let disk = disk_with(alloc, &[("a/b.ring", SOUND, 148)])?;
         let disk = disk.failing_reads(vec![in alloc; call]?);
-        let faults = faults_of_start(alloc, disk, no_rules(alloc)?);
+        let faults = faults_of_start(alloc, disk, read_rules(alloc, b"")?);
         assert!(rt; faults == Some(want), "call {call}");
     }
     Ok(())

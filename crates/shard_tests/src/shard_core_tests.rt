@@ -3,15 +3,16 @@ ghost use Rattle.std.specs.Prelude.{◌≡◌, ◌<◌, ◌≤◌, All, IfOk};
 ghost use Rattle.shard_core.specs.Looks.{MayRead};
 ghost use Rattle.shard_core.specs.View.{inside_of};
 
+use crate::shard_kit::{SOUND, file_of, read_rules};
 use drain_order::Strategy;
 use fixed_num::Milli;
-use metric_line::read_line;
+use metric_line::{Datum, read_line};
 use outside_io::{Disk, MemDisk};
 use path_glob::Glob;
 use point_cache::Put;
 use schema_rules::Rules;
 use shard_core::*;
-use std::alloc::Global;
+use std::alloc::{AllocError, Global};
 use std::process::Abort;
 use std::test::Fail;
 
@@ -53,27 +54,28 @@ enum Act<'a> {
 fn start_over(
     alloc: Global,
     disk: MemDisk,
-    schemas: &[u8],
+    rules: Rules,
     limit: u64,
     strategy: Strategy,
-) -> Result<Shard<MemDisk>, Fail>
-    requires { 0 < limit }
-{
-    let rules = Rules::read(alloc, schemas, b"")?;
-    match Shard::start(alloc, 12, disk, rules, limit, strategy) {
+) -> Result<Shard<MemDisk>, Fail> {
+    match Shard::start(alloc, 12, disk, rules, limit.max(1), strategy) {
         Ok(shard) => Ok(shard),
-        Err(_) => Err(Fail::new("no file is damaged")),
+        Err(_refusal) => Err(Fail::new("no file is damaged")),
     }
 }
 
 // ---- what is done
 
-fn put<D: Disk>(alloc: Global, shard: &mut Shard<D>, line: &[u8]) -> Result<Put, Fail> {
-    let datum = read_line(alloc, line, START)?;
+fn put<D: Disk>(shard: &mut Shard<D>, datum: &Datum) -> Result<Put, Fail> {
     if datum.path.class() != shard.class() {
         return Err(Fail::new("the metric is of the class"));
     }
-    Ok(shard.put(&datum))
+    Ok(shard.put(datum))
+}
+
+fn puts<D: Disk>(alloc: Global, shard: &mut Shard<D>, line: &[u8], end: Put) -> Result<bool, Fail> {
+    let datum = read_line(alloc, line, START)?;
+    Ok(put(shard, &datum)? == end)
 }
 
 fn has_end(planned: &Planned, end: &str) -> bool {
@@ -84,6 +86,10 @@ fn has_end(planned: &Planned, end: &str) -> bool {
         Planned::DiskFault => end == "disk fault",
         Planned::NoMemory => end == "no memory",
     }
+}
+
+fn plans<D: Disk>(shard: &mut Shard<D>, now: u32, end: &str) -> bool {
+    has_end(&shard.plan(now), end)
 }
 
 fn are_names<D: Disk>(shard: &Shard<D>, paths: &[&'static str]) -> Result<bool, Fail> {
@@ -109,7 +115,12 @@ fn look<D: Disk>(
 {
     let glob = Glob::new(alloc, glob)?;
     let until = u64::from(until);
-    Ok(shard.look(&glob, until.min(u64::from(from)), until, u64::from(NOW))?)
+    Ok(shard.look(
+        &Verdicts::none(alloc, &glob),
+        until.min(u64::from(from)),
+        until,
+        u64::from(NOW),
+    )?)
 }
 
 fn are_found(looked: &[Looked], paths: &[&'static str]) -> bool {
@@ -118,6 +129,18 @@ fn are_found(looked: &[Looked], paths: &[&'static str]) -> bool {
             .iter()
             .zip(paths.iter())
             .all(|(one, path)| one.path.as_str() == *path)
+}
+
+fn finds<D: Disk>(
+    alloc: Global,
+    shard: &Shard<D>,
+    glob: &[u8],
+    from: u32,
+    until: u32,
+    paths: &[&'static str],
+) -> Result<bool, Fail> {
+    let looked = look(alloc, shard, glob, from, until)?;
+    Ok(are_found(looked.as_slice(), paths))
 }
 
 // The values of the first metric that a glob finds.
@@ -134,7 +157,7 @@ fn shows<D: Disk>(
     };
     match shard.read(one) {
         Ok(read) => Ok(read.list() == values),
-        Err(_) => Err(Fail::new("the metric is read")),
+        Err(_fault) => Err(Fail::new("the metric is read")),
     }
 }
 
@@ -154,13 +177,11 @@ fn moved<D: Disk>(alloc: Global, shard: &mut Shard<D>, glob: &[u8]) -> Result<Op
 // Whether what comes of an act is what is to come.
 fn obey<D: Disk>(alloc: Global, shard: &mut Shard<D>, act: Act<'_>) -> Result<bool, Fail> {
     match act {
-        Act::Put(line, end) => Ok(put(alloc, shard, line)? == end),
-        Act::Plan(now, end) => Ok(has_end(&shard.plan(now), end)),
+        Act::Put(line, end) => puts(alloc, shard, line, end),
+        Act::Plan(now, end) => Ok(plans(shard, now, end)),
         Act::Write(end) => Ok(shard.write_next() == end),
         Act::Names(paths) => are_names(shard, paths),
-        Act::Found(glob, from, until, paths) => {
-            Ok(are_found(&look(alloc, shard, glob, from, until)?, paths))
-        }
+        Act::Found(glob, from, until, paths) => finds(alloc, shard, glob, from, until, paths),
         Act::Shown(glob, from, values) => shows(alloc, shard, glob, from, values),
         Act::Moved(glob, drains) => Ok(moved(alloc, shard, glob)? == drains),
     }
@@ -181,13 +202,17 @@ fn assert_all<D: Disk>(
 // ---- drains
 
 // Five minutes of `a.b` from the start on, with the values from 1 to 5.
-const FIVE: [Act<'static>; 5] = [
-    Act::Put(b"a.b 1 1700000100", Put::Stored),
-    Act::Put(b"a.b 2 1700000160", Put::Stored),
-    Act::Put(b"a.b 3 1700000220", Put::Stored),
-    Act::Put(b"a.b 4 1700000280", Put::Stored),
-    Act::Put(b"a.b 5 1700000340", Put::Stored),
-];
+const B_1: Act<'static> = Act::Put(b"a.b 1 1700000100", Put::Stored);
+
+const B_2: Act<'static> = Act::Put(b"a.b 2 1700000160", Put::Stored);
+
+const B_3: Act<'static> = Act::Put(b"a.b 3 1700000220", Put::Stored);
+
+const B_4: Act<'static> = Act::Put(b"a.b 4 1700000280", Put::Stored);
+
+const B_5: Act<'static> = Act::Put(b"a.b 5 1700000340", Put::Stored);
+
+const FIVE: [Act<'static>; 5] = [B_1, B_2, B_3, B_4, B_5];
 
 // The five minutes by minutes, and the two five minutes up to them: 3 is the average of the second.
 const FINE: Act<'static> = Act::Shown(
@@ -221,14 +246,15 @@ const BEFORE: [Act<'static>; 5] = [
     Act::Write(Wrote::Finished),
 ];
 
-// The drain of the five minutes, of which one writing call fails.
-#[derive(Drop)]
-struct Drained<'a> {
+// The drain of the five minutes: the rules, what is done before, the questions, the first writing
+// call of the drain, and its runs.
+#[derive(Clone, Copy)]
+struct Drain<'a> {
     schemas: &'a [u8],
     before: &'a [Act<'a>],
     asks: &'a [Act<'a>],
-    failing: u64,
-    is_torn: bool,
+    first: u32,
+    runs: u32,
 }
 
 // Writes what is on the shelf run by run, with questions before each run and behind the last: how
@@ -252,55 +278,123 @@ fn write_all<D: Disk>(
     Err(Fail::new("the shelf is empty at last"))
 }
 
-fn drain(rt: &impl Abort, alloc: Global, drained: &Drained<'_>) -> Result<(u32, u32), Fail> {
-    let disk = MemDisk::new(alloc, 10_000).failing(vec![in alloc; drained.failing]?);
-    let disk = if drained.is_torn {
-        disk.tearing()
-    } else {
-        disk
-    };
-    let mut shard = start_over(alloc, disk, drained.schemas, 100, Strategy::Naive)?;
-    assert_all(rt, alloc, &mut shard, drained.before)?;
-    assert_all(rt, alloc, &mut shard, &FIVE)?;
-    assert_all(rt, alloc, &mut shard, drained.asks)?;
-    assert_all(rt, alloc, &mut shard, &[Act::Plan(NOW, "a.b")])?;
-    write_all(rt, alloc, &mut shard, drained.asks)
+fn drain_over(
+    rt: &impl Abort,
+    alloc: Global,
+    shard: &mut Shard<MemDisk>,
+    drain: &Drain<'_>,
+) -> Result<(u32, u32), Fail> {
+    assert_all(rt, alloc, shard, drain.before)?;
+    assert_all(rt, alloc, shard, &FIVE)?;
+    assert_all(rt, alloc, shard, drain.asks)?;
+    assert_all(rt, alloc, shard, &[Act::Plan(NOW, "a.b")])?;
+    write_all(rt, alloc, shard, drain.asks)
 }
+
+fn torn(disk: MemDisk, is_torn: bool) -> MemDisk {
+    if !is_torn {
+        return disk;
+    }
+    disk.tearing()
+}
+
+// A disk of which one writing call fails, and leaves its place as it was, or torn.
+fn failing_disk(alloc: Global, call: u32, is_torn: bool) -> Result<MemDisk, AllocError> {
+    let calls = vec![in alloc; u64::from(call)]?;
+    Ok(torn(MemDisk::new(alloc, 10_000).failing(calls), is_torn))
+}
+
+// How many runs are written, and how many fail, where a run of the drain does.
+fn drain_failing(
+    rt: &impl Abort,
+    alloc: Global,
+    drain: &Drain<'_>,
+    run: u32,
+    is_torn: bool,
+) -> Result<(u32, u32), Fail> {
+    let rules = read_rules(alloc, drain.schemas)?;
+    let disk = failing_disk(alloc, drain.first.saturating_add(run), is_torn)?;
+    let mut shard = start_over(alloc, disk, rules, 100, Strategy::Naive)?;
+    drain_over(rt, alloc, &mut shard, drain)
+}
+
+// A run that fails comes again. Behind the last run no call fails.
+fn assert_each_run(
+    rt: &impl Abort,
+    alloc: Global,
+    drain: &Drain<'_>,
+    is_torn: bool,
+) -> Result<(), Fail> {
+    let runs = drain.runs;
+    for run in 0..=runs {
+        let ends = drain_failing(rt, alloc, drain, run, is_torn)?;
+        assert!(rt;
+            ends == (runs, u32::from(run < runs)),
+            "call {run} of {runs}"
+        );
+    }
+    Ok(())
+}
+
+const ONE_ASKED: [Act<'static>; 1] = [FINE];
+
+const TWO_ASKED: [Act<'static>; 2] = [FINE, COARSE];
+
+const THREE_ASKED: [Act<'static>; 3] = [FINE, COARSE, OLD];
+
+const DRAINS: [Drain<'static>; 6] = [
+    Drain {
+        schemas: ONE,
+        before: &[],
+        asks: &ONE_ASKED,
+        first: 1,
+        runs: 3,
+    },
+    Drain {
+        schemas: TWO,
+        before: &[],
+        asks: &TWO_ASKED,
+        first: 1,
+        runs: 4,
+    },
+    Drain {
+        schemas: THREE,
+        before: &[],
+        asks: &THREE_ASKED,
+        first: 1,
+        runs: 5,
+    },
+    // the first slot is that of the second minute, so that the first minute has the last
+    Drain {
+        schemas: ONE,
+        before: &BEFORE,
+        asks: &ONE_ASKED,
+        first: 4,
+        runs: 2,
+    },
+    Drain {
+        schemas: TWO,
+        before: &BEFORE,
+        asks: &TWO_ASKED,
+        first: 4,
+        runs: 3,
+    },
+    Drain {
+        schemas: THREE,
+        before: &BEFORE,
+        asks: &THREE_ASKED,
+        first: 4,
+        runs: 4,
+    },
+];
 
 // A file that is to be created is, then its cells are written, those of each archive at once, and
 // then its head. Each run fails once, and leaves its place as it was, or torn.
 #[test]
 fn a_metric_shows_the_same_between_any_two_runs(rt: HostRuntime) -> Result<(), Fail> {
-    let both = [FINE, COARSE];
-    let all = [FINE, COARSE, OLD];
-    // the rules, what is done before, the questions, the first writing call of the drain, and its
-    // runs
-    let table: [(&[u8], &[Act<'_>], &[Act<'_>], u64, u32); 6] = [
-        (ONE, &[], &[FINE], 1, 3),
-        (TWO, &[], &both, 1, 4),
-        (THREE, &[], &all, 1, 5),
-        // the first slot is that of the second minute, so that the first minute has the last
-        (ONE, &BEFORE, &[FINE], 4, 2),
-        (TWO, &BEFORE, &both, 4, 3),
-        (THREE, &BEFORE, &all, 4, 4),
-    ];
-    for (schemas, before, asks, first, runs) in table {
-        for call in 0..=runs {
-            for is_torn in [false, true] {
-                let drained = Drained {
-                    schemas,
-                    before,
-                    asks,
-                    failing: u64::from(call).saturating_add(first),
-                    is_torn,
-                };
-                let faults = u32::from(call < runs);
-                assert!(rt;
-                    drain(&rt, rt.alloc(), &drained)? == (runs, faults),
-                    "call {call} of {runs}"
-                );
-            }
-        }
+    for drain in DRAINS.iter() {
+        assert_each_run(&rt, rt.alloc(), drain, false)?;
+        assert_each_run(&rt, rt.alloc(), drain, true)?;
     }
     Ok(())
 }
@@ -308,7 +402,7 @@ fn a_metric_shows_the_same_between_any_two_runs(rt: HostRuntime) -> Result<(), F
 // ---- whole tables
 
 // A shard with rules, so many points at most and an order, and what is done to it.
-#[derive(Drop)]
+#[derive(Clone, Copy)]
 struct Case<'a> {
     schemas: &'a [u8],
     limit: u64,
@@ -317,8 +411,8 @@ struct Case<'a> {
 }
 
 fn assert_case(rt: &impl Abort, alloc: Global, disk: MemDisk, case: &Case<'_>) -> Result<(), Fail> {
-    let limit = case.limit.max(1);
-    let mut shard = start_over(alloc, disk, case.schemas, limit, case.strategy)?;
+    let rules = read_rules(alloc, case.schemas)?;
+    let mut shard = start_over(alloc, disk, rules, case.limit, case.strategy)?;
     assert_all(rt, alloc, &mut shard, case.acts)
 }
 
@@ -333,76 +427,78 @@ fn assert_without_files(
     assert_case(rt, alloc, disk, case)
 }
 
+const UNREAD: [Act<'static>; 26] = [
+    Act::Put(b"a.b 9 1700000100", Put::Stored),
+    Act::Plan(START, "a.b"),
+    Act::Plan(START, "busy"),
+    Act::Write(Wrote::Run),
+    Act::Write(Wrote::Run),
+    Act::Write(Wrote::Finished),
+    Act::Put(b"a.b 7 1700000160", Put::Stored),
+    Act::Put(b"a.b 2 1700000160", Put::Replaced),
+    B_1,
+    B_3,
+    B_4,
+    B_5,
+    Act::Plan(NOW, "disk fault"),
+    Act::Write(Wrote::Nothing),
+    FINE,
+    COARSE,
+    Act::Plan(NOW, "a.b"),
+    FINE,
+    COARSE,
+    Act::Write(Wrote::Run),
+    FINE,
+    COARSE,
+    Act::Write(Wrote::Finished),
+    FINE,
+    COARSE,
+    Act::Plan(NOW, "idle"),
+];
+
 // The start lists the names. A file that is there is read for the plan, and each look before that
 // reads nothing.
 #[test]
 fn a_plan_that_cannot_read_leaves_all(rt: HostRuntime) -> Result<(), Fail> {
-    let acts = [
-        Act::Put(b"a.b 9 1700000100", Put::Stored),
-        Act::Plan(START, "a.b"),
-        Act::Plan(START, "busy"),
-        Act::Write(Wrote::Run),
-        Act::Write(Wrote::Run),
-        Act::Write(Wrote::Finished),
-        Act::Put(b"a.b 7 1700000160", Put::Stored),
-        Act::Put(b"a.b 2 1700000160", Put::Replaced),
-        FIVE[0],
-        FIVE[2],
-        FIVE[3],
-        FIVE[4],
-        Act::Plan(NOW, "disk fault"),
-        Act::Write(Wrote::Nothing),
-        FINE,
-        COARSE,
-        Act::Plan(NOW, "a.b"),
-        FINE,
-        COARSE,
-        Act::Write(Wrote::Run),
-        FINE,
-        COARSE,
-        Act::Write(Wrote::Finished),
-        FINE,
-        COARSE,
-        Act::Plan(NOW, "idle"),
-    ];
     let case = Case {
         schemas: TWO,
         limit: 100,
         strategy: Strategy::Naive,
-        acts: &acts,
+        acts: &UNREAD,
     };
     assert_without_files(&rt, rt.alloc(), 2, &case)
 }
+
+const BETWEEN: [Act<'static>; 18] = [
+    B_1,
+    B_2,
+    Act::Plan(NOW, "a.b"),
+    Act::Write(Wrote::Run),
+    B_3,
+    Act::Write(Wrote::Run),
+    B_4,
+    B_5,
+    FINE,
+    Act::Write(Wrote::Finished),
+    FINE,
+    Act::Plan(NOW, "a.b"),
+    Act::Write(Wrote::Finished),
+    Act::Put(b"a.b 1 1699996000", Put::Stored),
+    Act::Plan(NOW, "a.b"),
+    Act::Write(Wrote::Nothing),
+    FINE,
+    Act::Plan(NOW, "idle"),
+];
 
 // Points that are put while a drain is written show over it, and a drain of points that are older
 // than all that the archives reach back to writes nothing.
 #[test]
 fn points_come_between_two_runs(rt: HostRuntime) -> Result<(), Fail> {
-    let acts = [
-        FIVE[0],
-        FIVE[1],
-        Act::Plan(NOW, "a.b"),
-        Act::Write(Wrote::Run),
-        FIVE[2],
-        Act::Write(Wrote::Run),
-        FIVE[3],
-        FIVE[4],
-        FINE,
-        Act::Write(Wrote::Finished),
-        FINE,
-        Act::Plan(NOW, "a.b"),
-        Act::Write(Wrote::Finished),
-        Act::Put(b"a.b 1 1699996000", Put::Stored),
-        Act::Plan(NOW, "a.b"),
-        Act::Write(Wrote::Nothing),
-        FINE,
-        Act::Plan(NOW, "idle"),
-    ];
     let case = Case {
         schemas: ONE,
         limit: 100,
         strategy: Strategy::Naive,
-        acts: &acts,
+        acts: &BETWEEN,
     };
     assert_without_files(&rt, rt.alloc(), 0, &case)
 }
@@ -447,19 +543,11 @@ fn pending_metrics_are_found(rt: HostRuntime) -> Result<(), Fail> {
     assert_without_files(&rt, rt.alloc(), 0, &case)
 }
 
-// A head of one archive of 10 minutes, and its zero cells.
-const HEAD: [u8; 28] = [
-    0, 0, 0, 1, 0, 0, 2, 0x58, 0, 0x07, 0xa1, 0x20, 0, 0, 0, 1, 0, 0, 0, 28, 0, 0, 0, 60, 0, 0, 0,
-    10,
-];
-
-// A disk with an empty ring file of `a.b` and a zero file of `a.r`.
-fn disk_with_two(alloc: Global) -> Result<MemDisk, Fail> {
-    let mut ring = Vec::from_slice(alloc, &HEAD)?;
-    ring.resize(148, 0)?;
+// A disk with an empty ring file of `a.b`, of ten minutes by minutes, and a zero file of `a.r`.
+fn disk_with_two(alloc: Global) -> Result<MemDisk, AllocError> {
     let mut disk = MemDisk::new(alloc, 1_000);
-    disk.put_file("a/b.ring", ring)?;
-    disk.put_file("a/r.ring", vec![in alloc; 0; 28]?)?;
+    disk.put_file("a/b.ring", file_of(alloc, SOUND, 148)?)?;
+    disk.put_file("a/r.ring", file_of(alloc, &[], 28)?)?;
     Ok(disk)
 }
 
@@ -491,25 +579,26 @@ fn kept_metrics_are_found(rt: HostRuntime) -> Result<(), Fail> {
     assert_case(&rt, rt.alloc(), disk_with_two(rt.alloc())?, &case)
 }
 
+const MOVED: [Act<'static>; 9] = [
+    B_1,
+    Act::Moved(b"a.b", Some(1)),
+    Act::Write(Wrote::Run),
+    Act::Write(Wrote::Run),
+    Act::Write(Wrote::Finished),
+    B_2,
+    Act::Moved(b"a.b", Some(2)),
+    Act::Write(Wrote::Finished),
+    // nothing is pending, and so nothing is drained
+    Act::Moved(b"a.b", None),
+];
+
 #[test]
 fn a_metric_that_was_drained_since_the_look_has_moved(rt: HostRuntime) -> Result<(), Fail> {
-    let acts = [
-        FIVE[0],
-        Act::Moved(b"a.b", Some(1)),
-        Act::Write(Wrote::Run),
-        Act::Write(Wrote::Run),
-        Act::Write(Wrote::Finished),
-        FIVE[1],
-        Act::Moved(b"a.b", Some(2)),
-        Act::Write(Wrote::Finished),
-        // nothing is pending, and so nothing is drained
-        Act::Moved(b"a.b", None),
-    ];
     let case = Case {
         schemas: TWO,
         limit: 100,
         strategy: Strategy::Naive,
-        acts: &acts,
+        acts: &MOVED,
     };
     assert_without_files(&rt, rt.alloc(), 0, &case)
 }
@@ -517,68 +606,62 @@ fn a_metric_that_was_drained_since_the_look_has_moved(rt: HostRuntime) -> Result
 // ---- orders
 
 // Three points of `a.r`.
-const THREE_OF_R: [Act<'static>; 3] = [
-    Act::Put(b"a.r 1 1700000100", Put::Stored),
-    Act::Put(b"a.r 2 1700000160", Put::Stored),
-    Act::Put(b"a.r 3 1700000220", Put::Stored),
-];
+const R_1: Act<'static> = Act::Put(b"a.r 1 1700000100", Put::Stored);
+
+const R_2: Act<'static> = Act::Put(b"a.r 2 1700000160", Put::Stored);
+
+const R_3: Act<'static> = Act::Put(b"a.r 3 1700000220", Put::Stored);
+
+const MOST: [Act<'static>; 7] = [R_1, R_2, R_3, B_1, B_2, B_3, Act::Plan(NOW, "a.b")];
 
 // Of two metrics with as many points the first in byte order is drained.
 #[test]
 fn the_most_points_are_drained_first(rt: HostRuntime) -> Result<(), Fail> {
-    let acts = [
-        THREE_OF_R[0],
-        THREE_OF_R[1],
-        THREE_OF_R[2],
-        FIVE[0],
-        FIVE[1],
-        FIVE[2],
-        Act::Plan(NOW, "a.b"),
-    ];
     let case = Case {
         schemas: b"",
         limit: 100,
         strategy: Strategy::Max,
-        acts: &acts,
+        acts: &MOST,
     };
     assert_without_files(&rt, rt.alloc(), 0, &case)
 }
+
+const QUEUE: [Act<'static>; 24] = [
+    Act::Put(b"a.b 9 1700000040", Put::Stored),
+    Act::Plan(START, "a.b"),
+    Act::Write(Wrote::Run),
+    Act::Write(Wrote::Run),
+    Act::Write(Wrote::Finished),
+    R_1,
+    R_2,
+    R_3,
+    B_1,
+    B_2,
+    Act::Put(b"a.2 1 1700000100", Put::Stored),
+    Act::Plan(NOW, "a.r"),
+    Act::Put(b"a.2 1 1700000160", Put::Stored),
+    Act::Put(b"a.2 1 1700000220", Put::Stored),
+    Act::Put(b"a.2 1 1700000280", Put::Stored),
+    Act::Put(b"a.2 1 1700000340", Put::Stored),
+    Act::Put(b"a.2 1 1700000400", Put::Stored),
+    Act::Write(Wrote::Run),
+    Act::Write(Wrote::Run),
+    Act::Write(Wrote::Finished),
+    Act::Plan(START + 300, "disk fault"),
+    Act::Plan(START + 300, "a.b"),
+    Act::Write(Wrote::Finished),
+    Act::Plan(START + 300, "a.2"),
+];
 
 // The queue is made at the first plan, whatever is put later, and a plan that cannot read leaves
 // it.
 #[test]
 fn a_queue_is_drained_to_its_end(rt: HostRuntime) -> Result<(), Fail> {
-    let acts = [
-        Act::Put(b"a.b 9 1700000040", Put::Stored),
-        Act::Plan(START, "a.b"),
-        Act::Write(Wrote::Run),
-        Act::Write(Wrote::Run),
-        Act::Write(Wrote::Finished),
-        THREE_OF_R[0],
-        THREE_OF_R[1],
-        THREE_OF_R[2],
-        FIVE[0],
-        FIVE[1],
-        Act::Put(b"a.2 1 1700000100", Put::Stored),
-        Act::Plan(NOW, "a.r"),
-        Act::Put(b"a.2 1 1700000160", Put::Stored),
-        Act::Put(b"a.2 1 1700000220", Put::Stored),
-        Act::Put(b"a.2 1 1700000280", Put::Stored),
-        Act::Put(b"a.2 1 1700000340", Put::Stored),
-        Act::Put(b"a.2 1 1700000400", Put::Stored),
-        Act::Write(Wrote::Run),
-        Act::Write(Wrote::Run),
-        Act::Write(Wrote::Finished),
-        Act::Plan(START + 300, "disk fault"),
-        Act::Plan(START + 300, "a.b"),
-        Act::Write(Wrote::Finished),
-        Act::Plan(START + 300, "a.2"),
-    ];
     let case = Case {
         schemas: b"",
         limit: 100,
         strategy: Strategy::Sorted,
-        acts: &acts,
+        acts: &QUEUE,
     };
     assert_without_files(&rt, rt.alloc(), 2, &case)
 }
