@@ -11,7 +11,5 @@ mod faults_told;
 mod files;
 mod listing;
 mod open_file;
-#[cfg(test)]
-mod tests;
 
 pub use disk::FolderDisk;

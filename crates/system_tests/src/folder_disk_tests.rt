@@ -1,0 +1,593 @@
+// A disk over a real folder, in which others link, rename, cut and remove files too.
+use folder_disk::FolderDisk;
+use outside_io::Disk;
+use std::alloc::{AllocError, Global};
+use std::os::unix::fs::symlink;
+use std::process::Abort;
+use std::test::Fail;
+use std::time::Duration;
+use std::{fs, io, thread};
+
+// What happens to a folder.
+#[derive(Clone, Copy)]
+enum Step {
+    // the calls behind it are those of a new disk, over the folder or over a name in it
+    Over(Kind, &'static str),
+    // calls of the disk
+    Names,
+    Length(&'static str),
+    Create(&'static str, u64),
+    Read(&'static str, u64),
+    Write(&'static str, u64, &'static str),
+    // a write of so many sevens, a write of the bytes that a long file has from one place up to another, and whether they are read there
+    WriteSevens(&'static str, usize),
+    WriteLong(&'static str, usize, usize),
+    IsLong(&'static str, usize, usize),
+    // what others do: a link to a file, a file with a text, a rename, a file removed, a folder made
+    Link(&'static str, &'static str),
+    Put(&'static str, &'static str),
+    Rename(&'static str, &'static str),
+    Remove(&'static str),
+    Folder(&'static str),
+    // so many milliseconds go by
+    Wait(u64),
+}
+
+// What a disk is for.
+#[derive(Clone, Copy)]
+enum Kind {
+    Data,
+    Settings,
+    // data, and it is tried at the first list of names whether the folder takes files
+    ToBeWritten,
+}
+
+// A folder's story, and what each call of the disk in it tells.
+struct Story {
+    title: &'static str,
+    steps: &'static [Step],
+    told: &'static str,
+}
+
+const STORIES: [Story; 17] = [
+    Story {
+        title: "no folder has no names",
+        steps: &[Step::Names, Step::Length("c")],
+        told: "[] none ",
+    },
+    Story {
+        title: "a file has zeros, keeps what is written, and has its length",
+        steps: &[
+            Step::Create("a/b.ring", 1_600),
+            Step::Create("c", 4),
+            Step::Read("c", 0),
+            Step::Write("c", 1, "xy"),
+            Step::Read("c", 1),
+            Step::Length("a/b.ring"),
+            Step::Length("a"),
+            Step::Names,
+        ],
+        told: "ok ok \\0\\0 ok xy 1600 none [a/b.ring,c] ",
+    },
+    Story {
+        title: "a range behind the end is a fault, and the next call goes on",
+        steps: &[
+            Step::Create("c", 2),
+            Step::Read("c", 1),
+            Step::Write("c", 1, "xy"),
+            Step::Length("c"),
+            Step::Write("c", 0, "xy"),
+            Step::Read("c", 0),
+        ],
+        told: "ok failed failed 2 ok xy ",
+    },
+    Story {
+        title: "two files by turns keep what is theirs",
+        steps: &[
+            Step::Create("c", 4),
+            Step::Write("c", 1, "ab"),
+            Step::Create("e", 3),
+            Step::Write("e", 1, "yz"),
+            Step::Write("c", 2, "cd"),
+            Step::Read("e", 1),
+            Step::Read("c", 1),
+            Step::Read("c", 2),
+        ],
+        told: "ok ok ok ok ok yz ac cd ",
+    },
+    Story {
+        title: "a file that is not there is no file",
+        steps: &[
+            Step::Folder(""),
+            Step::Read("d", 0),
+            Step::Write("d", 0, "x"),
+            Step::Names,
+        ],
+        told: "failed failed [] ",
+    },
+    Story {
+        title: "a link to a file is a fault of each call, and the file is left alone",
+        steps: &[
+            Step::Folder(""),
+            Step::Put("../link_target", "text"),
+            Step::Link("../link_target", "c"),
+            Step::Names,
+            Step::Length("c"),
+            Step::Read("c", 0),
+            Step::Write("c", 0, "xy"),
+            Step::Create("c", 9),
+            Step::Remove("c"),
+            Step::Rename("../link_target", "d"),
+            Step::Read("d", 0),
+            Step::Length("d"),
+        ],
+        told: "failed failed failed failed failed te 4 ",
+    },
+    Story {
+        title: "a link to a folder is a fault of the list",
+        steps: &[Step::Folder("a"), Step::Link("a", "b"), Step::Names],
+        told: "failed ",
+    },
+    Story {
+        title: "a file that is whole is not made anew",
+        steps: &[
+            Step::Folder(""),
+            Step::Put("c", "text"),
+            Step::Create("c", 9),
+            Step::Length("c"),
+            Step::Read("c", 0),
+        ],
+        told: "failed 4 te ",
+    },
+    Story {
+        title: "a file that begins with zeros is made anew, and so is an empty one",
+        steps: &[
+            Step::Create("c", 20),
+            Step::Write("c", 17, "xy"),
+            Step::Create("c", 18),
+            Step::Length("c"),
+            Step::Read("c", 16),
+            Step::Put("d", ""),
+            Step::Create("d", 3),
+            Step::Length("d"),
+        ],
+        told: "ok ok ok 18 \\0\\0 ok 3 ",
+    },
+    Story {
+        title: "a number in the first 16 bytes makes a file whole",
+        steps: &[
+            Step::Create("c", 20),
+            Step::Write("c", 15, "x"),
+            Step::Create("c", 18),
+            Step::Length("c"),
+        ],
+        told: "ok ok failed 20 ",
+    },
+    Story {
+        title: "a file that is removed while it is open takes no more, until it is there again",
+        steps: &[
+            Step::Create("c", 4),
+            Step::Remove("c"),
+            Step::Write("c", 0, "xy"),
+            Step::Write("c", 0, "xy"),
+            Step::Put("c", "text"),
+            Step::Write("c", 0, "xy"),
+            Step::Read("c", 1),
+        ],
+        told: "ok failed failed ok yx ",
+    },
+    Story {
+        title: "a file that is replaced while it is open fails once, and is then the other",
+        steps: &[
+            Step::Create("c", 4),
+            Step::Put("d", "text"),
+            Step::Rename("d", "c"),
+            Step::Read("c", 0),
+            Step::Read("c", 0),
+        ],
+        told: "ok failed te ",
+    },
+    Story {
+        title: "a file that is moved away while it is open takes no more",
+        steps: &[
+            Step::Create("c", 4),
+            Step::Rename("c", "d"),
+            Step::Write("c", 0, "xy"),
+            Step::Read("d", 0),
+        ],
+        told: "ok failed \\0\\0 ",
+    },
+    Story {
+        title: "a file that is cut while it is open does not grow again",
+        steps: &[
+            Step::Create("c", 40),
+            Step::Put("c", "text"),
+            Step::Write("c", 20, "xy"),
+            Step::Length("c"),
+            Step::Read("c", 20),
+            Step::Read("c", 2),
+        ],
+        told: "ok failed 4 failed xt ",
+    },
+    Story {
+        title: "after a create that failed the next one waits",
+        steps: &[
+            Step::Folder(""),
+            Step::Put("c", "text"),
+            Step::Create("c", 9),
+            Step::Create("d", 9),
+            Step::Wait(60),
+            Step::Create("d", 9),
+            Step::Create("e", 9),
+        ],
+        told: "failed failed ok ok ",
+    },
+    Story {
+        title: "a file in the way of a folder is a fault",
+        steps: &[
+            Step::Create("a", 4),
+            Step::Create("a/b", 4),
+            Step::Length("a/b"),
+        ],
+        told: "ok failed none ",
+    },
+    Story {
+        title: "a file under the name of a folder is a fault",
+        steps: &[
+            Step::Create("a/b", 4),
+            Step::Create("a", 4),
+            Step::Read("a", 0),
+        ],
+        told: "ok failed failed ",
+    },
+];
+
+// A disk whose folder takes no files is told at once.
+const TRIED: [Story; 2] = [
+    Story {
+        title: "a folder that is tried is made, and has no names",
+        steps: &[
+            Step::Over(Kind::ToBeWritten, ""),
+            Step::Names,
+            Step::Put("d", "text"),
+            Step::Remove("d"),
+            Step::Over(Kind::Data, ""),
+            Step::Names,
+        ],
+        told: "[] [] ",
+    },
+    Story {
+        title: "a file in the place of a folder is a fault",
+        steps: &[
+            Step::Folder(""),
+            Step::Put("file", "x"),
+            Step::Over(Kind::ToBeWritten, "file"),
+            Step::Names,
+            Step::Over(Kind::Data, "file"),
+            Step::Names,
+        ],
+        told: "failed failed ",
+    },
+];
+
+const LINKED: [Story; 1] = [Story {
+    title: "settings are read behind a link, and data is not",
+    steps: &[
+        Step::Folder("inner"),
+        Step::Put("inner/d", "text"),
+        Step::Link("inner/d", "c"),
+        Step::Over(Kind::Settings, ""),
+        Step::Length("c"),
+        Step::Read("c", 1),
+        Step::Over(Kind::Data, ""),
+        Step::Length("c"),
+    ],
+    told: "4 ex failed ",
+}];
+
+// The name of a file that lies two folders deep.
+const DEEP: &str = "a/b/c.ring";
+
+// It has 5,000 bytes that differ, from place 100 on, and 7 around them.
+const LONG: [Story; 1] = [Story {
+    title: "the next disk finds a long and deep file",
+    steps: &[
+        Step::Create(DEEP, 8_000),
+        Step::WriteSevens(DEEP, 8_000),
+        Step::WriteLong(DEEP, 100, 5_100),
+        Step::Over(Kind::Data, ""),
+        Step::IsLong(DEEP, 0, 8_000),
+        Step::IsLong(DEEP, 95, 105),
+        Step::IsLong(DEEP, 4_190, 4_210),
+        Step::IsLong(DEEP, 5_095, 5_105),
+    ],
+    told: "ok ok ok ok ok ok ok ",
+}];
+
+// ---- a story's run
+
+// The place of a name in a folder, or the folder where the name is empty.
+fn place_of(alloc: Global, folder: &str, name: &str) -> Result<String, AllocError> {
+    let mut place = String::from_str(alloc, folder)?;
+    if !name.is_empty() {
+        place.push('/')?;
+        place.push_str(name)?;
+    }
+    Ok(place)
+}
+
+fn disk_of(rt: HostRuntime, kind: Kind, folder: String) -> FolderDisk<HostRuntime> {
+    match kind {
+        Kind::Data => FolderDisk::new(rt, folder),
+        Kind::Settings => FolderDisk::of_settings(rt, folder),
+        Kind::ToBeWritten => FolderDisk::to_be_written(rt, folder),
+    }
+}
+
+fn new_disk(
+    rt: &HostRuntime,
+    folder: &str,
+    kind: Kind,
+    name: &str,
+) -> Result<FolderDisk<HostRuntime>, AllocError> {
+    Ok(disk_of(*rt, kind, place_of(rt.alloc(), folder, name)?))
+}
+
+// What the calls of a story's disks tell, each with a blank behind it.
+fn told(rt: &HostRuntime, folder: &str, steps: &[Step]) -> Result<String, AllocError> {
+    let mut disk = new_disk(rt, folder, Kind::Data, "")?;
+    let mut told = String::new(rt.alloc());
+    for step in steps {
+        match step {
+            Step::Over(kind, name) => disk = new_disk(rt, folder, *kind, name)?,
+            step => tell(rt, folder, &mut told, &mut disk, step)?,
+        }
+    }
+    Ok(told)
+}
+
+fn tell(
+    rt: &HostRuntime,
+    folder: &str,
+    told: &mut String,
+    disk: &mut FolderDisk<HostRuntime>,
+    step: &Step,
+) -> Result<(), AllocError> {
+    match step {
+        Step::Names => tell_names(told, disk),
+        Step::Length(name) => tell_length(told, disk, name),
+        Step::Create(name, len) => tell_end(told, disk.create(name, *len).is_ok()),
+        Step::Read(name, at) => tell_bytes(told, disk, name, *at),
+        Step::Write(name, at, piece) => {
+            tell_end(told, disk.write_at(name, *at, piece.as_bytes()).is_ok())
+        }
+        Step::WriteSevens(name, len) => tell_end(told, write_sevens(rt.alloc(), disk, name, *len)?),
+        Step::WriteLong(name, first, end) => {
+            tell_end(told, write_long(rt.alloc(), disk, name, *first, *end)?)
+        }
+        Step::IsLong(name, first, end) => {
+            tell_end(told, is_long(rt.alloc(), disk, name, *first, *end)?)
+        }
+        step => tell_deed(told, act(rt, folder, step).is_ok()),
+    }
+}
+
+fn tell_end(told: &mut String, is_ok: bool) -> Result<(), AllocError> {
+    told.push_str(if is_ok { "ok " } else { "failed " })
+}
+
+// What others do is not told, unless it cannot be done.
+fn tell_deed(told: &mut String, is_done: bool) -> Result<(), AllocError> {
+    told.push_str(if is_done { "" } else { "impossible " })
+}
+
+fn tell_names(told: &mut String, disk: &mut FolderDisk<HostRuntime>) -> Result<(), AllocError> {
+    let Ok(mut names) = disk.names() else {
+        return told.push_str("failed ");
+    };
+    names.sort()?;
+    push_names(told, &names)
+}
+
+fn push_names(told: &mut String, names: &[String]) -> Result<(), AllocError> {
+    told.push('[')?;
+    for (at, name) in names.iter().enumerate() {
+        told.push_str(if at == 0 { "" } else { "," })?;
+        told.push_str(name.as_str())?;
+    }
+    told.push_str("] ")
+}
+
+fn tell_length(
+    told: &mut String,
+    disk: &mut FolderDisk<HostRuntime>,
+    name: &str,
+) -> Result<(), AllocError> {
+    match disk.length(name) {
+        Ok(Some(length)) => write!(told, "{length} "),
+        Ok(None) => told.push_str("none "),
+        Err(_) => told.push_str("failed "),
+    }
+}
+
+fn tell_bytes(
+    told: &mut String,
+    disk: &mut FolderDisk<HostRuntime>,
+    name: &str,
+    at: u64,
+) -> Result<(), AllocError> {
+    let mut bytes = [b'?'; 2];
+    if disk.read_at(name, at, &mut bytes).is_err() {
+        return told.push_str("failed ");
+    }
+    push_byte(told, bytes[0])?;
+    push_byte(told, bytes[1])?;
+    told.push(' ')
+}
+
+fn push_byte(told: &mut String, byte: u8) -> Result<(), AllocError> {
+    match byte {
+        0 => told.push_str("\\0"),
+        byte => told.push(char::from(byte)),
+    }
+}
+
+// The byte of a long file at a place.
+fn long_byte(place: usize) -> u8 {
+    if 100 <= place && place < 5_100 {
+        return (place % 251) as u8;
+    }
+    7
+}
+
+fn long_bytes(alloc: Global, first: usize, end: usize) -> Result<Vec<u8>, AllocError> {
+    let mut bytes = Vec::new(alloc);
+    for place in first..end {
+        bytes.push(long_byte(place))?;
+    }
+    Ok(bytes)
+}
+
+fn write_sevens(
+    alloc: Global,
+    disk: &mut FolderDisk<HostRuntime>,
+    name: &str,
+    len: usize,
+) -> Result<bool, AllocError> {
+    let bytes = vec![in alloc; 7; len]?;
+    Ok(disk.write_at(name, 0, &bytes).is_ok())
+}
+
+fn write_long(
+    alloc: Global,
+    disk: &mut FolderDisk<HostRuntime>,
+    name: &str,
+    first: usize,
+    end: usize,
+) -> Result<bool, AllocError> {
+    let bytes = long_bytes(alloc, first, end)?;
+    Ok(disk.write_at(name, first as u64, &bytes).is_ok())
+}
+
+fn is_long(
+    alloc: Global,
+    disk: &mut FolderDisk<HostRuntime>,
+    name: &str,
+    first: usize,
+    end: usize,
+) -> Result<bool, AllocError> {
+    let wanted = long_bytes(alloc, first, end)?;
+    let mut held = vec![in alloc; b'?'; wanted.len()]?;
+    let is_read = disk.read_at(name, first as u64, &mut held).is_ok();
+    Ok(is_read && held == wanted)
+}
+
+// What another process does.
+fn act(rt: &HostRuntime, folder: &str, step: &Step) -> io::Result<()> {
+    match step {
+        Step::Wait(millis) => {
+            thread::sleep(rt, Duration::from_millis(*millis));
+            Ok(())
+        }
+        Step::Rename(from, to) => rename(rt, folder, from, to),
+        step => act_at(
+            rt,
+            place_of(rt.alloc(), folder, name_of(step))?.as_str(),
+            step,
+        ),
+    }
+}
+
+fn rename(rt: &HostRuntime, folder: &str, from: &str, to: &str) -> io::Result<()> {
+    let from = place_of(rt.alloc(), folder, from)?;
+    fs::rename(
+        rt,
+        from.as_str(),
+        place_of(rt.alloc(), folder, to)?.as_str(),
+    )
+}
+
+// The name that another process makes or removes.
+fn name_of(step: &Step) -> &'static str {
+    match step {
+        Step::Link(_, name) | Step::Put(name, _) | Step::Remove(name) | Step::Folder(name) => name,
+        _ => "",
+    }
+}
+
+fn act_at(rt: &HostRuntime, place: &str, step: &Step) -> io::Result<()> {
+    match step {
+        Step::Link(to, _) => symlink(rt, *to, place),
+        Step::Put(_, text) => fs::write(rt, place, text.as_bytes()),
+        Step::Remove(_) => fs::remove_file(rt, place),
+        Step::Folder(_) => fs::create_dir_all(rt, place),
+        _ => Ok(()),
+    }
+}
+
+// ---- the tests
+
+fn assert_story(
+    rt: &impl Abort,
+    host: &HostRuntime,
+    folder: &str,
+    story: &Story,
+) -> Result<(), Fail> {
+    let told = told(host, folder, story.steps)?;
+    assert!(rt; told.as_str() == story.told, "{}: {told}", story.title);
+    Ok(())
+}
+
+// Each story of a folder that is not there, in an outer one that is empty.
+fn assert_stories(
+    rt: &impl Abort,
+    host: &HostRuntime,
+    outer: &str,
+    folder: &str,
+    stories: &[Story],
+) -> Result<(), Fail> {
+    for story in stories {
+        let _ = fs::remove_dir_all(host, outer);
+        let _ = fs::create_dir(host, outer);
+        assert_story(rt, host, folder, story)?;
+    }
+    Ok(())
+}
+
+#[test]
+fn a_folder_is_a_disk_while_others_use_it(rt: HostRuntime) -> Result<(), Fail> {
+    assert_stories(
+        &rt,
+        &rt,
+        "folder_disk_story",
+        "folder_disk_story/disk",
+        &STORIES,
+    )
+}
+
+#[test]
+fn a_folder_that_takes_no_files_is_told_at_once(rt: HostRuntime) -> Result<(), Fail> {
+    assert_stories(
+        &rt,
+        &rt,
+        "folder_disk_tried",
+        "folder_disk_tried/disk",
+        &TRIED,
+    )
+}
+
+#[test]
+fn settings_may_be_links(rt: HostRuntime) -> Result<(), Fail> {
+    assert_stories(
+        &rt,
+        &rt,
+        "folder_disk_settings",
+        "folder_disk_settings/disk",
+        &LINKED,
+    )
+}
+
+#[test]
+fn the_next_disk_of_a_folder_finds_long_and_deep_files(rt: HostRuntime) -> Result<(), Fail> {
+    assert_stories(&rt, &rt, "folder_disk_deep", "folder_disk_deep/disk", &LONG)
+}
