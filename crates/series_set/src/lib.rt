@@ -1,6 +1,7 @@
 //! Series as the render API has them, lists of them, and the grids to which they are brought.
 #![tactic(auto)]
 
+mod allowance;
 mod averaging;
 mod common;
 mod grid;
@@ -11,6 +12,7 @@ mod series;
 mod set;
 mod thinning;
 
+pub use allowance::{Allowance, Size};
 pub use averaging::average_known;
 pub use common::{check_pair, common_grid, common_step};
 pub use grid::{EvalFault, Grid};

@@ -4,6 +4,7 @@ ghost use Rattle.series_set.specs.CommonGrid.{has_grid};
 ghost use Rattle.series_set.specs.OnGrid.{IsPlaceOf};
 ghost use Rattle.series_set.specs.Series.{IsSeries, SeriesValue, end_of, latest_end, most_values};
 
+use crate::allowance::Size;
 use crate::grid::Grid;
 use fixed_num::Milli;
 use std::alloc::AllocError;
@@ -17,6 +18,9 @@ pub const LATEST_END: u64 = 1 << 62;
 
 /// The widest step of series that are brought to a common grid, in seconds: those of 365 days.
 pub const WIDEST_STEP: u64 = 31_536_000;
+
+// What a series takes beside its texts and its values: the struct, and what the heap adds to three pieces.
+const SERIES_BYTES: usize = 160;
 
 /// Values of neighbouring moments, in thousandths, `None` where one is missing. The first is of the moment `start`, in seconds since the
 /// Unix epoch, and each further one of `step` seconds later.
@@ -159,6 +163,13 @@ impl Series {
         ensures legal { IsSeries self.now }
     {
         self.values.as_slice()
+    }
+
+    /// What the series takes.
+    pub fn size(&self) -> Size {
+        let path = Size::of_text(self.path.len().saturating_add(SERIES_BYTES));
+        let texts = Size::of_name(self.name.len()).plus(path);
+        texts.plus(Size::of_values(self.values.len() as u64))
     }
 
     /// Whether the series has the start, the end and the step of a grid.

@@ -1,6 +1,7 @@
 //! Lists of series.
 ghost use Rattle.std.specs.Prelude.{◌≡◌, ◌++◌, [], ◌∷◌, OnOk, OnErr, length, slice_get, option_map};
 
+use crate::allowance::Size;
 use crate::series::Series;
 use std::alloc::{AllocError, Global};
 use std::marker::Model;
@@ -65,6 +66,15 @@ impl SeriesSet {
         ensures { result ≡ length self.now }
     {
         self.items.len()
+    }
+
+    /// What the series take.
+    pub fn size(&self) -> Size {
+        let mut size = Size::of_text(0);
+        for series in &self.items {
+            size = size.plus(series.size());
+        }
+        size
     }
 }
 

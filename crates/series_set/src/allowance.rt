@@ -1,0 +1,119 @@
+//! The memory that one question may use.
+ghost use Rattle.std.specs.Prelude.{◌≡◌, ◌+◌, OnErr, OnOk};
+
+use std::alloc::AllocError;
+
+/// Bytes that something takes: those of names, and all others.
+#[derive(Clone, Copy, Debug, PartialEq, Eq)]
+pub struct Size {
+    /// Those of the names of series.
+    pub names: u64,
+    /// Those of values, paths and texts.
+    pub others: u64,
+}
+
+// A value that may be missing.
+const VALUE_BYTES: u64 = 16;
+
+impl Size {
+    /// So many values.
+    pub fn of_values(count: u64) -> Size {
+        Size {
+            names: 0,
+            others: count.saturating_mul(VALUE_BYTES),
+        }
+    }
+
+    /// A name of so many bytes.
+    pub fn of_name(bytes: usize) -> Size
+        ensures { result ≡ record { names = bytes; others = 0 } }
+    {
+        Size {
+            names: bytes as u64,
+            others: 0,
+        }
+    }
+
+    /// A text of so many bytes.
+    pub fn of_text(bytes: usize) -> Size
+        ensures { result ≡ record { names = 0; others = bytes } }
+    {
+        Size {
+            names: 0,
+            others: bytes as u64,
+        }
+    }
+
+    /// Both together, or the most that there is.
+    pub fn plus(self, other: Size) -> Size {
+        Size {
+            names: self.names.saturating_add(other.names),
+            others: self.others.saturating_add(other.others),
+        }
+    }
+}
+
+/// What the series and the text of one question may still take.
+#[derive(Clone, Copy, Debug, PartialEq, Eq)]
+pub struct Allowance {
+    left: Size,
+}
+
+// The part of the bytes that is for names.
+const NAMES_PART: u64 = 16;
+
+impl Allowance {
+    /// So many bytes, of which a sixteenth is for names.
+    pub fn new(bytes: u64) -> Allowance {
+        let names = bytes / NAMES_PART;
+        Allowance {
+            left: Size {
+                names,
+                others: bytes - names,
+            },
+        }
+    }
+
+    /// How many bytes of names may still be taken.
+    pub fn names_left(&self) -> u64
+        ensures { result ≡ self.now.left.names }
+    {
+        self.left.names
+    }
+
+    /// Whether so many bytes are left, which stay so. Else that is want of memory.
+    pub fn bear(&self, size: Size) -> Result<(), AllocError> {
+        let mut left = *self;
+        left.take(size)
+    }
+
+    /// Takes so many bytes. Where fewer are left that is want of memory, and as many are left as before.
+    pub fn take(&mut self, size: Size) -> Result<(), AllocError>
+        ensures names { OnOk result (self.new.left.names + size.names ≡ self.old.left.names) }
+        ensures others { OnOk result (self.new.left.others + size.others ≡ self.old.left.others) }
+        ensures err { OnErr result (self.new ≡ self.old) }
+    {
+        if size.names > self.left.names || size.others > self.left.others {
+            return Err(AllocError);
+        }
+        self.left = Size {
+            names: self.left.names - size.names,
+            others: self.left.others - size.others,
+        };
+        Ok(())
+    }
+
+    /// Takes a name of so many bytes that a series gets instead of one of `before` bytes.
+    pub fn take_name(&mut self, bytes: usize, before: usize) -> Result<(), AllocError>
+        ensures { OnErr result (self.new ≡ self.old) }
+    {
+        self.take(Size::of_name(bytes))?;
+        self.give_back(Size::of_name(before));
+        Ok(())
+    }
+
+    /// Gives bytes back that were taken.
+    pub fn give_back(&mut self, size: Size) {
+        self.left = self.left.plus(size);
+    }
+}
