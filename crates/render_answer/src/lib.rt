@@ -6,5 +6,5 @@ mod answering;
 mod refusal;
 
 pub use answer::{Answer, Text};
-pub use answering::answer_rows;
+pub use answering::{ANSWER_BYTES, answer_rows, answer_within};
 pub use refusal::Refusal;

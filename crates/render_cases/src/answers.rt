@@ -4,9 +4,9 @@ use crate::notation::series_from;
 use crate::plans::read_plan;
 use crate::rows::{may_be_evaluated, rows_found};
 use case_lines::{Case, CaseFault};
-use render_answer::{Answer, Refusal, answer_rows};
+use render_answer::{Answer, Refusal, answer_rows, answer_within};
 use render_plan::RenderPlan;
-use series_set::SeriesSet;
+use series_set::{Allowance, SeriesSet};
 use std::alloc::Global;
 
 /// `ask QUERY SERIES..`: the body of the query's answer, or `refused` and why there is none. Each path of its targets finds those of the
@@ -27,6 +27,21 @@ fn answer_of(alloc: Global, plan: &RenderPlan, series: &SeriesSet) -> Result<Ans
         return Err(CaseFault::Malformed);
     }
     Ok(answer_rows(alloc, plan, rows)?)
+}
+
+/// `within BYTES QUERY SERIES..`: the same where the answer may take so many bytes; `no memory` where it takes more.
+pub fn tell_answer_within(alloc: Global, told: &mut String, case: &Case) -> Result<(), CaseFault> {
+    let Ok(plan) = read_plan(alloc, case.bytes(1)?, b"") else {
+        return Err(CaseFault::Malformed);
+    };
+    let rows = rows_found(alloc, plan.needs(), &series_from(alloc, case, 2)?)?;
+    if !may_be_evaluated(&rows) {
+        return Err(CaseFault::Malformed);
+    }
+    match answer_within(alloc, &plan, rows, Allowance::new(case.number(0)?)) {
+        Ok(answer) => write_answer(alloc, told, &answer),
+        Err(_) => Ok(told.push_str("no memory")?),
+    }
 }
 
 fn write_answer(alloc: Global, told: &mut String, answer: &Answer) -> Result<(), CaseFault> {

@@ -15,6 +15,7 @@ impl Calls for RenderCalls {
         let mut told = String::new(alloc);
         match case.verb() {
             "ask" => answers::tell_answer(alloc, &mut told, case),
+            "within" => answers::tell_answer_within(alloc, &mut told, case),
             "value" | "names" => values::tell(alloc, &mut told, case),
             "check" | "plan" | "format" => plans::tell(alloc, &mut told, case),
             "fault" | "refusal" => refusals::tell(alloc, &mut told, case),

@@ -2,6 +2,7 @@
 
 use crate::notation::{set_at, write_names};
 use crate::numbers::small_signed;
+use crate::room::plenty;
 use case_lines::{Case, CaseFault};
 use fixed_num::Milli;
 use name_pattern::Pattern;
@@ -14,7 +15,7 @@ pub fn tell_choice(alloc: Global, told: &mut String, case: &Case) -> Result<(), 
     let Some(kind) = read_choice(alloc, case)? else {
         return Ok(told.push_str("no pattern")?);
     };
-    let chosen = choose(alloc, &kind, set)?;
+    let chosen = choose(alloc, &kind, set, plenty())?;
     Ok(write_names(told, &chosen)?)
 }
 

@@ -2,6 +2,7 @@
 
 use crate::early::are_combinable;
 use crate::notation::{series_from, set_at, write_found};
+use crate::room::plenty;
 use case_lines::{Case, CaseFault};
 use series_funcs::{Combine, combine, divide};
 use std::alloc::Global;
@@ -21,7 +22,7 @@ fn tell_combined(alloc: Global, told: &mut String, case: &Case) -> Result<(), Ca
     if !are_combinable(set.as_slice()) {
         return Err(CaseFault::Malformed);
     }
-    let found = combine(alloc, kind, &set, case.text(1)?, case.text(2)?);
+    let found = combine(alloc, kind, &set, case.text(1)?, case.text(2)?, plenty());
     Ok(write_found(told, found)?)
 }
 
@@ -46,6 +47,6 @@ fn tell_quotients(alloc: Global, told: &mut String, case: &Case) -> Result<(), C
     if !are_combinable(dividends.as_slice()) || !are_combinable(divisors.as_slice()) {
         return Err(CaseFault::Malformed);
     }
-    let found = divide(alloc, &dividends, &divisors);
+    let found = divide(alloc, &dividends, &divisors, plenty());
     Ok(write_found(told, found)?)
 }

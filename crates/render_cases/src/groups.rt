@@ -4,6 +4,7 @@ use crate::combining::read_combine;
 use crate::early::are_combinable;
 use crate::notation::{set_at, write_found};
 use crate::numbers::small_signed;
+use crate::room::plenty;
 use case_lines::{Case, CaseFault};
 use series_funcs::{NodeNumbers, Regroup, regroup};
 use std::alloc::Global;
@@ -16,7 +17,7 @@ pub fn tell_groups(alloc: Global, told: &mut String, case: &Case) -> Result<(), 
     if !are_combinable(set.as_slice()) {
         return Err(CaseFault::Malformed);
     }
-    let found = regroup(alloc, &kind, &set);
+    let found = regroup(alloc, &kind, &set, plenty());
     Ok(write_found(told, found)?)
 }
 

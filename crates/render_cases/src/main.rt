@@ -14,6 +14,7 @@ mod notation;
 mod numbers;
 mod plans;
 mod refusals;
+mod room;
 mod rows;
 mod shapes;
 mod slow_json;

@@ -4,6 +4,7 @@ ghost use Rattle.series_set.specs.Series.{end_of, latest_end};
 ghost use Rattle.series_funcs.specs.Moved.{HasStep, lateness};
 
 use crate::notation::{set_at, write_found};
+use crate::room::plenty;
 use case_lines::{Case, CaseFault};
 use series_funcs::{CallName, Gather, Shape, shape};
 use series_set::{LATEST_END, Series, WIDEST_STEP};
@@ -22,7 +23,7 @@ pub fn tell_shape(alloc: Global, told: &mut String, case: &Case) -> Result<(), C
         function: "f",
         tail: ",1",
     };
-    Ok(write_found(told, shape(alloc, &kind, set, &call))?)
+    Ok(write_found(told, shape(alloc, &kind, set, &call, plenty()))?)
 }
 
 fn are_early_for(kind: &Shape, series: &[Series]) -> bool

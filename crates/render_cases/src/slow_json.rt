@@ -1,5 +1,6 @@
 //! A slow writer of JSON, which prints each number whole and from the front, and series that are written by it too.
 
+use crate::room::plenty;
 use case_lines::{Case, CaseFault};
 use fixed_num::Milli;
 use render_json::json_text;
@@ -12,14 +13,15 @@ const PLACES: u32 = 399;
 /// `slow-json STEP`: how many series of this step were generated, and whether the slow writer has the same text.
 pub fn tell_sweep(alloc: Global, told: &mut String, case: &Case) -> Result<(), CaseFault> {
     let set = generated_set(alloc, case.number(0)?)?;
-    let text = json_text(alloc, &set)?;
+    let count = set.len();
     let slow = slow_json(alloc, &set)?;
+    let text = json_text(alloc, set, &plenty())?;
     let end = if text.as_slice() == slow.as_bytes() {
         "the same"
     } else {
         "another text"
     };
-    Ok(write!(told, "{} {end}", set.len())?)
+    Ok(write!(told, "{count} {end}")?)
 }
 
 // The whole part, a point, and of three decimals those up to the last that is not 0, but one at least.

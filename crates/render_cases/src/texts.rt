@@ -5,6 +5,7 @@ ghost use Rattle.series_set.specs.Series.{end_of};
 
 use crate::answers::write_text;
 use crate::notation::series_from;
+use crate::room::plenty;
 use case_lines::{Case, CaseFault};
 use render_json::{LATEST_CSV_END, csv_text, json_text, raw_text};
 use serde_json::Value;
@@ -13,18 +14,21 @@ use std::alloc::Global;
 
 /// Tells what the case of one of these verbs tells.
 pub fn tell(alloc: Global, told: &mut String, case: &Case) -> Result<(), CaseFault> {
-    let set = series_from(alloc, case, 0)?;
     match case.verb() {
-        "json" => tell_json(alloc, told, &set),
-        "raw" => write_text(told, raw_text(alloc, &set)?.as_slice()),
-        _ => tell_csv(alloc, told, &set),
+        "json" => tell_json(alloc, told, case),
+        "raw" => {
+            let set = series_from(alloc, case, 0)?;
+            write_text(told, raw_text(alloc, set, &plenty())?.as_slice())
+        }
+        _ => tell_csv(alloc, told, series_from(alloc, case, 0)?),
     }
 }
 
 /// `json SERIES..`: their JSON; behind it ` misread` where a reader of JSON finds other names in it, or other numbers of points.
-fn tell_json(alloc: Global, told: &mut String, set: &SeriesSet) -> Result<(), CaseFault> {
-    let text = json_text(alloc, set)?;
+fn tell_json(alloc: Global, told: &mut String, case: &Case) -> Result<(), CaseFault> {
+    let text = json_text(alloc, series_from(alloc, case, 0)?, &plenty())?;
     write_text(told, text.as_slice())?;
+    let set = series_from(alloc, case, 0)?;
     if !reads_back(alloc, text.as_slice(), set.as_slice()) {
         told.push_str(" misread")?;
     }
@@ -53,11 +57,11 @@ fn is_read(object: &Value, series: &Series) -> bool {
 }
 
 /// `csv SERIES..`: their comma-separated values.
-fn tell_csv(alloc: Global, told: &mut String, set: &SeriesSet) -> Result<(), CaseFault> {
-    if !have_dates(set) {
+fn tell_csv(alloc: Global, told: &mut String, set: SeriesSet) -> Result<(), CaseFault> {
+    if !have_dates(&set) {
         return Err(CaseFault::Malformed);
     }
-    write_text(told, csv_text(alloc, set)?.as_slice())
+    write_text(told, csv_text(alloc, set, &plenty())?.as_slice())
 }
 
 fn have_dates(set: &SeriesSet) -> bool

@@ -2,6 +2,7 @@
 
 use crate::notation::{write_named, write_names};
 use crate::plans::read_plan;
+use crate::room::plenty;
 use crate::rows::{may_be_evaluated, rows_from};
 use case_lines::{Case, CaseFault};
 use series_set::{EvalFault, SeriesSet};
@@ -17,7 +18,7 @@ pub fn tell(alloc: Global, told: &mut String, case: &Case) -> Result<(), CaseFau
     if rows.len() != plan.needs().len() || !may_be_evaluated(&rows) {
         return Err(CaseFault::Malformed);
     }
-    let found = plan.evaluate(alloc, rows);
+    let found = plan.evaluate(alloc, rows, &mut plenty());
     Ok(write_value(told, case.verb(), found)?)
 }
 

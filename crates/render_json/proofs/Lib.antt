@@ -1,2 +1,3 @@
 mod BackwardLemmas
 mod DateLemmas
+mod JoinLemmas

@@ -7,10 +7,10 @@ ghost use Rattle.render_json.specs.Values.{points_of};
 ghost use Rattle.series_set.specs.Series.{end_of};
 
 use crate::backward::{put, put_pair};
-use crate::parts::{VALUE_ROOM, put_value_or};
+use crate::parts::{put_value_or, values_room};
 use fixed_num::Milli;
 use jiff_core::civil::Date;
-use series_set::{Series, SeriesSet};
+use series_set::{Allowance, Series, SeriesSet, Size};
 use std::alloc::{AllocError, Global};
 
 /// The latest end of series that have a text of comma-separated values, in seconds since the Unix epoch.
@@ -21,14 +21,17 @@ const FIELDS_ROOM: usize = 44;
 
 /// Series as comma-separated values: for each value a line `name,YYYY-MM-DD HH:MM:SS,value`, ended by CR and LF,
 /// with the time at UTC and nothing for a missing value. A name with a comma, a double quote, a CR
-/// or an LF stands in double quotes, each double quote in it twice. Without values the text is empty.
-pub fn csv_text(alloc: Global, set: &SeriesSet) -> Result<Vec<u8>, AllocError>
-    requires { All (λ s. end_of s ≤ latest_csv_end) set.now }
-    ensures { IfOk result (λ text. text.items ≡ csv_of set.now) }
+/// or an LF stands in double quotes, each double quote in it twice. Without values the text is empty. A text for which there is no room is
+/// want of memory. Each series goes as soon as its text stands.
+pub fn csv_text(alloc: Global, set: SeriesSet, room: &Allowance) -> Result<Vec<u8>, AllocError>
+    requires { All (λ s. end_of s ≤ latest_csv_end) set }
+    ensures { IfOk result (λ text. text.items ≡ csv_of set) }
 {
-    let mut out = Vec::with_capacity(alloc, room_of(set.as_slice()))?;
-    for series in set.as_slice() {
-        push_series(alloc, &mut out, series)?;
+    let most = room_of(set.as_slice());
+    room.bear(Size::of_text(most))?;
+    let mut out = Vec::with_capacity(alloc, most)?;
+    for series in set.into_vec() {
+        push_series(alloc, &mut out, &series)?;
     }
     Ok(out)
 }
@@ -42,11 +45,19 @@ fn room_of(set: &[Series]) -> usize {
     room
 }
 
-// A byte of a name takes at most two, and what stands beside name and value 23.
+// What stands beside name and value takes 23 bytes.
 fn series_room(series: &Series) -> usize {
-    let name = series.name().len().saturating_mul(2);
-    let line = name.saturating_add(VALUE_ROOM + 25);
-    series.values().len().saturating_mul(line)
+    let line = field_room(series.name().as_bytes()).saturating_add(23);
+    let lines = series.values().len().saturating_mul(line);
+    values_room(series.values(), 0).saturating_add(lines)
+}
+
+// A byte of a name in quotes takes at most two.
+fn field_room(name: &[u8]) -> usize {
+    if any_needs_quotes(name) {
+        return name.len().saturating_mul(2).saturating_add(2);
+    }
+    name.len()
 }
 
 fn push_series(alloc: Global, out: &mut Vec<u8>, series: &Series) -> Result<(), AllocError>

@@ -5,10 +5,10 @@ ghost use Rattle.render_json.specs.Json.{datapoints_text, json_of, null_text, po
 ghost use Rattle.render_json.specs.Values.{joined, separator, value_or};
 
 use crate::backward::{put, put_number, set_pair};
-use crate::parts::{NUMBER_ROOM, VALUE_ROOM, push_separator, put_value_or};
+use crate::parts::{number_room, push_separator, put_value_or, values_room};
 use fixed_num::Milli;
 use serde_json::Value;
-use series_set::{Series, SeriesSet};
+use series_set::{Allowance, Series, SeriesSet, Size};
 use std::alloc::{AllocError, Global};
 
 // The most bytes of a point with the separator before it.
@@ -19,13 +19,16 @@ const TEXT_ROOM: usize = 96;
 
 /// Series as JSON: a list of objects with the `target`, which is the series' name, and the `datapoints`,
 /// each `[value, time]` with `null` for a missing value and the time in seconds since the Unix epoch.
-/// Where there are no series it is `[]`; a series without values has the datapoints `[]`.
-pub fn json_text(alloc: Global, set: &SeriesSet) -> Result<Vec<u8>, AllocError>
-    ensures { IfOk result (λ text. text.items ≡ json_of set.now) }
+/// Where there are no series it is `[]`; a series without values has the datapoints `[]`. A text for which there is no room is want of memory.
+/// Each series goes as soon as its text stands.
+pub fn json_text(alloc: Global, set: SeriesSet, room: &Allowance) -> Result<Vec<u8>, AllocError>
+    ensures { IfOk result (λ text. text.items ≡ json_of set) }
 {
-    let mut out = Vec::with_capacity(alloc, room_of(set.as_slice()))?;
+    let most = room_of(set.as_slice());
+    room.bear(Size::of_text(most))?;
+    let mut out = Vec::with_capacity(alloc, most)?;
     out.push(b'[')?;
-    push_list(alloc, &mut out, set.as_slice())?;
+    push_list(alloc, &mut out, set)?;
     out.push(b']')?;
     Ok(out)
 }
@@ -42,20 +45,22 @@ fn room_of(set: &[Series]) -> usize {
 // A byte of a name takes at most six in a JSON text.
 fn series_room(series: &Series) -> usize {
     let name = series.name().len().saturating_mul(6);
-    let points = series.values().len() * (VALUE_ROOM + NUMBER_ROOM + 6);
-    name.saturating_add(points + 33 + POINT_ROOM)
+    let beside = number_room(series.end()) + 6;
+    let points = series.values().len().saturating_mul(beside);
+    let values = values_room(series.values(), 4).saturating_add(points);
+    name.saturating_add(values).saturating_add(33 + POINT_ROOM)
 }
 
 // The series with `, ` between each two.
-fn push_list(alloc: Global, out: &mut Vec<u8>, set: &[Series]) -> Result<(), AllocError>
+fn push_list(alloc: Global, out: &mut Vec<u8>, set: SeriesSet) -> Result<(), AllocError>
     ensures { OnOk result
-        (out.new.items ≡ out.old.items ++ joined (codes ", ") (map series_json set.now)) }
+        (out.new.items ≡ out.old.items ++ joined (codes ", ") (map series_json set)) }
 {
     let mut is_first = true;
-    for series in set {
+    for series in set.into_vec() {
         push_separator(out, b", ", is_first)?;
         is_first = false;
-        push_series(alloc, out, series)?;
+        push_series(alloc, out, &series)?;
     }
     Ok(())
 }

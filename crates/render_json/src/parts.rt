@@ -7,10 +7,30 @@ use fixed_num::Milli;
 use itoa::Buffer;
 use std::alloc::AllocError;
 
-/// The most bytes of the text of a value, and of a number.
-pub(crate) const VALUE_ROOM: usize = 21;
+/// How many bytes the texts of values take at most, where that of a missing one takes so many.
+pub(crate) fn values_room(values: &[Option<Milli>], missing: usize) -> usize {
+    let mut room: usize = 0;
+    for value in values {
+        room = room.saturating_add(value_room(*value, missing));
+    }
+    room
+}
 
-pub(crate) const NUMBER_ROOM: usize = 20;
+// A value has a digit before the point and three behind it at least, and beside the digits a point and a sign.
+fn value_room(value: Option<Milli>, missing: usize) -> usize {
+    let Some(value) = value else {
+        return missing;
+    };
+    number_room(value.unsigned_abs()).max(4) + 2
+}
+
+/// How many digits a number has at most: the logarithm of 2 to the base 10 is a little less than 1,233 / 4,096.
+pub(crate) fn number_room(number: u64) -> usize
+    ensures { result ≤ 20 }
+{
+    let bits = 64_u32.saturating_sub(number.leading_zeros());
+    (bits * 1_233 / 4_096 + 1) as usize
+}
 
 /// Writes a value, or the word for a missing one, so that it ends at `end`, and answers where it starts.
 #[inline(always)]

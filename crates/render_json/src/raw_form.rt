@@ -4,9 +4,9 @@ ghost use Rattle.render_json.specs.Values.{separator, value_or};
 ghost use Rattle.render_json.specs.Raw.{head_text, none_text, number_text, raw_of, series_raw, values_text};
 
 use crate::backward::put;
-use crate::parts::{NUMBER_ROOM, VALUE_ROOM, push_number, put_value_or};
+use crate::parts::{push_number, put_value_or, values_room};
 use fixed_num::Milli;
-use series_set::{Series, SeriesSet};
+use series_set::{Allowance, Series, SeriesSet, Size};
 use std::alloc::{AllocError, Global};
 
 // The most bytes of a value with the separator before it.
@@ -15,13 +15,16 @@ const ITEM_ROOM: usize = 22;
 /// Series in the raw form: for each a line `name,start,end,step|value,value`, ended by LF, with `None`
 /// for a missing value. The start and the end are seconds since the Unix epoch, the end a step behind
 /// the last value's time. The name is not quoted, so that one with a `,`, a `|` or an LF gives a line
-/// that cannot be cut again. Without series the text is empty.
-pub fn raw_text(alloc: Global, set: &SeriesSet) -> Result<Vec<u8>, AllocError>
-    ensures { IfOk result (λ text. text.items ≡ raw_of set.now) }
+/// that cannot be cut again. Without series the text is empty. A text for which there is no room is want of memory. Each
+/// series goes as soon as its text stands.
+pub fn raw_text(alloc: Global, set: SeriesSet, room: &Allowance) -> Result<Vec<u8>, AllocError>
+    ensures { IfOk result (λ text. text.items ≡ raw_of set) }
 {
-    let mut out = Vec::with_capacity(alloc, room_of(set.as_slice()))?;
-    for series in set.as_slice() {
-        push_series(&mut out, series)?;
+    let most = room_of(set.as_slice());
+    room.bear(Size::of_text(most))?;
+    let mut out = Vec::with_capacity(alloc, most)?;
+    for series in set.into_vec() {
+        push_series(&mut out, &series)?;
     }
     Ok(out)
 }
@@ -35,12 +38,15 @@ fn room_of(set: &[Series]) -> usize {
     room
 }
 
+// Three numbers of at most 20 digits and five signs stand beside the name and the values.
 fn series_room(series: &Series) -> usize {
-    let values = series.values().len() * (VALUE_ROOM + 1);
+    let separators = series.values().len();
+    let values = values_room(series.values(), 4).saturating_add(separators);
     series
         .name()
         .len()
-        .saturating_add(values + 3 * NUMBER_ROOM + 5)
+        .saturating_add(values)
+        .saturating_add(65)
 }
 
 fn push_series(out: &mut Vec<u8>, series: &Series) -> Result<(), AllocError>

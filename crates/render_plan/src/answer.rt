@@ -15,18 +15,19 @@ use crate::apply::concat;
 use crate::needs::MOST_DEPTH;
 use crate::settings::{Format, Settings};
 use crate::target::Target;
-use crate::value::values_of;
-use series_set::{EvalFault, SeriesSet, thin};
+use crate::value::{exchange, size_of, values_of};
+use series_set::{Allowance, EvalFault, SeriesSet, thin};
 use std::alloc::{AllocError, Global};
 use std::collections::VecDeque;
 
-/// The series of targets in order, over a row of series for each of their paths.
+/// The series of targets in order, over a row of series for each of their paths. Their room stays taken.
 #[tactic(auto, using(crate::proofs::ValueLemmas::thinnable))]
 pub(crate) fn answer_of(
     alloc: Global,
     targets: &Vec<Target>,
     settings: &Settings,
     rows: Vec<SeriesSet>,
+    room: &mut Allowance,
 ) -> Result<SeriesSet, EvalFault>
     requires sound { AreSound most_depth (terms_of targets.now.items) }
     requires some { IfSome settings.now.points (λ points. 1 ≤ points) }
@@ -38,11 +39,14 @@ pub(crate) fn answer_of(
     ensures early { IfOk result (λ set. settings.now.format ≡ Csv
         → All (λ s. end_of s ≤ latest_csv_end) set) }
 {
+    room.take(size_of(&rows))?;
     let mut left = VecDeque::from_vec(rows);
-    let sets = values_of(alloc, targets, &mut left, MOST_DEPTH)?;
+    let sets = values_of(alloc, targets, &mut left, MOST_DEPTH, room)?;
     let all = concat(alloc, sets)?;
+    let before = all.size();
     let most = most_of(settings.format, settings.points);
     let answer = thinned_all(alloc, most, all)?;
+    exchange(room, before, &answer)?;
     Ok(answer)
 }
 

@@ -13,14 +13,15 @@ ghost use Rattle.render_plan.specs.Values.{Applies, concat, nth, or_else};
 use crate::operation::Operation;
 use series_funcs::{CallName, Combine, Regroup, Shape, combine, divide, regroup, shape};
 use series_pick::{Choose, choose};
-use series_set::{EvalFault, SeriesSet};
+use series_set::{Allowance, EvalFault, SeriesSet};
 use std::alloc::{AllocError, Global};
 
-/// What a call makes of the series of its arguments.
+/// What a call makes of the series of its arguments, in the room that is left beside them.
 pub(crate) fn applied(
     alloc: Global,
     operation: &Operation,
     sets: Vec<SeriesSet>,
+    room: Allowance,
 ) -> Result<SeriesSet, EvalFault>
     requires sound { IsSoundOperation operation.now }
     requires limited { AreLimited (concat sets.items) }
@@ -31,9 +32,9 @@ pub(crate) fn applied(
 {
     match operation {
         Operation::Combine { kind, name, path } => {
-            return combined(alloc, *kind, sets, name.as_str(), path.as_str());
+            return combined(alloc, *kind, sets, name.as_str(), path.as_str(), room);
         }
-        Operation::Divide => return divided(alloc, sets),
+        Operation::Divide => return divided(alloc, sets, room),
         Operation::Group => return Ok(grouped(alloc, sets)?),
         Operation::Fallback => return Ok(first_or_second(alloc, sets)),
         Operation::Shape {
@@ -45,10 +46,10 @@ pub(crate) fn applied(
                 function: function.as_str(),
                 tail: tail.as_str(),
             };
-            return shaped(alloc, kind, sets, &call);
+            return shaped(alloc, kind, sets, &call, room);
         }
-        Operation::Choose { kind } => return Ok(chosen(alloc, kind, sets)?),
-        Operation::Regroup { kind } => return regrouped(alloc, kind, sets),
+        Operation::Choose { kind } => return Ok(chosen(alloc, kind, sets, room)?),
+        Operation::Regroup { kind } => return regrouped(alloc, kind, sets, room),
     }
 }
 
@@ -59,6 +60,7 @@ fn combined(
     sets: Vec<SeriesSet>,
     name: &str,
     path: &str,
+    room: Allowance,
 ) -> Result<SeriesSet, EvalFault>
     requires { AreLimited (concat sets.items) }
     ensures ok { IfOk result (λ set. combine kind (concat sets.items) name.now path.now ≡ Ok set) }
@@ -67,12 +69,12 @@ fn combined(
     ensures made { IfOk result (IsMade (concat sets.items)) }
 {
     let all = concat(alloc, sets)?;
-    let set = combine(alloc, kind, &all, name, path)?;
+    let set = combine(alloc, kind, &all, name, path, room)?;
     Ok(set)
 }
 
 #[tactic(auto, using(crate::proofs::ApplyLemmas::combinable_first, crate::proofs::ApplyLemmas::combinable_second, crate::proofs::ApplyLemmas::divided_made))]
-fn divided(alloc: Global, sets: Vec<SeriesSet>) -> Result<SeriesSet, EvalFault>
+fn divided(alloc: Global, sets: Vec<SeriesSet>, room: Allowance) -> Result<SeriesSet, EvalFault>
     requires { AreLimited (concat sets.items) }
     ensures ok { IfOk result (λ set. divide (nth sets.items 0) (nth sets.items 1) ≡ Ok set) }
     ensures err { IfErr result (λ fault. fault ≢ NoMemory
@@ -82,7 +84,7 @@ fn divided(alloc: Global, sets: Vec<SeriesSet>) -> Result<SeriesSet, EvalFault>
     let none = SeriesSet::new(alloc);
     let dividends = nth(sets.as_slice(), 0, &none);
     let divisors = nth(sets.as_slice(), 1, &none);
-    let set = divide(alloc, dividends, divisors)?;
+    let set = divide(alloc, dividends, divisors, room)?;
     Ok(set)
 }
 
@@ -114,6 +116,7 @@ fn shaped(
     kind: &Shape,
     sets: Vec<SeriesSet>,
     call: &CallName,
+    room: Allowance,
 ) -> Result<SeriesSet, EvalFault>
     requires sound { IsSoundShape kind.now }
     requires limited { AreLimited (concat sets.items) }
@@ -124,22 +127,32 @@ fn shaped(
     ensures made { IfOk result (IsMade (concat sets.items)) }
 {
     let first = taken(alloc, sets, 0);
-    let set = shape(alloc, kind, first, call)?;
+    let set = shape(alloc, kind, first, call, room)?;
     Ok(set)
 }
 
 #[tactic(auto, using(crate::proofs::ApplyLemmas::choice_made))]
-fn chosen(alloc: Global, kind: &Choose, sets: Vec<SeriesSet>) -> Result<SeriesSet, AllocError>
+fn chosen(
+    alloc: Global,
+    kind: &Choose,
+    sets: Vec<SeriesSet>,
+    room: Allowance,
+) -> Result<SeriesSet, AllocError>
     ensures value { IfOk result (Chooses kind.now (nth sets.items 0)) }
     ensures made { IfOk result (IsMade (concat sets.items)) }
 {
     let first = taken(alloc, sets, 0);
-    let set = choose(alloc, kind, first)?;
+    let set = choose(alloc, kind, first, room)?;
     Ok(set)
 }
 
 #[tactic(auto, using(crate::proofs::ApplyLemmas::combinable_first, crate::proofs::ApplyLemmas::regrouped_made))]
-fn regrouped(alloc: Global, kind: &Regroup, sets: Vec<SeriesSet>) -> Result<SeriesSet, EvalFault>
+fn regrouped(
+    alloc: Global,
+    kind: &Regroup,
+    sets: Vec<SeriesSet>,
+    room: Allowance,
+) -> Result<SeriesSet, EvalFault>
     requires { AreLimited (concat sets.items) }
     ensures ok { IfOk result (λ set. regroup kind.now (nth sets.items 0) ≡ Ok set) }
     ensures err { IfErr result (λ fault. fault ≢ NoMemory
@@ -147,7 +160,7 @@ fn regrouped(alloc: Global, kind: &Regroup, sets: Vec<SeriesSet>) -> Result<Seri
     ensures made { IfOk result (IsMade (concat sets.items)) }
 {
     let first = taken(alloc, sets, 0);
-    let set = regroup(alloc, kind, &first)?;
+    let set = regroup(alloc, kind, &first, room)?;
     Ok(set)
 }
 

@@ -8,7 +8,7 @@ use crate::needs::{Ends, needs_of};
 use crate::settings::{Format, Settings, settled};
 use crate::target::Target;
 use crate::targets::targets_or_fault;
-use series_set::{EvalFault, SeriesRows, SeriesSet};
+use series_set::{Allowance, EvalFault, SeriesRows, SeriesSet};
 use std::alloc::Global;
 use std::marker::Model;
 
@@ -98,7 +98,12 @@ impl RenderPlan {
     /// # Errors
     ///
     /// The first fault met, the arguments of a call before it and from the left, and the targets in order.
-    pub fn evaluate(&self, alloc: Global, rows: SeriesRows) -> Result<SeriesSet, EvalFault>
+    pub fn evaluate(
+        &self,
+        alloc: Global,
+        rows: SeriesRows,
+        room: &mut Allowance,
+    ) -> Result<SeriesSet, EvalFault>
         requires { AreRows rows }
         ensures ok { IfOk result (λ set. Answers (plan_seen self.now) rows (Ok set)) }
         ensures err { IfErr result (λ fault. fault ≢ eval.NoMemory
@@ -106,7 +111,7 @@ impl RenderPlan {
         ensures early { IfOk result (λ set. (plan_seen self.now).format ≡ format.Csv
             → All (λ s. end_of s ≤ latest_csv_end) set) }
     {
-        answer_of(alloc, &self.targets, &self.settings, rows.into_vec())
+        answer_of(alloc, &self.targets, &self.settings, rows.into_vec(), room)
     }
 
     /// The form of the answer.

@@ -9,18 +9,19 @@ ghost use Rattle.render_plan.specs.Values.{HasValue, HaveValues, concat, nth, pa
 
 use crate::apply::applied;
 use crate::target::Target;
-use series_set::{EvalFault, SeriesSet};
+use series_set::{Allowance, EvalFault, SeriesSet, Size};
 use std::alloc::{AllocError, Global};
 use std::collections::VecDeque;
 
 /// The values of targets whose calls nest at most so many levels deep, over a row of series for each of their paths. These rows are taken from
-/// the front, and the others are left.
+/// the front, and the others are left. Of the room, which that of the rows is taken from, that of the values stays taken.
 #[cycle(value)]
 pub(crate) fn values_of(
     alloc: Global,
     targets: &Vec<Target>,
     rows: &mut VecDeque<SeriesSet>,
     levels: u32,
+    room: &mut Allowance,
 ) -> Result<Vec<SeriesSet>, EvalFault>
     requires sound { AreSound levels (terms_of targets.now.items) }
     requires deep { levels ≤ most_depth }
@@ -36,7 +37,7 @@ pub(crate) fn values_of(
 {
     let mut sets = Vec::new(alloc);
     for target in targets {
-        let set = value_of(alloc, target, rows, levels)?;
+        let set = value_of(alloc, target, rows, levels, room)?;
         push(&mut sets, set)?;
     }
     Ok(sets)
@@ -49,6 +50,7 @@ fn value_of(
     target: &Target,
     rows: &mut VecDeque<SeriesSet>,
     levels: u32,
+    room: &mut Allowance,
 ) -> Result<SeriesSet, EvalFault>
     requires sound { IsSound levels (term_of target.now) }
     requires deep { levels ≤ most_depth }
@@ -68,11 +70,32 @@ fn value_of(
         }
         Target::Call(operation, targets) => {
             let inner = inner_of(levels);
-            let sets = values_of(alloc, targets, rows, inner)?;
-            let set = applied(alloc, operation, sets)?;
+            let sets = values_of(alloc, targets, rows, inner, room)?;
+            let before = size_of(&sets);
+            let set = applied(alloc, operation, sets, *room)?;
+            exchange(room, before, &set)?;
             return Ok(set);
         }
     }
+}
+
+/// What lists of series take.
+pub(crate) fn size_of(sets: &[SeriesSet]) -> Size {
+    let mut size = Size::of_text(0);
+    for set in sets {
+        size = size.plus(set.size());
+    }
+    size
+}
+
+/// Gives back the room of what series are made of, and takes theirs.
+pub(crate) fn exchange(
+    room: &mut Allowance,
+    before: Size,
+    made: &SeriesSet,
+) -> Result<(), AllocError> {
+    room.give_back(before);
+    room.take(made.size())
 }
 
 // How deep the calls nest within one; that there is one shows again that there is a level for it.

@@ -12,14 +12,14 @@ use crate::quotients::{fitting, times};
 use fixed_num::{Milli, wide};
 use ring_format::Method;
 use rollup::roll;
-use series_set::{EvalFault, Grid, Series, SeriesSet, bucket_value, common_grid};
+use series_set::{Allowance, EvalFault, Grid, Series, SeriesSet, Size, bucket_value, common_grid};
 use std::alloc::{AllocError, Global};
 
 /// The series combined to one of this name and path, on their common grid; no series give none. At each moment it has what the values
 /// of the series have together, in their order: see [`Combine`]. It may be combined again, and ends less than 31,536,000 seconds after
 /// all of these series.
 ///
-/// Errors: those of [`common_grid`], and want of memory.
+/// Errors: those of [`common_grid`], and want of memory, as where there is no room for the values.
 #[tactic(auto, unfolding(crate::specs::Combined::combine))]
 pub fn combine(
     alloc: Global,
@@ -27,6 +27,7 @@ pub fn combine(
     set: &SeriesSet,
     name: &str,
     path: &str,
+    mut room: Allowance,
 ) -> Result<SeriesSet, EvalFault>
     requires { AreCombinable set.now }
     ensures ok { IfOk result (λ together. combine kind set.now name.now path.now ≡ Ok together) }
@@ -36,12 +37,12 @@ pub fn combine(
 {
     let mut together = SeriesSet::new(alloc);
     if set.len() > 0 {
-        together.push(combined_series(alloc, kind, set, name, path)?)?;
+        together.push(combined_series(alloc, kind, set, name, path, &mut room)?)?;
     }
     Ok(together)
 }
 
-/// What some series have together.
+/// What some series have together, for which room is taken.
 #[tactic(auto, unfolding(crate::specs::Combined::combined_series))]
 pub(crate) fn combined_series(
     alloc: Global,
@@ -49,6 +50,7 @@ pub(crate) fn combined_series(
     set: &SeriesSet,
     name: &str,
     path: &str,
+    room: &mut Allowance,
 ) -> Result<Series, EvalFault>
     requires some { 0 < length set.now }
     requires series { AreCombinable set.now }
@@ -59,7 +61,9 @@ pub(crate) fn combined_series(
     ensures bounds { IfOk result (IsSoonAfter set.now) }
 {
     let grid = common_grid(set)?;
+    room.bear(Size::of_values(grid.value_count()))?;
     let series = combined_on(alloc, kind, set, name, path, &grid)?;
+    room.take(series.size())?;
     Ok(series)
 }
 

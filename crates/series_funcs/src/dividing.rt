@@ -12,7 +12,9 @@ use crate::combining::value_at;
 use crate::naming::call_text;
 use crate::quotients::ratio;
 use fixed_num::Milli;
-use series_set::{EvalFault, Grid, Series, SeriesSet, check_pair, common_grid, on_grid};
+use series_set::{
+    Allowance, EvalFault, Grid, Series, SeriesSet, Size, check_pair, common_grid, on_grid,
+};
 use std::alloc::{AllocError, Global};
 
 /// Each dividend over the one divisor, on the common grid of the two: the exact quotient in thousandths, rounded down, and missing where
@@ -24,12 +26,14 @@ use std::alloc::{AllocError, Global};
 /// The quotients may be combined again, and end less than 31,536,000 seconds after all of these series.
 ///
 /// Errors: `StepTooWide` where a dividend's step and the divisor's have no common multiple up to the widest step, with that of the first
-/// such; else that of the first dividend that has no common grid with the divisor; and want of memory.
+/// such; else that of the first dividend that has no common grid with the divisor; and want of memory, as where there is no room for the
+/// quotients.
 #[tactic(auto, unfolding(crate::specs::Divided::divide))]
 pub fn divide(
     alloc: Global,
     dividends: &SeriesSet,
     divisors: &SeriesSet,
+    room: Allowance,
 ) -> Result<SeriesSet, EvalFault>
     requires dividends { AreCombinable dividends.now }
     requires divisors { AreCombinable divisors.now }
@@ -40,9 +44,9 @@ pub fn divide(
 {
     let dividends = dividends.as_slice();
     match divisors.as_slice() {
-        [] => Ok(undivided_all(alloc, dividends, missing_tail())?),
-        [divisor] => divide_by(alloc, dividends, divisor),
-        _ => Ok(undivided_all(alloc, dividends, "")?),
+        [] => Ok(undivided_all(alloc, dividends, missing_tail(), room)?),
+        [divisor] => divide_by(alloc, dividends, divisor, room),
+        _ => Ok(undivided_all(alloc, dividends, "", room)?),
     }
 }
 
@@ -54,7 +58,12 @@ fn missing_tail() -> &'static str
 }
 
 // Each series over one, once each pair has a common step.
-fn divide_by(alloc: Global, dividends: &[Series], divisor: &Series) -> Result<SeriesSet, EvalFault>
+fn divide_by(
+    alloc: Global,
+    dividends: &[Series],
+    divisor: &Series,
+    room: Allowance,
+) -> Result<SeriesSet, EvalFault>
     requires dividends { AreCombinable dividends.now }
     requires divisor { AreCombinable (divisor.now ∷ []) }
     ensures ok { IfOk result (λ quotients. divided_each divisor.now dividends.now ≡ Ok quotients) }
@@ -63,7 +72,7 @@ fn divide_by(alloc: Global, dividends: &[Series], divisor: &Series) -> Result<Se
     ensures bounds { IfOk result (All (IsSoonAfter (dividends.now ++ divisor.now ∷ []))) }
 {
     check_pairs(dividends, divisor)?;
-    divide_each(alloc, dividends, divisor)
+    divide_each(alloc, dividends, divisor, room)
 }
 
 // Refuses series of which one has no common step with another series.
@@ -85,6 +94,7 @@ fn divide_each(
     alloc: Global,
     dividends: &[Series],
     divisor: &Series,
+    mut room: Allowance,
 ) -> Result<SeriesSet, EvalFault>
     requires dividends { AreCombinable dividends.now }
     requires divisor { AreCombinable (divisor.now ∷ []) }
@@ -96,22 +106,30 @@ fn divide_each(
 {
     let mut quotients = Vec::with_capacity(alloc, dividends.len())?;
     for dividend in dividends {
-        quotients.push(divided(alloc, dividend, divisor)?)?;
+        quotients.push(divided(alloc, dividend, divisor, &mut room)?)?;
     }
     Ok(SeriesSet::from_vec(quotients))
 }
 
-// One series over another, on the common grid of the two.
+// One series over another, on the common grid of the two. Room is taken for it.
 #[tactic(auto, unfolding(crate::specs::Divided::divided))]
-fn divided(alloc: Global, dividend: &Series, divisor: &Series) -> Result<Series, EvalFault>
+fn divided(
+    alloc: Global,
+    dividend: &Series,
+    divisor: &Series,
+    room: &mut Allowance,
+) -> Result<Series, EvalFault>
     requires { AreCombinable (dividend.now ∷ divisor.now ∷ []) }
     ensures ok { IfOk result (λ quotient. divided divisor.now dividend.now ≡ Ok quotient) }
     ensures err { IfErr result (λ fault.
         fault ≢ NoMemory → divided divisor.now dividend.now ≡ Err fault) }
     ensures bounds { IfOk result (IsSoonAfter (dividend.now ∷ divisor.now ∷ [])) }
 {
+    // The two are copied to find their grid.
+    room.bear(dividend.size().plus(divisor.size()))?;
     let grid = pair_grid(alloc, dividend, divisor)?;
-    let quotient = divided_on(alloc, dividend, divisor, &grid)?;
+    let quotient = divided_on(alloc, dividend, divisor, &grid, room)?;
+    room.take(quotient.size())?;
     Ok(quotient)
 }
 
@@ -139,6 +157,7 @@ fn divided_on(
     dividend: &Series,
     divisor: &Series,
     grid: &Grid,
+    room: &Allowance,
 ) -> Result<Series, AllocError>
     requires grid { IsGrid grid.now }
     requires early { grid.now.end ≤ latest_end }
@@ -149,7 +168,7 @@ fn divided_on(
     tail.push_str(divisor.name())?;
     let name = quotient_name(alloc, dividend.name(), tail.as_str())?;
     let path = String::from_str(alloc, dividend.path())?;
-    let values = ratios_on(alloc, dividend, divisor, grid)?;
+    let values = ratios_on(alloc, dividend, divisor, grid, room)?;
     Ok(Series::from_legal(name, path, grid.start, grid.step, values))
 }
 
@@ -166,6 +185,7 @@ fn ratios_on(
     dividend: &Series,
     divisor: &Series,
     grid: &Grid,
+    room: &Allowance,
 ) -> Result<Vec<Option<Milli>>, AllocError>
     requires grid { IsGrid grid.now }
     requires early { grid.now.end ≤ latest_end }
@@ -173,10 +193,13 @@ fn ratios_on(
         ≡ ratios (on_grid dividend.now grid.now) (on_grid divisor.now grid.now) (value_count grid.now)) }
 {
     let count = grid.value_count() as usize;
+    let size = Size::of_values(count as u64);
     // Where both have the grid nothing is copied.
     if dividend.has_grid(*grid) && divisor.has_grid(*grid) {
+        room.bear(size)?;
         return ratios(alloc, dividend, divisor, count);
     }
+    room.bear(size.plus(size).plus(size))?;
     let dividend = on_grid(alloc, dividend, grid)?;
     let divisor = on_grid(alloc, divisor, grid)?;
     ratios(alloc, &dividend, &divisor, count)
@@ -206,21 +229,33 @@ fn ratio_of(dividend: Option<Milli>, divisor: Option<Milli>) -> Option<Milli>
     ratio(dividend?, divisor?)
 }
 
-// The series with no value known.
-fn undivided_all(alloc: Global, dividends: &[Series], tail: &str) -> Result<SeriesSet, AllocError>
+// The series with no value known. Room is taken for them.
+fn undivided_all(
+    alloc: Global,
+    dividends: &[Series],
+    tail: &str,
+    mut room: Allowance,
+) -> Result<SeriesSet, AllocError>
     ensures { IfOk result (λ quotients. quotients ≡ map (undivided tail.now) dividends.now) }
 {
     let mut quotients = Vec::with_capacity(alloc, dividends.len())?;
     for dividend in dividends {
-        quotients.push(undivided(alloc, dividend, tail)?)?;
+        quotients.push(undivided(alloc, dividend, tail, &mut room)?)?;
     }
     Ok(SeriesSet::from_vec(quotients))
 }
 
-fn undivided(alloc: Global, dividend: &Series, tail: &str) -> Result<Series, AllocError>
+fn undivided(
+    alloc: Global,
+    dividend: &Series,
+    tail: &str,
+    room: &mut Allowance,
+) -> Result<Series, AllocError>
     ensures { IfOk result (λ quotient. quotient ≡ undivided tail.now dividend.now) }
 {
     let name = quotient_name(alloc, dividend.name(), tail)?;
+    room.take(dividend.size())?;
+    room.take_name(name.len(), dividend.name().len())?;
     let path = String::from_str(alloc, dividend.path())?;
     let values = all_missing(alloc, dividend.values())?;
     Ok(Series::from_legal(name, path, dividend.start(), dividend.step(), values))

@@ -13,7 +13,7 @@ use crate::group_name::GroupName;
 use crate::kinds::{Combine, Regroup};
 use crate::node_texts::{node_text, text_without};
 use indexmap::IndexMap;
-use series_set::{EvalFault, Series, SeriesSet, common_step};
+use series_set::{Allowance, EvalFault, Series, SeriesSet, common_step};
 use std::alloc::{AllocError, Global};
 
 /// The series in groups, in order of first appearance, each combined to one on its own common grid: see [`Regroup`]. The name and the
@@ -21,17 +21,24 @@ use std::alloc::{AllocError, Global};
 /// 31,536,000 seconds after all of these series. The work grows with the series and what it is to combine them.
 ///
 /// Errors: `StepTooWide` where the steps of a group have no common multiple up to the widest step, with that of the first such group;
-/// else that of the first group that has no common grid; and want of memory.
+/// else that of the first group that has no common grid; and want of memory, as where there is no room for the values of the groups.
 #[tactic(auto, unfolding(crate::specs::Regrouped::regroup))]
-pub fn regroup(alloc: Global, kind: &Regroup, set: &SeriesSet) -> Result<SeriesSet, EvalFault>
+pub fn regroup(
+    alloc: Global,
+    kind: &Regroup,
+    set: &SeriesSet,
+    mut room: Allowance,
+) -> Result<SeriesSet, EvalFault>
     requires { AreCombinable set.now }
     ensures ok { IfOk result (λ regrouped. regroup kind.now set.now ≡ Ok regrouped) }
     ensures err { IfErr result (λ fault.
         fault ≢ NoMemory → regroup kind.now set.now ≡ Err fault) }
     ensures bounds { IfOk result (All (IsSoonAfter set.now)) }
 {
+    // The groups have copies of the series.
+    room.take(set.size())?;
     let groups = groups_of(alloc, kind, set.as_slice())?;
-    combine_groups(alloc, combine_of(kind), &groups)
+    combine_groups(alloc, combine_of(kind), &groups, room)
 }
 
 // The series of each group, by its text.
@@ -102,6 +109,7 @@ fn combine_groups(
     alloc: Global,
     kind: Combine,
     groups: &IndexMap<GroupName, SeriesSet>,
+    room: Allowance,
 ) -> Result<SeriesSet, EvalFault>
     requires some { All (λ group. 0 < length group.1) groups.now.entries }
     requires series { All (λ group. AreCombinable group.1) groups.now.entries }
@@ -112,7 +120,7 @@ fn combine_groups(
         AllZip (λ group series. IsSoonAfter group.1 series) groups.now.entries together) }
 {
     check_steps(groups)?;
-    combine_each(alloc, kind, groups)
+    combine_each(alloc, kind, groups, room)
 }
 
 // Refuses groups of which one has no common step.
@@ -136,6 +144,7 @@ fn combine_each(
     alloc: Global,
     kind: Combine,
     groups: &IndexMap<GroupName, SeriesSet>,
+    mut room: Allowance,
 ) -> Result<SeriesSet, EvalFault>
     requires some { All (λ group. 0 < length group.1) groups.now.entries }
     requires series { All (λ group. AreCombinable group.1) groups.now.entries }
@@ -152,7 +161,7 @@ fn combine_each(
             unreachable!()
         };
         let text = name.as_str();
-        together.push(combined_series(alloc, kind, group, text, text)?)?;
+        together.push(combined_series(alloc, kind, group, text, text, &mut room)?)?;
     }
     Ok(SeriesSet::from_vec(together))
 }

@@ -12,19 +12,21 @@ use crate::looking_back::{add_up, delayed, differ, keep_last, rise, tell_changes
 use crate::naming::{CallName, call_text};
 use crate::summary::summarized;
 use fixed_num::{Milli, wide};
-use series_set::{EvalFault, Series, SeriesSet};
+use series_set::{Allowance, EvalFault, Series, SeriesSet, Size};
 use std::alloc::{AllocError, Global};
 
 /// What the function makes of each series, under the name of the call. It owns the series, so that most functions change their values where
 /// they stand. A summary ends less than its step later than its series, a shifted one by the shift; the others as before.
 ///
-/// Errors: `TooLong` exactly where a summary has more than 4,000,000 values, with their number at the first such series, and want of memory.
+/// Errors: `TooLong` exactly where a summary has more than 4,000,000 values, with their number at the first such series, and want of memory, as
+/// where there is no room for the values of summaries or for names.
 #[tactic(auto, unfolding(crate::specs::Moved::shape))]
 pub fn shape(
     alloc: Global,
     kind: &Shape,
     set: SeriesSet,
     call: &CallName,
+    room: Allowance,
 ) -> Result<SeriesSet, EvalFault>
     requires step { HasStep kind.now }
     requires early { All (λ s. end_of s + lateness kind.now ≤ latest_end) set }
@@ -36,10 +38,12 @@ pub fn shape(
 {
     match *kind {
         Shape::Summarize { step, gather } => {
-            summarize_each(alloc, step, gather, call, set.as_slice())
+            summarize_each(alloc, step, gather, call, set.as_slice(), room)
         }
-        Shape::TimeShift { past, seconds } => Ok(shift_each(alloc, past, seconds, call, set)?),
-        _ => Ok(shape_each(alloc, kind, call, set)?),
+        Shape::TimeShift { past, seconds } => Ok(shift_each(
+            alloc, past, seconds, call, set, room,
+        )?),
+        _ => Ok(shape_each(alloc, kind, call, set, room)?),
     }
 }
 
@@ -50,6 +54,7 @@ fn summarize_each(
     gather: Gather,
     call: &CallName,
     set: &[Series],
+    mut room: Allowance,
 ) -> Result<SeriesSet, EvalFault>
     requires step { IsSummaryStep step }
     requires early { All (λ s. end_of s + step ≤ latest_end) set.now }
@@ -60,7 +65,7 @@ fn summarize_each(
 {
     let mut summaries = Vec::with_capacity(alloc, set.len())?;
     for series in set {
-        summaries.push(summarized(alloc, step, gather, call, series)?)?;
+        summaries.push(summarized(alloc, step, gather, call, series, &mut room)?)?;
     }
     Ok(SeriesSet::from_vec(summaries))
 }
@@ -72,6 +77,7 @@ fn shift_each(
     seconds: u64,
     call: &CallName,
     set: SeriesSet,
+    mut room: Allowance,
 ) -> Result<SeriesSet, AllocError>
     requires { All (λ s. end_of s + later_by past seconds ≤ latest_end) set }
     ensures { IfOk result (λ moved. moved ≡ map
@@ -80,7 +86,7 @@ fn shift_each(
     let mut moved = Vec::with_capacity(alloc, set.len())?;
     for series in set.into_vec() {
         if stays(past, seconds, &series) {
-            moved.push(shifted(alloc, past, seconds, call, series)?)?;
+            moved.push(shifted(alloc, past, seconds, call, series, &mut room)?)?;
         }
     }
     Ok(SeriesSet::from_vec(moved))
@@ -99,6 +105,7 @@ fn shifted(
     seconds: u64,
     call: &CallName,
     mut series: Series,
+    room: &mut Allowance,
 ) -> Result<Series, AllocError>
     requires behind { stays past seconds series ≡ true }
     requires early { end_of series + later_by past seconds ≤ latest_end }
@@ -106,6 +113,7 @@ fn shifted(
         moved ≡ shifted past seconds call.now.function.now call.now.tail.now series) }
 {
     let name = call_text(alloc, call.function, series.name(), call.tail)?;
+    room.take_name(name.len(), series.name().len())?;
     let path = String::from_str(alloc, series.path())?;
     let start = moved_start(past, seconds, series.start());
     let step = series.step();
@@ -129,13 +137,14 @@ fn shape_each(
     kind: &Shape,
     call: &CallName,
     set: SeriesSet,
+    mut room: Allowance,
 ) -> Result<SeriesSet, AllocError>
     ensures { IfOk result (λ shaped. shaped
         ≡ map (shaped_series kind.now call.now.function.now call.now.tail.now) set) }
 {
     let mut shaped = Vec::with_capacity(alloc, set.len())?;
     for series in set.into_vec() {
-        shaped.push(shaped_series(alloc, kind, call, series)?)?;
+        shaped.push(shaped_series(alloc, kind, call, series, &mut room)?)?;
     }
     Ok(SeriesSet::from_vec(shaped))
 }
@@ -147,13 +156,15 @@ fn shaped_series(
     kind: &Shape,
     call: &CallName,
     mut series: Series,
+    room: &mut Allowance,
 ) -> Result<Series, AllocError>
     ensures { IfOk result (λ shaped.
         shaped ≡ shaped_series kind.now call.now.function.now call.now.tail.now series) }
 {
     let name = call_text(alloc, call.function, series.name(), call.tail)?;
+    room.take_name(name.len(), series.name().len())?;
     let step = series.step();
-    let values = shaped_values(alloc, kind, step, series.take_values())?;
+    let values = shaped_values(alloc, kind, step, series.take_values(), room)?;
     Ok(series.with_values(values).renamed(name))
 }
 
@@ -164,6 +175,7 @@ fn shaped_values(
     kind: &Shape,
     step: u64,
     mut values: Vec<Option<Milli>>,
+    room: &Allowance,
 ) -> Result<Vec<Option<Milli>>, AllocError>
     requires some { 1 ≤ step }
     requires few { length values.items ≤ most_values }
@@ -193,7 +205,10 @@ fn shaped_values(
             );
         }
         Shape::Integral => add_up(&mut values),
-        Shape::Delay { places } => return delayed(alloc, &values, places as usize),
+        Shape::Delay { places } => {
+            room.bear(Size::of_values(values.len() as u64))?;
+            return delayed(alloc, &values, places as usize);
+        }
         Shape::KeepLastValue { most } => keep_last(&mut values, most),
         Shape::TransformNull { value } => change_each(
             &mut values,

@@ -13,10 +13,10 @@ use crate::naming::{CallName, call_text};
 use fixed_num::Milli;
 use ring_format::Method;
 use rollup::roll;
-use series_set::{EvalFault, Grid, Series};
+use series_set::{Allowance, EvalFault, Grid, Series, Size};
 use std::alloc::{AllocError, Global};
 
-/// The series in buckets of so many seconds that begin at multiples of them: each has what its known values give.
+/// The series in buckets of so many seconds that begin at multiples of them: each has what its known values give. Room is taken for it.
 ///
 /// Errors: `TooLong` exactly where there are more than 4,000,000 buckets, with their number, and want of memory.
 #[tactic(auto, unfolding(crate::specs::Moved::summarized))]
@@ -26,6 +26,7 @@ pub(crate) fn summarized(
     gather: Gather,
     call: &CallName,
     series: &Series,
+    room: &mut Allowance,
 ) -> Result<Series, EvalFault>
     requires step { IsSummaryStep step }
     requires early { end_of series.now + step ≤ latest_end }
@@ -40,7 +41,9 @@ pub(crate) fn summarized(
         step: u64::from(step),
     };
     let grid = whole.widened().short()?;
+    room.bear(Size::of_values(grid.value_count()))?;
     let summary = summary_on(alloc, gather, call, series, &grid)?;
+    room.take(summary.size())?;
     Ok(summary)
 }
 

@@ -9,11 +9,17 @@ use crate::measures::{First, Measure, Side};
 use crate::naming::{all_named, named_by_nodes};
 use crate::sorting::{first_sorted, sorted, sorted_by_name};
 use crate::substitution::substituted;
-use series_set::SeriesSet;
+use series_set::{Allowance, SeriesSet};
 use std::alloc::{AllocError, Global};
 
-/// What the function leaves of the series, in its order and under its names. Values, moments and paths stay.
-pub fn choose(alloc: Global, kind: &Choose, set: SeriesSet) -> Result<SeriesSet, AllocError>
+/// What the function leaves of the series, in its order and under its names. Values, moments and paths stay. Longer names than there is room
+/// for are want of memory.
+pub fn choose(
+    alloc: Global,
+    kind: &Choose,
+    set: SeriesSet,
+    room: Allowance,
+) -> Result<SeriesSet, AllocError>
     ensures { IfOk result (Chooses kind.now set) }
 {
     use First::{Greatest, Least};
@@ -21,9 +27,9 @@ pub fn choose(alloc: Global, kind: &Choose, set: SeriesSet) -> Result<SeriesSet,
     use Side::{Above, Below};
 
     match kind {
-        Choose::Alias { name } => all_named(set, name.text()),
-        Choose::AliasByNode { nodes } => named_by_nodes(alloc, set, nodes.as_slice()),
-        Choose::AliasByMetric => named_by_nodes(alloc, set, &[-1]),
+        Choose::Alias { name } => all_named(set, name.text(), room),
+        Choose::AliasByNode { nodes } => named_by_nodes(alloc, set, nodes.as_slice(), room),
+        Choose::AliasByMetric => named_by_nodes(alloc, set, &[-1], room),
         Choose::Limit { most } => Ok(first_of(set, *most)),
         Choose::SortByName => sorted_by_name(set),
         Choose::SortByMaxima => sorted(set, Max, Greatest),
@@ -48,6 +54,6 @@ pub fn choose(alloc: Global, kind: &Choose, set: SeriesSet) -> Result<SeriesSet,
         Choose::AliasSub {
             pattern,
             replacement,
-        } => substituted(alloc, set, pattern, replacement.text().as_str()),
+        } => substituted(alloc, set, pattern, replacement.text().as_str(), room),
     }
 }

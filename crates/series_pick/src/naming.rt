@@ -5,16 +5,21 @@ ghost use Rattle.metric_path.specs.Path.{nodes_of};
 ghost use Rattle.series_pick.specs.Chosen.{renamed, renamed_by_nodes};
 ghost use Rattle.series_pick.specs.Nodes.{name_by_nodes, numbered};
 
-use series_set::SeriesSet;
+use series_set::{Allowance, SeriesSet};
 use std::alloc::{AllocError, Global};
 
 /// The series, each under this name.
-pub(crate) fn all_named(set: SeriesSet, name: &String) -> Result<SeriesSet, AllocError>
+pub(crate) fn all_named(
+    set: SeriesSet,
+    name: &String,
+    mut room: Allowance,
+) -> Result<SeriesSet, AllocError>
     ensures { IfOk result (λ named. named ≡ map (renamed (string_bytes name.now)) set) }
 {
     let series = set.into_vec();
     let mut named = Vec::with_capacity(*series.allocator(), series.len())?;
     for one in series {
+        room.take_name(name.len(), one.name().len())?;
         named.push(one.renamed(name.clone()?))?;
     }
     Ok(SeriesSet::from_vec(named))
@@ -25,6 +30,7 @@ pub(crate) fn named_by_nodes(
     alloc: Global,
     set: SeriesSet,
     numbers: &[i32],
+    mut room: Allowance,
 ) -> Result<SeriesSet, AllocError>
     ensures { IfOk result (λ named. named ≡ map (renamed_by_nodes numbers.now) set) }
 {
@@ -32,6 +38,7 @@ pub(crate) fn named_by_nodes(
     let mut named = Vec::with_capacity(alloc, series.len())?;
     for one in series {
         let name = name_by_nodes(alloc, one.path(), numbers)?;
+        room.take_name(name.len(), one.name().len())?;
         named.push(one.renamed(name))?;
     }
     Ok(SeriesSet::from_vec(named))

@@ -11,7 +11,7 @@ pub returns-in_err-sets-clause-err : goal.returns-in_err-sets-clause-err
 returns-in_err-sets-clause-err c =
     let plan = plan_of (map term_of c.args.targets.now.items) c.args.settings.now in
     let fault = c.in_err-sets.field-0.0 in
-    if_err_at (λ fault. fault ≢ NoMemory → Answers plan c.args.rows.items (Err fault)) _ fault c.from_residual.ensures.1
+    if_err_at (λ fault. fault ≢ NoMemory → Answers plan c.args.rows.items (Err fault)) _ fault c.from_residual-in_err-sets.ensures.1
     (λ other. subst (λ (rows : Rows). Answers plan rows (Err fault)) c.from_vec-left.ensures.items
     (answer_stop plan c.from_vec-left.result.items fault (c.in_err-sets.ensures.err other)))
 
