@@ -86,8 +86,8 @@ fn write_out<K: Sink>(out: &mut K) {
     }
 }
 
-#[test]
-fn a_reply_that_is_sipped_fails(rt: HostRuntime) -> Result<(), Fail> {
+// How many milliseconds a link is written to whose other end sips, and how many faults it then has.
+fn millis_of_sips(threads: &impl Threads, rt: HostRuntime) -> Result<(u128, u64), Fail> {
     let Pair {
         client,
         mut link,
@@ -98,24 +98,39 @@ fn a_reply_that_is_sipped_fails(rt: HostRuntime) -> Result<(), Fail> {
         write_out(&mut link);
         begun.elapsed(&rt)
     };
-    let (elapsed, ()) = thread::join(&rt, writing, || sip(rt, &client, 60));
-    let millis = elapsed?.as_millis();
-    assert!(rt; (200..10_000).contains(&millis), "{millis}");
-    assert!(rt; link.write_faults() == 1);
+    let (elapsed, ()) = thread::join(threads, writing, || sip(rt, &client, 60));
+    Ok((elapsed?.as_millis(), link.write_faults()))
+}
+
+#[test]
+fn a_reply_that_is_sipped_fails(rt: HostRuntime) -> Result<(), Fail> {
+    let (millis, faults) = millis_of_sips(&rt, rt)?;
+    assert!(rt;
+        (200..10_000).contains(&millis) && faults == 1,
+        "{millis}, {faults}"
+    );
     Ok(())
+}
+
+// Whether the next link of lines gives a line and is then at its end, and after how many milliseconds.
+fn millis_of_silence(rt: HostRuntime, net: &TcpNet<HostRuntime>) -> Result<(bool, u128), Fail> {
+    let mut link = net.next_lines().ok_or("no link of lines")?;
+    let begun = Instant::now(&rt)?;
+    let is_given = gives(&mut link, b"a 1 2\n");
+    Ok((is_given, begun.elapsed(&rt)?.as_millis()))
 }
 
 #[test]
 fn a_sender_of_lines_may_be_silent_for_so_long(rt: HostRuntime) -> Result<(), Fail> {
     let (net, ports) = bind(TcpNet::new(rt.alloc(), rt, settings(1))?, 0)?;
     let client = connect_and_send(rt, ports.lines, b"a 1 2\n")?;
-    let mut link = net.next_lines().expect(&rt, "a link of lines");
-    let begun = Instant::now(&rt)?;
-    assert!(rt; gives(&mut link, b"a 1 2\n"));
-    let millis = begun.elapsed(&rt)?.as_millis();
-    // `gives` reads the end twice
-    assert!(rt; (1_990..10_000).contains(&millis), "{millis}");
+    let (is_given, millis) = millis_of_silence(rt, &net)?;
     drop(client);
+    // `gives` reads the end twice
+    assert!(rt;
+        is_given && (1_990..10_000).contains(&millis),
+        "{is_given} {millis}"
+    );
     Ok(())
 }
 
@@ -187,12 +202,11 @@ fn send_all<K: Sink>(out: &mut K, mut bytes: &[u8]) -> u64 {
     0
 }
 
-#[test]
-fn a_large_reply_arrives_whole_where_it_is_taken_in_small_pieces(
-    rt: HostRuntime,
-) -> Result<(), Fail> {
-    const LEN: usize = 16 << 20;
-    let bytes = pattern(rt, LEN)?;
+const LARGE: usize = 16 << 20;
+
+// How many writes send a large reply, and how many of its bytes come in order.
+fn send_large(threads: &impl Threads, rt: HostRuntime) -> Result<(u64, usize), Fail> {
+    let bytes = pattern(rt, LARGE)?;
     let Pair {
         client,
         mut link,
@@ -203,9 +217,16 @@ fn a_large_reply_arrives_whole_where_it_is_taken_in_small_pieces(
         let _ = link.timed.stream.shutdown(Shutdown::Write);
         writes
     };
-    let (writes, count) = thread::join(&rt, sending, || count_in_order(&client));
+    Ok(thread::join(threads, sending, || count_in_order(&client)))
+}
+
+#[test]
+fn a_large_reply_arrives_whole_where_it_is_taken_in_small_pieces(
+    rt: HostRuntime,
+) -> Result<(), Fail> {
+    let (writes, count) = send_large(&rt, rt)?;
     assert!(rt;
-        count == LEN && 1 < writes,
+        count == LARGE && 1 < writes,
         "{count} bytes, {writes} writes"
     );
     Ok(())

@@ -5,10 +5,10 @@ use super::kit::{
 };
 use crate::TcpNet;
 use crate::patience::Patience;
+use crate::port::BoundPorts;
 use outside_io::{Net, ReadEnd, Sink, Source, WriteEnd};
 use std::io::{Read, Write};
 use std::net::TcpStream;
-use std::process::Abort;
 use std::test::Fail;
 use std::thread::Threads;
 use std::time::{Clock, Duration, Instant};
@@ -53,17 +53,37 @@ fn answers(net: &TcpNet<HostRuntime>) -> bool {
     gives(&mut link, b"GET / HTTP/1.1\r\n\r\n") && link.write(b"404") == WriteEnd::Took(3)
 }
 
-fn assert_queue_given(
-    rt: &impl Abort,
+// Whether as many lines are given as a port gives links, the request is answered, and then there is no link.
+fn try_queue(
     net: &TcpNet<HostRuntime>,
     browser: &mut TcpStream,
     given: u64,
-) -> Result<(), Fail> {
+) -> io::Result<[bool; 4]> {
     let count = count_given(net);
-    assert!(rt; count == given, "{count}");
-    assert!(rt; answers(net) && is_sent(browser, b"404")?);
-    assert!(rt; net.next_lines().is_none());
-    Ok(())
+    let is_answered = answers(net);
+    let is_replied = is_sent(browser, b"404")?;
+    Ok([
+        count == given,
+        is_answered,
+        is_replied,
+        net.next_lines().is_none(),
+    ])
+}
+
+// The same of a net that is closed while they wait.
+fn close_and_try(
+    rt: HostRuntime,
+    net: &TcpNet<HostRuntime>,
+    ports: BoundPorts,
+    given: u64,
+) -> io::Result<([bool; 4], bool)> {
+    let senders = queue_up(rt, ports.lines)?;
+    let mut browser = connect_and_send(rt, ports.http, b"GET / HTTP/1.1\r\n\r\n")?;
+    net.closer()?.close(&rt);
+    let refuses = is_refused(rt, ports);
+    let found = try_queue(net, &mut browser, given)?;
+    drop(senders);
+    Ok((found, refuses))
 }
 
 #[test]
@@ -71,12 +91,8 @@ fn links_that_wait_at_the_stop_are_given(rt: HostRuntime) -> Result<(), Fail> {
     // by how many links a port gives
     for (links, given) in [(0, 3), (2, 2)] {
         let (net, ports) = quick_net(rt, links)?;
-        let senders = queue_up(rt, ports.lines)?;
-        let mut browser = connect_and_send(rt, ports.http, b"GET / HTTP/1.1\r\n\r\n")?;
-        net.closer()?.close(&rt);
-        assert!(rt; is_refused(rt, ports));
-        assert_queue_given(&rt, &net, &mut browser, given)?;
-        drop(senders);
+        let found = close_and_try(rt, &net, ports, given)?;
+        assert!(rt; found == ([true; 4], true), "{links}: {found:?}");
     }
     Ok(())
 }
@@ -153,8 +169,8 @@ fn send_on(mut client: &TcpStream) {
     }
 }
 
-#[test]
-fn a_sender_that_goes_on_is_ended_after_the_stop(rt: HostRuntime) -> Result<(), Fail> {
+// How a link ends after the stop whose other end goes on to send, and after how many milliseconds.
+fn end_of_sender(threads: &impl Threads, rt: HostRuntime) -> Result<(ReadEnd, u128), Fail> {
     let Pair {
         client,
         mut link,
@@ -166,8 +182,13 @@ fn a_sender_that_goes_on_is_ended_after_the_stop(rt: HostRuntime) -> Result<(), 
         let end = read_slowly(rt, &mut link);
         (end, begun.elapsed(&rt))
     };
-    let ((end, elapsed), ()) = thread::join(&rt, reading, || send_on(&client));
-    let millis = elapsed?.as_millis();
+    let ((end, elapsed), ()) = thread::join(threads, reading, || send_on(&client));
+    Ok((end, elapsed?.as_millis()))
+}
+
+#[test]
+fn a_sender_that_goes_on_is_ended_after_the_stop(rt: HostRuntime) -> Result<(), Fail> {
+    let (end, millis) = end_of_sender(&rt, rt)?;
     assert!(rt;
         end == ReadEnd::End && (200..10_000).contains(&millis),
         "{end:?} at {millis}"
