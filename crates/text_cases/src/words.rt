@@ -1,22 +1,62 @@
 //! Words of the command line.
 
-use carbon_words::{Command, Options, SampleOptions, ServeOptions, WordsFault, read_words};
+use carbon_words::{Command, Options, SampleOptions, ServeOptions, WordsFault, read_words, words};
 use case_lines::{Case, CaseFault};
 use drain_order::Strategy;
 use std::alloc::{AllocError, Global};
+use std::env::{Env, FillError};
 
 /// Tells a case of words; `false` where the verb is of another subject.
 pub fn tell(alloc: Global, told: &mut String, case: &Case) -> Result<bool, CaseFault> {
     match case.verb() {
-        "words" => tell_words(alloc, told, case)?,
+        "words" => tell_command(alloc, told, &strings_of(alloc, case)?)?,
+        "arguments" => tell_arguments(alloc, told, case)?,
         _ => return Ok(false),
     }
     Ok(true)
 }
 
+/// A command line, and no variables.
+#[derive(Drop)]
+struct Arguments<'a> {
+    words: &'a [Vec<u8>],
+}
+
+impl<'a> Env for Arguments<'a> {
+    fn arg(&self, i: usize, buf: &mut [u8]) -> Result<usize, FillError> {
+        let Some(word) = self.words.get(i) else {
+            return Err(FillError::NotPresent);
+        };
+        let Some(room) = buf.get_mut(..word.len()) else {
+            return Err(FillError::TooLong);
+        };
+        room.copy_from_slice(word);
+        Ok(word.len())
+    }
+
+    fn var(&self, _name: &str, _buf: &mut [u8]) -> Result<usize, FillError> {
+        Err(FillError::NotPresent)
+    }
+
+    fn var_at(&self, _i: usize, _buf: &mut [u8]) -> Result<usize, FillError> {
+        Err(FillError::NotPresent)
+    }
+}
+
+/// `arguments NAME WORD..`: the command of a command line, behind the program's name, or `usage`. Its words need be no texts.
+fn tell_arguments(alloc: Global, told: &mut String, case: &Case) -> Result<(), CaseFault> {
+    let line = Arguments {
+        words: case.rest(0),
+    };
+    match words(&line, alloc) {
+        Ok(words) => tell_command(alloc, told, &words),
+        Err(_) => Err(CaseFault::NoMemory),
+    }
+}
+
 /// `words WORD..`: the command that the words are, or `usage`.
-fn tell_words(alloc: Global, told: &mut String, case: &Case) -> Result<(), CaseFault> {
-    match read_words(alloc, &strings_of(alloc, case)?) {
+fn tell_command(alloc: Global, told: &mut String, words: &[String]) -> Result<(), CaseFault> {
+    match read_words(alloc, words) {
         Ok(Command::Script(options)) => {
             told.push_str("script")?;
             Ok(push_options(told, options)?)
@@ -61,7 +101,11 @@ fn push_serve(told: &mut String, more: ServeOptions) -> Result<(), AllocError> {
         " receivers {} renderers {}",
         more.receivers, more.renderers
     )?;
-    write!(told, " links {}", more.links)
+    write!(
+        told,
+        " patience {} links {}",
+        more.line_patience, more.links
+    )
 }
 
 fn push_sample(told: &mut String, more: SampleOptions) -> Result<(), AllocError> {
