@@ -1,4 +1,4 @@
-//! Servers over networks in memory.
+//! Servers over networks in memory, whose links and disks wait for one another.
 ghost use Rattle.std.specs.Prelude.{◌≡◌, IfOk, vec_len};
 
 use carbon_run::{Report, run};
@@ -15,10 +15,167 @@ use std::time::Clock;
 // The moment of the clock.
 const NOW: u64 = 1_700_000_030;
 
-const NO_ROUTE: &[u8] = b"GET /x HTTP/1.1\r\nHost: localhost\r\n\r\n";
+// ---- what a case says
+
+// The flags of a case.
+#[derive(Clone, Copy)]
+enum Sign {
+    // up from the start
+    Open,
+    // down at the start
+    Left,
+    Right,
+    // waited for by no one
+    Unheard,
+}
+
+// A call that puts one flag up as it begins, and waits for another.
+#[derive(Clone, Copy)]
+struct Meeting {
+    tells: Sign,
+    waits_for: Sign,
+}
+
+// Two calls that meet: each goes on once the other has come so far.
+const LEFT_MEETS: Meeting = Meeting {
+    tells: Sign::Left,
+    waits_for: Sign::Right,
+};
+
+const RIGHT_MEETS: Meeting = Meeting {
+    tells: Sign::Right,
+    waits_for: Sign::Left,
+};
+
+// One that waits for the first of them.
+const BEHIND_LEFT: Meeting = Meeting {
+    tells: Sign::Unheard,
+    waits_for: Sign::Left,
+};
+
+// Those that wait for nothing.
+const TELLS_LEFT: Meeting = Meeting {
+    tells: Sign::Left,
+    waits_for: Sign::Open,
+};
+
+const TELLS_RIGHT: Meeting = Meeting {
+    tells: Sign::Right,
+    waits_for: Sign::Open,
+};
+
+// Which calls of a link wait.
+#[derive(Clone, Copy)]
+enum LinkWaits {
+    Never,
+    // its first read
+    Read(Meeting),
+    // its first write
+    Write(Meeting),
+    // its first write, and the flag goes up once the reply was written
+    Replying(Meeting, Sign),
+}
+
+// What a link brings, and what is written to it.
+#[derive(Clone, Copy)]
+struct LinkCase {
+    brings: &'static [u8],
+    waits: LinkWaits,
+    reply: &'static [u8],
+}
+
+// Which call of the disk of class 12 waits: its first write, or, over disks that a server left which drained a point of that class, the read behind
+// that of its file's head.
+#[derive(Clone, Copy)]
+enum DiskWaits {
+    Never,
+    Write(Meeting),
+    Read(Meeting),
+}
+
+// The words of a server, its links and how it ends.
+struct ServerCase {
+    words: &'static str,
+    disk: DiskWaits,
+    lines: &'static [LinkCase],
+    http: &'static [LinkCase],
+    ports: Option<Bound>,
+    text: &'static [u8],
+}
+
+const PORTS: Option<Bound> = Some(Bound {
+    line_port: 2003,
+    http_port: 8080,
+    links: 0,
+});
+
+const LINE: LinkCase = LinkCase {
+    brings: b"a.b 1.5 1700000000\n",
+    waits: LinkWaits::Never,
+    reply: b"",
+};
+
+// A link that brings a line of class 3 once the left flag is up, and one behind it, which puts the right flag up as it is read: with one receiver,
+// once that line was put.
+const LATE_LINE: LinkCase = LinkCase {
+    brings: b"d 2 1700000000\n",
+    waits: LinkWaits::Read(BEHIND_LEFT),
+    reply: b"",
+};
+
+const BEHIND_LATE: LinkCase = LinkCase {
+    brings: b"",
+    waits: LinkWaits::Read(TELLS_RIGHT),
+    reply: b"",
+};
+
+const GET_NO_ROUTE: &[u8] = b"GET /x HTTP/1.1\r\nHost: localhost\r\n\r\n";
+
+const NO_ROUTE: LinkCase = LinkCase {
+    brings: GET_NO_ROUTE,
+    waits: LinkWaits::Never,
+    reply: NOT_FOUND,
+};
 
 // The whole reply to it.
 const NOT_FOUND: &[u8] = b"HTTP/1.1 404 Not Found\r\nContent-Length: 0\r\n\r\n";
+
+// ---- a run
+
+#[derive(Drop)]
+struct Flags {
+    open: Flag,
+    left: Flag,
+    right: Flag,
+    unheard: Flag,
+}
+
+impl Flags {
+    fn new(alloc: Global) -> Result<Flags, AllocError> {
+        let open = Flag::new(alloc)?;
+        open.raise();
+        Ok(Flags {
+            open,
+            left: Flag::new(alloc)?,
+            right: Flag::new(alloc)?,
+            unheard: Flag::new(alloc)?,
+        })
+    }
+
+    fn share(&self, sign: Sign) -> Result<Flag, AllocError> {
+        match sign {
+            Sign::Open => self.open.share(),
+            Sign::Left => self.left.share(),
+            Sign::Right => self.right.share(),
+            Sign::Unheard => self.unheard.share(),
+        }
+    }
+
+    fn gate<R: Clock + Drop>(&self, rt: R, meeting: Meeting) -> Result<Gate<R>, AllocError> {
+        let tells = self.share(meeting.tells)?;
+        Ok(Gate::new(rt, tells, self.share(meeting.waits_for)?))
+    }
+}
 
 fn sixteen_disks<R: Clock + Drop>(alloc: Global) -> Result<Vec<GateDisk<R>>, AllocError>
     ensures { IfOk result (λ disks. vec_len disks ≡ 16) }
@@ -31,6 +188,95 @@ fn sixteen_disks<R: Clock + Drop>(alloc: Global) -> Result<Vec<GateDisk<R>>, All
     Ok(disks)
 }
 
+// A link that waits for nothing.
+fn open_link<R: Wait + Clock + Drop>(
+    rt: R,
+    alloc: Global,
+    brings: &[u8],
+    sent: &Sent,
+) -> Result<GateLink<R>, AllocError> {
+    let source = MemSource::new(alloc, Vec::from_slice(alloc, brings)?);
+    Ok(GateLink::new(rt, source, sent.share()?))
+}
+
+fn link_of<R: Wait + Clock + Copy + Drop>(
+    rt: R,
+    alloc: Global,
+    flags: &Flags,
+    case: &LinkCase,
+    sent: &Sent,
+) -> Result<GateLink<R>, AllocError> {
+    let link = open_link(rt, alloc, case.brings, sent)?;
+    match case.waits {
+        LinkWaits::Never => Ok(link),
+        LinkWaits::Read(meeting) => Ok(link.reading_at(flags.gate(rt, meeting)?)),
+        LinkWaits::Write(meeting) => Ok(link.writing_at(flags.gate(rt, meeting)?)),
+        LinkWaits::Replying(meeting, sign) => {
+            let link = link.marking(case.reply.len(), flags.share(sign)?);
+            Ok(link.writing_at(flags.gate(rt, meeting)?))
+        }
+    }
+}
+
+fn links_of<R: Wait + Clock + Copy + Drop>(
+    rt: R,
+    alloc: Global,
+    flags: &Flags,
+    cases: &[LinkCase],
+    sent: &[Sent],
+) -> Result<Vec<GateLink<R>>, AllocError> {
+    let mut links = Vec::new(alloc);
+    for (case, sent) in cases.iter().zip(sent) {
+        links.push(link_of(rt, alloc, flags, case, sent)?)?;
+    }
+    Ok(links)
+}
+
+fn sent_of(alloc: Global, cases: &[LinkCase]) -> Result<Vec<Sent>, AllocError> {
+    let mut sent = Vec::new(alloc);
+    for _ in 0..cases.len() {
+        sent.push(Sent::new(alloc)?)?;
+    }
+    Ok(sent)
+}
+
+// What is sent to the links of both kinds.
+#[derive(Drop)]
+struct Replies {
+    lines: Vec<Sent>,
+    http: Vec<Sent>,
+}
+
+impl Replies {
+    fn new(alloc: Global, case: &ServerCase) -> Result<Replies, AllocError> {
+        let lines = sent_of(alloc, case.lines)?;
+        Ok(Replies {
+            lines,
+            http: sent_of(alloc, case.http)?,
+        })
+    }
+
+    // The network of a case. Its ports cannot be had where none are wanted.
+    fn net<R: Wait + Clock + Copy + Drop>(
+        &self,
+        rt: R,
+        alloc: Global,
+        flags: &Flags,
+        case: &ServerCase,
+    ) -> Result<MemNet<GateLink<R>, R>, AllocError> {
+        let lines = links_of(rt, alloc, flags, case.lines, &self.lines)?;
+        let net = MemNet::new(
+            rt,
+            lines,
+            links_of(rt, alloc, flags, case.http, &self.http)?,
+        );
+        if case.ports.is_none() {
+            return Ok(net.failing());
+        }
+        Ok(net)
+    }
+}
+
 fn words_of(alloc: Global, text: &str) -> Result<Vec<String>, AllocError> {
     let mut words = Vec::new(alloc);
     for word in text.split(' ') {
@@ -39,31 +285,26 @@ fn words_of(alloc: Global, text: &str) -> Result<Vec<String>, AllocError> {
     Ok(words)
 }
 
-// A link that brings these bytes.
-fn link<R: Wait + Clock + Drop>(
-    rt: R,
-    alloc: Global,
-    bytes: &[u8],
-    sent: &Sent,
-) -> Result<GateLink<R>, AllocError> {
-    let source = MemSource::new(alloc, Vec::from_slice(alloc, bytes)?);
-    Ok(GateLink::new(rt, source, sent.share()?))
-}
-
-// Links that bring a line each.
-fn line_links<R: Wait + Clock + Copy + Drop>(
-    rt: R,
-    alloc: Global,
-    lines: &[&[u8]],
-) -> Result<Vec<GateLink<R>>, AllocError> {
-    let mut links = Vec::new(alloc);
-    for line in lines {
-        links.push(link(rt, alloc, line, &Sent::new(alloc)?)?)?;
-    }
-    Ok(links)
-}
-
 fn run_server<R: Threads + Wait + Clock + Send + Sync + Drop>(
+    rt: &R,
+    alloc: Global,
+    words: &[String],
+    disks: Vec<GateDisk<R>>,
+    net: &mut MemNet<GateLink<R>, R>,
+    out: &mut MemSink,
+) -> Report<GateDisk<R>>
+    requires { vec_len disks ≡ 16 }
+    ensures { vec_len result.disks ≡ 16 }
+{
+    let mut input = MemSource::new(alloc, Vec::new(alloc));
+    let mut conf: GateDisk<R> = GateDisk::new(MemDisk::new(alloc, 0));
+    let clock = FixedClock::new(NOW);
+    run(
+        rt, alloc, words, &mut input, out, &mut conf, disks, &clock, net,
+    )
+}
+
+fn serve<R: Threads + Wait + Clock + Send + Sync + Drop>(
     rt: &R,
     alloc: Global,
     words: &str,
@@ -74,270 +315,22 @@ fn run_server<R: Threads + Wait + Clock + Send + Sync + Drop>(
     requires { vec_len disks ≡ 16 }
     ensures { IfOk result (λ report. vec_len report.disks ≡ 16) }
 {
-    let mut input = MemSource::new(alloc, Vec::new(alloc));
-    let mut conf: GateDisk<R> = GateDisk::new(MemDisk::new(alloc, 0));
-    let clock = FixedClock::new(NOW);
     let words = words_of(alloc, words)?;
-    let report = run(
-        rt, alloc, &words, &mut input, out, &mut conf, disks, &clock, net,
-    );
-    Ok(report)
+    Ok(run_server(rt, alloc, &words, disks, net, out))
 }
 
-fn assert_served<R: Threads + Wait + Abort + Clock + Send + Sync + Drop>(
-    rt: &R,
-    alloc: Global,
-    words: &str,
-    net: &mut MemNet<GateLink<R>, R>,
-    status: u8,
-    text: &[u8],
-) -> Result<(), Fail> {
-    let mut out = MemSink::new(alloc);
-    let report = run_server(rt, alloc, words, sixteen_disks(alloc)?, net, &mut out)?;
-    assert!(rt; report.status == status);
-    assert!(rt; out.bytes() == text, "{words}");
-    Ok(())
-}
-
-#[test]
-fn one_line_is_served_and_drained(rt: HostRuntime) -> Result<(), Fail> {
-    let alloc = rt.alloc();
-    let lines = line_links(rt, alloc, &[b"a.b 1.5 1700000000\n".as_slice()])?;
-    let mut net = MemNet::new(rt, lines, Vec::new(alloc));
-    assert_served(
-        &rt,
-        alloc,
-        "serve",
-        &mut net,
-        0,
-        b"stored 1 replaced 0 full 0 drains 1\n",
-    )
-}
-
-#[test]
-fn a_server_without_ports_tells_so(rt: HostRuntime) -> Result<(), Fail> {
-    let alloc = rt.alloc();
-    let mut net = MemNet::new(rt, Vec::new(alloc), Vec::new(alloc)).failing();
-    assert_served(
-        &rt,
-        alloc,
-        "serve --receivers=1",
-        &mut net,
-        9,
-        b"carbon: no port\n",
-    )
-}
-
-#[test]
-fn the_words_say_which_ports_are_opened_and_for_how_many_links(
-    rt: HostRuntime,
-) -> Result<(), Fail> {
-    let alloc = rt.alloc();
-    let table = [
-        ("serve", 2003, 8080, 0),
-        ("serve --line-port 1 --http-port=2 --links 3", 1, 2, 3),
-    ];
-    for (words, line_port, http_port, links) in table {
-        let mut net = MemNet::new(rt, Vec::new(alloc), Vec::new(alloc));
-        assert_served(
-            &rt,
-            alloc,
-            words,
-            &mut net,
-            0,
-            b"stored 0 replaced 0 full 0 drains 0\n",
-        )?;
-        let bound = Bound {
-            line_port,
-            http_port,
-            links,
-        };
-        assert!(rt; net.bound() == Some(bound), "{words}");
-    }
-    Ok(())
-}
-
-#[test]
-fn one_worker_of_each_kind_serves_all_links(rt: HostRuntime) -> Result<(), Fail> {
-    let alloc = rt.alloc();
-    let lines = line_links(
-        rt,
-        alloc,
-        &[
-            b"a.b 1 1700000000\n".as_slice(),
-            b"a.r 2 1700000000\n".as_slice(),
-            b"a.2 3 1700000000\n".as_slice(),
-        ],
-    )?;
-    let first = Sent::new(alloc)?;
-    let second = Sent::new(alloc)?;
-    let mut http = Vec::new(alloc);
-    http.push(link(rt, alloc, NO_ROUTE, &first)?)?;
-    http.push(link(rt, alloc, NO_ROUTE, &second)?)?;
-    let mut net = MemNet::new(rt, lines, http);
-    assert_served(
-        &rt,
-        alloc,
-        "serve --receivers 1 --renderers 1",
-        &mut net,
-        0,
-        b"stored 3 replaced 0 full 0 drains 3\n",
-    )?;
-    assert!(rt; first.are(&rt, NOT_FOUND));
-    assert!(rt; second.are(&rt, NOT_FOUND));
-    Ok(())
-}
-
-// Two links, each of which goes on once the other has come so far.
-fn crossed_gates<R: Clock + Copy + Drop>(
+// Disks that a server left which drained a point of class 12.
+fn drained_disks<R: Threads + Wait + Clock + Copy + Send + Sync + Drop>(
     rt: R,
     alloc: Global,
-) -> Result<(Gate<R>, Gate<R>), AllocError> {
-    let left = Flag::new(alloc)?;
-    let right = Flag::new(alloc)?;
-    Ok((
-        Gate::new(rt, left.share()?, right.share()?),
-        Gate::new(rt, right, left),
-    ))
-}
-
-#[test]
-fn two_receivers_read_at_once(rt: HostRuntime) -> Result<(), Fail> {
-    let alloc = rt.alloc();
-    let (left, right) = crossed_gates(rt, alloc)?;
-    let sent = Sent::new(alloc)?;
+) -> Result<Vec<GateDisk<R>>, AllocError>
+    ensures { IfOk result (λ disks. vec_len disks ≡ 16) }
+{
     let mut lines = Vec::new(alloc);
-    lines.push(link(rt, alloc, b"a.b 1 1700000000\n", &sent)?.reading_at(left))?;
-    lines.push(link(rt, alloc, b"a.r 2 1700000000\n", &sent)?.reading_at(right))?;
-    let mut net = MemNet::new(rt, lines, Vec::new(alloc));
-    assert_served(
-        &rt,
-        alloc,
-        "serve --receivers 2 --renderers 1",
-        &mut net,
-        0,
-        b"stored 2 replaced 0 full 0 drains 2\n",
-    )
-}
-
-#[test]
-fn two_renderers_write_at_once(rt: HostRuntime) -> Result<(), Fail> {
-    let alloc = rt.alloc();
-    let (left, right) = crossed_gates(rt, alloc)?;
-    let first = Sent::new(alloc)?;
-    let second = Sent::new(alloc)?;
-    let mut http = Vec::new(alloc);
-    http.push(link(rt, alloc, NO_ROUTE, &first)?.writing_at(left))?;
-    http.push(link(rt, alloc, NO_ROUTE, &second)?.writing_at(right))?;
-    let mut net = MemNet::new(rt, Vec::new(alloc), http);
-    assert_served(
-        &rt,
-        alloc,
-        "serve --receivers 1 --renderers 2",
-        &mut net,
-        0,
-        b"stored 0 replaced 0 full 0 drains 0\n",
-    )?;
-    assert!(rt; first.are(&rt, NOT_FOUND));
-    assert!(rt; second.are(&rt, NOT_FOUND));
-    Ok(())
-}
-
-// Disks of which that of class 12 waits in its first write.
-fn waiting_disks<R: Clock + Drop>(
-    alloc: Global,
-    gate: Gate<R>,
-) -> Result<Vec<GateDisk<R>>, AllocError>
-    ensures { IfOk result (λ disks. vec_len disks ≡ 16) }
-{
-    let mut disks = sixteen_disks(alloc)?;
-    disks[12] = GateDisk::new(MemDisk::new(alloc, 10_000_000)).writing_at(gate);
-    Ok(disks)
-}
-
-#[test]
-fn the_drainer_writes_while_links_are_served(rt: HostRuntime) -> Result<(), Fail> {
-    let alloc = rt.alloc();
-    let draining = Flag::new(alloc)?;
-    let replied = Flag::new(alloc)?;
-    let disks = waiting_disks(alloc, Gate::new(rt, draining.share()?, replied.share()?))?;
-    let gate = Gate::new(rt, Flag::new(alloc)?, draining);
-    let sent = Sent::new(alloc)?;
-    let mut http = Vec::new(alloc);
-    http.push(
-        link(rt, alloc, NO_ROUTE, &sent)?
-            .writing_at(gate)
-            .marking(NOT_FOUND.len(), replied),
-    )?;
-    let lines = line_links(rt, alloc, &[b"a.b 1.5 1700000000\n".as_slice()])?;
-    let mut net = MemNet::new(rt, lines, http);
-    let mut out = MemSink::new(alloc);
-    let report = run_server(&rt, alloc, "serve", disks, &mut net, &mut out)?;
-    assert!(rt; report.status == 0);
-    assert!(rt; out.bytes() == b"stored 1 replaced 0 full 0 drains 1\n".as_slice());
-    assert!(rt; sent.are(&rt, NOT_FOUND));
-    Ok(())
-}
-
-// A link that brings a line of class 3 once a flag is up, and one behind it, which puts another flag up as it is read: with one receiver, once
-// that line was put.
-fn links_behind<R: Wait + Clock + Copy + Drop>(
-    rt: R,
-    alloc: Global,
-    begun: Flag,
-    put: Flag,
-) -> Result<Vec<GateLink<R>>, AllocError> {
-    let sent = Sent::new(alloc)?;
-    let opened = Flag::new(alloc)?;
-    opened.raise();
-    let wait = Gate::new(rt, Flag::new(alloc)?, begun);
-    let tell = Gate::new(rt, put, opened);
-    let mut links = Vec::new(alloc);
-    links.push(link(rt, alloc, b"d 2 1700000000\n", &sent)?.reading_at(wait))?;
-    links.push(link(rt, alloc, b"", &sent)?.reading_at(tell))?;
-    Ok(links)
-}
-
-// No call failed of the disk of class 12, which would have waited in vain.
-fn assert_none_failed<R: Clock + Drop>(rt: &impl Abort, report: &Report<GateDisk<R>>) {
-    assert!(rt; report.status == 0);
-    assert!(rt; report.disks.get(12).is_some_and(|disk| disk.faults() == 0));
-}
-
-#[test]
-fn a_point_is_put_while_the_disk_of_another_class_writes(rt: HostRuntime) -> Result<(), Fail> {
-    let alloc = rt.alloc();
-    let writing = Flag::new(alloc)?;
-    let put = Flag::new(alloc)?;
-    let disks = waiting_disks(alloc, Gate::new(rt, writing.share()?, put.share()?))?;
-    let mut lines = line_links(rt, alloc, &[b"a.b 1.5 1700000000\n".as_slice()])?;
-    lines.append(&mut links_behind(rt, alloc, writing, put)?)?;
+    lines.push(open_link(rt, alloc, LINE.brings, &Sent::new(alloc)?)?)?;
     let mut net = MemNet::new(rt, lines, Vec::new(alloc));
     let mut out = MemSink::new(alloc);
-    let report = run_server(&rt, alloc, "serve --receivers 1", disks, &mut net, &mut out)?;
-    assert_none_failed(&rt, &report);
-    assert!(rt; out.bytes() == b"stored 2 replaced 0 full 0 drains 2\n".as_slice());
-    Ok(())
-}
-
-const ASKED: &[u8] =
-    b"GET /render?target=a.b&from=1699999930&until=1700000030 HTTP/1.1\r\nConnection: close\r\n\r\n";
-
-const ANSWER: &[u8] =
-    b"HTTP/1.1 200 OK\r\nContent-Type: application/json\r\nContent-Length: 54\r\nConnection: close\r\n\r\n[{\"target\": \"a.b\", \"datapoints\": [[1.5, 1699999980]]}]";
-
-// Disks that a server left which drained a point of class 12. The read behind that of its file's head waits.
-fn reading_disks<R: Threads + Wait + Clock + Copy + Send + Sync + Drop>(
-    rt: R,
-    alloc: Global,
-    gate: Gate<R>,
-) -> Result<Vec<GateDisk<R>>, AllocError>
-    ensures { IfOk result (λ disks. vec_len disks ≡ 16) }
-{
-    let lines = line_links(rt, alloc, &[b"a.b 1.5 1700000000\n".as_slice()])?;
-    let mut net = MemNet::new(rt, lines, Vec::new(alloc));
-    let mut out = MemSink::new(alloc);
-    let report = run_server(
+    let report = serve(
         &rt,
         alloc,
         "serve",
@@ -345,28 +338,313 @@ fn reading_disks<R: Threads + Wait + Clock + Copy + Send + Sync + Drop>(
         &mut net,
         &mut out,
     )?;
-    let mut disks = report.disks;
+    Ok(report.disks)
+}
+
+// These disks, of which that of class 12 has a read that waits.
+fn reading_disks<R: Clock + Drop>(
+    alloc: Global,
+    mut disks: Vec<GateDisk<R>>,
+    gate: Gate<R>,
+) -> Vec<GateDisk<R>>
+    requires { vec_len disks ≡ 16 }
+    ensures { vec_len result ≡ 16 }
+{
     let disk = mem::replace(&mut disks[12], GateDisk::new(MemDisk::new(alloc, 0)));
     disks[12] = disk.reading_at(1, gate);
-    Ok(disks)
+    disks
 }
+
+// The same with a write that waits.
+fn writing_disks<R: Clock + Drop>(
+    alloc: Global,
+    mut disks: Vec<GateDisk<R>>,
+    gate: Gate<R>,
+) -> Vec<GateDisk<R>>
+    requires { vec_len disks ≡ 16 }
+    ensures { vec_len result ≡ 16 }
+{
+    let disk = mem::replace(&mut disks[12], GateDisk::new(MemDisk::new(alloc, 0)));
+    disks[12] = disk.writing_at(gate);
+    disks
+}
+
+fn disks_of<R: Threads + Wait + Clock + Copy + Send + Sync + Drop>(
+    rt: R,
+    alloc: Global,
+    flags: &Flags,
+    waits: DiskWaits,
+) -> Result<Vec<GateDisk<R>>, AllocError>
+    ensures { IfOk result (λ disks. vec_len disks ≡ 16) }
+{
+    match waits {
+        DiskWaits::Never => sixteen_disks(alloc),
+        DiskWaits::Write(meeting) => {
+            let gate = flags.gate(rt, meeting)?;
+            Ok(writing_disks(alloc, sixteen_disks(alloc)?, gate))
+        }
+        DiskWaits::Read(meeting) => {
+            let gate = flags.gate(rt, meeting)?;
+            Ok(reading_disks(alloc, drained_disks(rt, alloc)?, gate))
+        }
+    }
+}
+
+// What a server left.
+#[derive(Drop)]
+struct Left<R: Clock + Drop> {
+    report: Report<GateDisk<R>>,
+    ports: Option<Bound>,
+}
+
+fn run_case<R: Threads + Wait + Clock + Copy + Send + Sync + Drop>(
+    rt: &R,
+    alloc: Global,
+    case: &ServerCase,
+    replies: &Replies,
+    out: &mut MemSink,
+) -> Result<Left<R>, AllocError> {
+    let flags = Flags::new(alloc)?;
+    let mut net = replies.net(*rt, alloc, &flags, case)?;
+    let disks = disks_of(*rt, alloc, &flags, case.disk)?;
+    let report = serve(rt, alloc, case.words, disks, &mut net, out)?;
+    Ok(Left {
+        report,
+        ports: net.bound(),
+    })
+}
+
+// ---- what is wanted
+
+// No call of the disk of class 12 has failed, which would have waited in vain.
+fn assert_left<R: Clock + Drop>(rt: &impl Abort, left: &Left<R>, out: &MemSink, case: &ServerCase) {
+    let status = if case.ports.is_none() { 9 } else { 0 };
+    assert!(rt;
+        left.report.status == status && left.ports == case.ports,
+        "{}",
+        case.words
+    );
+    assert!(rt;
+        left.report
+            .disks
+            .get(12)
+            .is_some_and(|disk| disk.faults() == 0)
+    );
+    assert!(rt; out.bytes() == case.text, "{}", case.words);
+}
+
+fn assert_sent<R: Wait + Abort>(rt: &R, sent: &[Sent], cases: &[LinkCase]) {
+    for (k, (sent, case)) in sent.iter().zip(cases).enumerate() {
+        assert!(rt; sent.are(rt, case.reply), "link {k}");
+    }
+}
+
+fn assert_served<R: Threads + Wait + Abort + Clock + Copy + Send + Sync + Drop>(
+    rt: &R,
+    alloc: Global,
+    case: &ServerCase,
+) -> Result<(), Fail> {
+    let replies = Replies::new(alloc, case)?;
+    let mut out = MemSink::new(alloc);
+    let left = run_case(rt, alloc, case, &replies, &mut out)?;
+    assert_left(rt, &left, &out, case);
+    assert_sent(rt, &replies.lines, case.lines);
+    assert_sent(rt, &replies.http, case.http);
+    Ok(())
+}
+
+// ---- the tests
+
+const ONE_LINE: ServerCase = ServerCase {
+    words: "serve",
+    disk: DiskWaits::Never,
+    lines: &[LINE],
+    http: &[],
+    ports: PORTS,
+    text: b"stored 1 replaced 0 full 0 drains 1\n",
+};
+
+#[test]
+fn one_line_is_served_and_drained(rt: HostRuntime) -> Result<(), Fail> {
+    assert_served(&rt, rt.alloc(), &ONE_LINE)
+}
+
+const NO_PORTS: ServerCase = ServerCase {
+    words: "serve --receivers=1",
+    disk: DiskWaits::Never,
+    lines: &[],
+    http: &[],
+    ports: None,
+    text: b"carbon: no port\n",
+};
+
+#[test]
+fn a_server_without_ports_tells_so(rt: HostRuntime) -> Result<(), Fail> {
+    assert_served(&rt, rt.alloc(), &NO_PORTS)
+}
+
+const NO_LINKS: [ServerCase; 2] = [
+    ServerCase {
+        words: "serve",
+        disk: DiskWaits::Never,
+        lines: &[],
+        http: &[],
+        ports: PORTS,
+        text: b"stored 0 replaced 0 full 0 drains 0\n",
+    },
+    ServerCase {
+        words: "serve --line-port 1 --http-port=2 --links 3",
+        disk: DiskWaits::Never,
+        lines: &[],
+        http: &[],
+        ports: Some(Bound {
+            line_port: 1,
+            http_port: 2,
+            links: 3,
+        }),
+        text: b"stored 0 replaced 0 full 0 drains 0\n",
+    },
+];
+
+#[test]
+fn the_words_say_which_ports_are_opened_and_for_how_many_links(
+    rt: HostRuntime,
+) -> Result<(), Fail> {
+    for case in NO_LINKS.iter() {
+        assert_served(&rt, rt.alloc(), case)?;
+    }
+    Ok(())
+}
+
+const ONE_WORKER: ServerCase = ServerCase {
+    words: "serve --receivers 1 --renderers 1",
+    disk: DiskWaits::Never,
+    lines: &[
+        LinkCase {
+            brings: b"a.b 1 1700000000\n",
+            waits: LinkWaits::Never,
+            reply: b"",
+        },
+        LinkCase {
+            brings: b"a.r 2 1700000000\n",
+            waits: LinkWaits::Never,
+            reply: b"",
+        },
+        LinkCase {
+            brings: b"a.2 3 1700000000\n",
+            waits: LinkWaits::Never,
+            reply: b"",
+        },
+    ],
+    http: &[NO_ROUTE, NO_ROUTE],
+    ports: PORTS,
+    text: b"stored 3 replaced 0 full 0 drains 3\n",
+};
+
+#[test]
+fn one_worker_of_each_kind_serves_all_links(rt: HostRuntime) -> Result<(), Fail> {
+    assert_served(&rt, rt.alloc(), &ONE_WORKER)
+}
+
+const TWO_RECEIVERS: ServerCase = ServerCase {
+    words: "serve --receivers 2 --renderers 1",
+    disk: DiskWaits::Never,
+    lines: &[
+        LinkCase {
+            brings: b"a.b 1 1700000000\n",
+            waits: LinkWaits::Read(LEFT_MEETS),
+            reply: b"",
+        },
+        LinkCase {
+            brings: b"a.r 2 1700000000\n",
+            waits: LinkWaits::Read(RIGHT_MEETS),
+            reply: b"",
+        },
+    ],
+    http: &[],
+    ports: PORTS,
+    text: b"stored 2 replaced 0 full 0 drains 2\n",
+};
+
+#[test]
+fn two_receivers_read_at_once(rt: HostRuntime) -> Result<(), Fail> {
+    assert_served(&rt, rt.alloc(), &TWO_RECEIVERS)
+}
+
+const TWO_RENDERERS: ServerCase = ServerCase {
+    words: "serve --receivers 1 --renderers 2",
+    disk: DiskWaits::Never,
+    lines: &[],
+    http: &[
+        LinkCase {
+            brings: GET_NO_ROUTE,
+            waits: LinkWaits::Write(LEFT_MEETS),
+            reply: NOT_FOUND,
+        },
+        LinkCase {
+            brings: GET_NO_ROUTE,
+            waits: LinkWaits::Write(RIGHT_MEETS),
+            reply: NOT_FOUND,
+        },
+    ],
+    ports: PORTS,
+    text: b"stored 0 replaced 0 full 0 drains 0\n",
+};
+
+#[test]
+fn two_renderers_write_at_once(rt: HostRuntime) -> Result<(), Fail> {
+    assert_served(&rt, rt.alloc(), &TWO_RENDERERS)
+}
+
+// The disk's first write goes on once the reply is written, which is written once that write has begun.
+const DRAINED_MEANWHILE: ServerCase = ServerCase {
+    words: "serve",
+    disk: DiskWaits::Write(LEFT_MEETS),
+    lines: &[LINE],
+    http: &[LinkCase {
+        brings: GET_NO_ROUTE,
+        waits: LinkWaits::Replying(BEHIND_LEFT, Sign::Right),
+        reply: NOT_FOUND,
+    }],
+    ports: PORTS,
+    text: b"stored 1 replaced 0 full 0 drains 1\n",
+};
+
+#[test]
+fn the_drainer_writes_while_links_are_served(rt: HostRuntime) -> Result<(), Fail> {
+    assert_served(&rt, rt.alloc(), &DRAINED_MEANWHILE)
+}
+
+const PUT_BESIDE_A_WRITE: ServerCase = ServerCase {
+    words: "serve --receivers 1",
+    disk: DiskWaits::Write(LEFT_MEETS),
+    lines: &[LINE, LATE_LINE, BEHIND_LATE],
+    http: &[],
+    ports: PORTS,
+    text: b"stored 2 replaced 0 full 0 drains 2\n",
+};
+
+#[test]
+fn a_point_is_put_while_the_disk_of_another_class_writes(rt: HostRuntime) -> Result<(), Fail> {
+    assert_served(&rt, rt.alloc(), &PUT_BESIDE_A_WRITE)
+}
+
+const PUT_BESIDE_A_READ: ServerCase = ServerCase {
+    words: "serve --receivers 1",
+    disk: DiskWaits::Read(LEFT_MEETS),
+    lines: &[LATE_LINE, BEHIND_LATE],
+    http: &[LinkCase {
+        brings: b"GET /render?target=a.b&from=1699999930&until=1700000030 HTTP/1.1\r\nConnection: close\r\n\r\n",
+        waits: LinkWaits::Never,
+        reply: b"HTTP/1.1 200 OK\r\nContent-Type: application/json\r\nContent-Length: 54\r\nConnection: close\r\n\r\n[{\"target\": \"a.b\", \"datapoints\": [[1.5, 1699999980]]}]",
+    }],
+    ports: PORTS,
+    text: b"stored 1 replaced 0 full 0 drains 1\n",
+};
 
 #[test]
 fn a_point_is_put_while_a_question_reads_another_class(rt: HostRuntime) -> Result<(), Fail> {
-    let alloc = rt.alloc();
-    let reading = Flag::new(alloc)?;
-    let put = Flag::new(alloc)?;
-    let disks = reading_disks(rt, alloc, Gate::new(rt, reading.share()?, put.share()?))?;
-    let sent = Sent::new(alloc)?;
-    let mut http = Vec::new(alloc);
-    http.push(link(rt, alloc, ASKED, &sent)?)?;
-    let mut net = MemNet::new(rt, links_behind(rt, alloc, reading, put)?, http);
-    let mut out = MemSink::new(alloc);
-    let report = run_server(&rt, alloc, "serve --receivers 1", disks, &mut net, &mut out)?;
-    assert_none_failed(&rt, &report);
-    assert!(rt; sent.are(&rt, ANSWER));
-    assert!(rt; out.bytes() == b"stored 1 replaced 0 full 0 drains 1\n".as_slice());
-    Ok(())
+    assert_served(&rt, rt.alloc(), &PUT_BESIDE_A_READ)
 }
 
 // What a dashboard browses and then draws, on one link: nodes, paths, all names, a request without a query, the values of a metric in two forms.
@@ -377,23 +655,20 @@ const BROWSED_REPLIES: &[u8] =
     b"HTTP/1.1 200 OK\r\nContent-Type: application/json\r\nContent-Length: 89\r\n\r\n[{\"allowChildren\": 1, \"expandable\": 1, \"leaf\": 0, \"id\": \"a\", \"text\": \"a\", \"context\": {}}]HTTP/1.1 200 OK\r\nContent-Type: application/json\r\nContent-Length: 18\r\n\r\n{\"results\": [\"a\"]}HTTP/1.1 200 OK\r\nContent-Type: application/json\r\nContent-Length: 7\r\n\r\n[\"a.b\"]HTTP/1.1 400 Bad Request\r\nContent-Type: text/plain\r\nContent-Length: 9\r\n\r\nno query\nHTTP/1.1 200 OK\r\nContent-Type: text/csv\r\nContent-Length: 29\r\n\r\na.b,2023-11-14 22:13:00,1.5\r\nHTTP/1.1 200 OK\r\nContent-Type: application/json\r\nContent-Length: 54\r\nConnection: close\r\n\r\n[{\"target\": \"a.b\", \"datapoints\": [[1.5, 1699999980]]}]";
 
 // A link whose requests are read once the one line of another link is being drained.
+const BROWSED_LINK: ServerCase = ServerCase {
+    words: "serve",
+    disk: DiskWaits::Write(TELLS_LEFT),
+    lines: &[LINE],
+    http: &[LinkCase {
+        brings: BROWSED,
+        waits: LinkWaits::Read(BEHIND_LEFT),
+        reply: BROWSED_REPLIES,
+    }],
+    ports: PORTS,
+    text: b"stored 1 replaced 0 full 0 drains 1\n",
+};
+
 #[test]
 fn names_and_values_are_told_over_one_link(rt: HostRuntime) -> Result<(), Fail> {
-    let alloc = rt.alloc();
-    let draining = Flag::new(alloc)?;
-    let opened = Flag::new(alloc)?;
-    opened.raise();
-    let disks = waiting_disks(alloc, Gate::new(rt, draining.share()?, opened))?;
-    let gate = Gate::new(rt, Flag::new(alloc)?, draining);
-    let sent = Sent::new(alloc)?;
-    let mut http = Vec::new(alloc);
-    http.push(link(rt, alloc, BROWSED, &sent)?.reading_at(gate))?;
-    let lines = line_links(rt, alloc, &[b"a.b 1.5 1700000000\n".as_slice()])?;
-    let mut net = MemNet::new(rt, lines, http);
-    let mut out = MemSink::new(alloc);
-    let report = run_server(&rt, alloc, "serve", disks, &mut net, &mut out)?;
-    assert!(rt; report.status == 0);
-    assert!(rt; out.bytes() == b"stored 1 replaced 0 full 0 drains 1\n".as_slice());
-    assert!(rt; sent.are(&rt, BROWSED_REPLIES));
-    Ok(())
+    assert_served(&rt, rt.alloc(), &BROWSED_LINK)
 }

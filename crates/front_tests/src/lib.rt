@@ -5,9 +5,9 @@ mod carbon_run_serve_tests;
 #[cfg(test)]
 mod carbon_run_tests;
 #[cfg(test)]
-mod carbon_words_run_tests;
-#[cfg(test)]
 mod http_front_cut_tests;
+#[cfg(test)]
+mod http_front_kit;
 #[cfg(test)]
 mod http_front_name_tests;
 #[cfg(test)]

@@ -1,7 +1,7 @@
 use Rattle.std.proofs.Common.{◌≡◌, List, [], ◌∷◌, ◌++◌, length, refl, ap, ◌∙◌, arith, length-append}
 use Rattle.std.specs.Prelude.{slice_get}
 use Rattle.shared_history.specs.Parts.{PassValue}
-use Rattle.front_tests.proofs.http_front_tests.serve_store.Goals as goal
+use Rattle.front_tests.proofs.http_front_kit.serve_store.Goals as goal
 
 none_left : (xs rest : List PassValue) (x : PassValue) → length xs ≡ 1 → xs ≡ rest ++ x ∷ [] → rest ≡ []
 none_left xs [] x one same = refl

@@ -1,6 +1,6 @@
 use Rattle.shard_set.specs.Disks.{faults_at, told_at}
 use Rattle.shard_set.specs.OpeningState.{opening_of}
-use Rattle.front_tests.proofs.http_front_tests.serve_shards.Given as goal
+use Rattle.front_tests.proofs.http_front_kit.serve_shards.Given as goal
 
 -- the store is that of the history, of one pass, and of what the shards stand for as they start
 abbrev pub ghosts-serve_parts : goal.ghosts-serve_parts

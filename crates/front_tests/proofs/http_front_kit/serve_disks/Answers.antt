@@ -1,6 +1,6 @@
 use Rattle.shard_set.specs.Disks.{told_at}
 use Rattle.shard_set.proofs.StateLemmas.{all_ready}
-use Rattle.front_tests.proofs.http_front_tests.serve_disks.Goals as goal
+use Rattle.front_tests.proofs.http_front_kit.serve_disks.Goals as goal
 
 pub serve_shards-requires : goal.serve_shards-requires
 serve_shards-requires g c =

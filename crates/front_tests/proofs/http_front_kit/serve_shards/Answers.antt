@@ -7,7 +7,7 @@ use Rattle.shard_set.specs.Disks.{faults_at, told_at}
 use Rattle.shard_core.specs.Started.{AreReadyShards}
 use Rattle.shard_set.specs.OpeningState.{opening_of}
 use Rattle.shard_core.specs.Started.{AreReadyShards}
-use Rattle.front_tests.proofs.http_front_tests.serve_shards.Goals as goal
+use Rattle.front_tests.proofs.http_front_kit.serve_shards.Goals as goal
 
 fresh_from : {D : Type 0} {d : Ghosts D} (told : ℕ → Option Image) (start : State) (earlier : ℕ → ℕ) (shards : List (Shard D d)) → AreReadyShards told start earlier shards → AreReadyShards told start earlier shards
 fresh_from told start earlier shards ready k shard there =
