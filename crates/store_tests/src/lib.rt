@@ -5,6 +5,8 @@ mod shared_history_tests;
 #[cfg(test)]
 mod shared_store_class_tests;
 #[cfg(test)]
+mod shared_store_ends;
+#[cfg(test)]
 mod shared_store_kit;
 #[cfg(test)]
 mod shared_store_tests;

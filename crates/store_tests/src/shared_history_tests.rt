@@ -214,6 +214,36 @@ struct Counts {
     asks: u64,
 }
 
+fn open_store<N: Named>(
+    alloc: Global,
+    order: Order,
+    tails: Vec<Tail>,
+    paths: Vec<MetricPath>,
+) -> Result<Store<N>, AllocError>
+    requires order { order.table ≡ N.table }
+    requires tails { AreNewTails N.table tails.items }
+{
+    let classes = open_classes::<N>(alloc, tails)?;
+    let order = Mutex::new(OrderDesk::<N> {
+        order,
+        of: PhantomData,
+    });
+    Ok(Store {
+        order,
+        classes,
+        paths,
+    })
+}
+
+// Each worker serves in a thread of its own.
+fn serve_at_once<N: Named + Send + Sync, R: Threads + Wait + Sync>(
+    rt: &R,
+    store: &Store<N>,
+    workers: &mut [Worker<N>],
+) {
+    thread::for_each_mut(rt, workers, 4, &|_, worker| store.serve_all(rt, worker));
+}
+
 fn run_all<N: Named + Send + Sync, R: Threads + Wait + Sync>(
     rt: &R,
     alloc: Global,
@@ -226,22 +256,9 @@ fn run_all<N: Named + Send + Sync, R: Threads + Wait + Sync>(
     requires tails { AreNewTails N.table tails.items }
     requires passes { PassesOfTable N.table passes.items }
 {
-    let order = Mutex::new(OrderDesk::<N> {
-        order,
-        of: PhantomData,
-    });
-    let store = Store {
-        order,
-        classes: open_classes::<N>(alloc, tails)?,
-        paths,
-    };
+    let store = open_store::<N>(alloc, order, tails, paths)?;
     let mut workers = open_workers::<N>(alloc, passes)?;
-    thread::for_each_mut(
-        rt,
-        workers.as_mut_slice(),
-        4,
-        &|_, worker| store.serve_all(rt, worker),
-    );
+    serve_at_once(rt, &store, workers.as_mut_slice());
     close_all(alloc, store, workers)
 }
 

@@ -1,17 +1,17 @@
-// Callers of a store, each in a thread of its own: what they do, and what comes of it.
-ghost use Rattle.std.specs.Prelude.{◌≡◌, ◌<◌, ◌≤◌, All, IfOk, IfSome, vec_len};
+// Callers of a store, at once or one behind the other: what they do, and what comes of it.
+ghost use Rattle.std.specs.Prelude.{◌≡◌, ◌<◌, ◌≤◌, All, IfOk, IfSome, true, vec_len};
 ghost use Rattle.render_plan.specs.Needed.{AreEnds};
 ghost use Rattle.shard_core.specs.Started.{AreReadyShards};
 ghost use Rattle.shard_set.specs.Disks.{faults_at, told_at};
 ghost use Rattle.shard_set.specs.OpeningState.{opening_of};
 ghost use Rattle.shared_history.specs.Parts.{PassesOfTable};
+ghost use Rattle.shared_store.specs.Pieces.{HasRoomFor};
 ghost use Rattle.shared_store.specs.Starts.{IsFresh};
 
-use crate::shared_store_tests::{NOW, START, digit, has_room_for};
 use drain_order::Strategy;
 use gate_io::Flag;
 use metric_line::{Datum, read_line};
-use metric_path::CLASSES;
+use metric_path::{CLASSES, MetricPath};
 use outside_io::Disk;
 use path_glob::Glob;
 use point_cache::Put;
@@ -30,6 +30,15 @@ use std::thread;
 use std::thread::Threads;
 use std::time::{Clock, Duration};
 
+// A minute begins here.
+pub(crate) const START: u32 = 1_700_000_100;
+
+// Four minutes later, the moment of all drains and questions.
+pub(crate) const NOW: u32 = START + 240;
+
+// Ten minutes by minutes.
+pub(crate) const RULES: &[u8] = b"[all]\npattern = .*\nretentions = 60:10\n";
+
 // ---- what is done, and what comes of it
 
 // What a caller does. All drains and questions are of the moment `NOW`.
@@ -39,6 +48,8 @@ pub(crate) enum Deed {
     Put(&'static str, u32, u32),
     // Such points are put as one piece.
     PutAll(&'static [(&'static str, u32, u32)]),
+    // A point of each of the metrics `s.00000` on is put, from one number up to another.
+    PutMany(u32, u32),
     // A drain of a class is planned.
     Plan(u32),
     // A run of a class is written.
@@ -49,6 +60,8 @@ pub(crate) enum Deed {
     DrainAll,
     // The series that globs find are asked for.
     Ask(&'static [&'static [u8]]),
+    // The metrics that are pending or kept are asked for.
+    Names,
     // The caller waits until the flag with this number is up.
     Await(usize),
     // The flag with this number is put up.
@@ -59,6 +72,8 @@ pub(crate) enum Deed {
 pub(crate) enum Reply {
     Put(Put),
     PutAll(PutCounts),
+    // How many points were stored.
+    PutMany(u32),
     Planned(Planned),
     Wrote(Wrote),
     Stepped(Step),
@@ -66,6 +81,7 @@ pub(crate) enum Reply {
     // The rows, and how many entries the question made.
     Rows(SeriesRows, u64),
     Refused(AskFault),
+    Names(Vec<MetricPath>),
     // Whether the flag is up.
     Up(bool),
 }
@@ -95,6 +111,23 @@ impl<N: Named> Model for Worker<N> {
     ghost view = { λ w. w.pass.number };
 
     ghost invariant = { λ w. w.pass.table ≡ N.table };
+}
+
+fn digit(number: u32, unit: u32) -> u8
+    requires { 0 < unit }
+{
+    (number / unit % 10) as u8 + b'0'
+}
+
+// A line of the metric with this number.
+fn line_of(n: u32) -> [u8; 20] {
+    let mut line = *b"s.00000 1 1700000100";
+    line[2] = digit(n, 10_000);
+    line[3] = digit(n, 1_000);
+    line[4] = digit(n, 100);
+    line[5] = digit(n, 10);
+    line[6] = digit(n, 1);
+    line
 }
 
 // A blank and ten digits.
@@ -153,6 +186,13 @@ fn needs_of(alloc: Global, globs: &[&'static [u8]]) -> Option<Vec<Need>>
     Some(needs)
 }
 
+fn is_stored(reply: &Reply) -> bool {
+    match reply {
+        Reply::Put(put) => *put == Put::Stored,
+        _ => false,
+    }
+}
+
 // Waits for 20 seconds at most, and says whether the flag came up.
 fn comes_up(clock: &impl Clock, flag: &Flag) -> bool {
     for _turn in 0..20_000 {
@@ -178,22 +218,22 @@ impl Job {
         })
     }
 
-    fn waits(&self, clock: &impl Clock, number: usize) -> bool {
-        match self.flags.get(number) {
-            Some(flag) => comes_up(clock, flag),
-            None => false,
-        }
+    fn waits(&self, clock: &impl Clock, number: usize) -> Option<Reply> {
+        let flag = self.flags.get(number)?;
+        Some(Reply::Up(comes_up(clock, flag)))
     }
 
-    fn raises(&self, number: usize) -> bool {
-        match self.flags.get(number) {
-            Some(flag) => {
-                flag.raise();
-                true
-            }
-            None => false,
-        }
+    fn raises(&self, number: usize) -> Option<Reply> {
+        let flag = self.flags.get(number)?;
+        flag.raise();
+        Some(Reply::Up(true))
     }
+}
+
+fn has_room_for(pass: &Pass, points: &[Datum]) -> bool
+    ensures { result ≡ true → HasRoomFor points.now pass.now }
+{
+    pass.left() >= points.len() as u64 + 4
 }
 
 impl<N: Named> Worker<N> {
@@ -207,6 +247,37 @@ impl<N: Named> Worker<N> {
             return None;
         }
         Some(Reply::Put(store.put(rt, &mut self.pass, datum)))
+    }
+
+    fn put_point<D: Disk>(
+        &mut self,
+        rt: &impl Wait,
+        alloc: Global,
+        store: &Store<D, N>,
+        path: &str,
+        minute: u32,
+        value: u32,
+    ) -> Option<Reply> {
+        let datum = datum_of(alloc, path, minute, value)?;
+        self.put(rt, store, &datum)
+    }
+
+    fn put_many<D: Disk>(
+        &mut self,
+        rt: &impl Wait,
+        alloc: Global,
+        store: &Store<D, N>,
+        from: u32,
+        until: u32,
+    ) -> Option<Reply> {
+        let mut stored = 0u32;
+        for n in from..until {
+            let datum = read_line(alloc, &line_of(n), START).ok()?;
+            if is_stored(&self.put(rt, store, &datum)?) {
+                stored = stored.saturating_add(1);
+            }
+        }
+        Some(Reply::PutMany(stored))
     }
 
     fn put_all<D: Disk>(
@@ -270,6 +341,19 @@ impl<N: Named> Worker<N> {
         }
     }
 
+    fn names<D: Disk>(
+        &mut self,
+        rt: &impl Wait,
+        alloc: Global,
+        store: &Store<D, N>,
+    ) -> Option<Reply> {
+        if !has_room(&self.pass) {
+            return None;
+        }
+        let names = store.names(rt, alloc, &mut self.pass, NOW).ok()?;
+        Some(Reply::Names(names))
+    }
+
     fn obey<D: Disk, R: Wait + Clock>(
         &mut self,
         rt: &R,
@@ -279,37 +363,76 @@ impl<N: Named> Worker<N> {
     ) -> Option<Reply> {
         match deed {
             Deed::Put(path, minute, value) => {
-                self.put(rt, store, &datum_of(alloc, path, minute, value)?)
+                self.put_point(rt, alloc, store, path, minute, value)
             }
             Deed::PutAll(piece) => self.put_all(rt, alloc, store, piece),
+            Deed::PutMany(from, until) => self.put_many(rt, alloc, store, from, until),
             Deed::Plan(class) => self.plan(rt, store, class),
             Deed::Write(class) => self.write(rt, store, class),
             Deed::Step(class) => self.step(rt, store, class),
             Deed::DrainAll => self.drain_all(rt, store),
             Deed::Ask(globs) => self.ask(rt, alloc, store, globs),
-            Deed::Await(flag) => Some(Reply::Up(self.job.waits(rt, flag))),
-            Deed::Raise(flag) => Some(Reply::Up(self.job.raises(flag))),
+            Deed::Names => self.names(rt, alloc, store),
+            Deed::Await(flag) => self.job.waits(rt, flag),
+            Deed::Raise(flag) => self.job.raises(flag),
         }
     }
 
-    // Does all that is to be done, up to the first of it for which there is no room or no memory:
+    // Does what is to be done at this place of its job.
+    fn obey_next<D: Disk, R: Wait + Clock>(
+        &mut self,
+        rt: &R,
+        alloc: Global,
+        store: &Store<D, N>,
+        place: usize,
+    ) -> Option<()> {
+        let deed = self.job.deeds.get(place).copied()?;
+        let reply = self.obey(rt, alloc, store, deed)?;
+        self.job.replies.push(reply).ok()
+    }
+
+    // Does all that is to be done, up to the first of it for which there is no room, no memory or no flag:
     // that has no reply.
     fn work<D: Disk, R: Wait + Clock>(&mut self, rt: &R, alloc: Global, store: &Store<D, N>) {
         for n in 0..self.job.deeds.len() {
-            let Some(deed) = self.job.deeds.get(n).copied() else {
-                return;
-            };
-            let Some(reply) = self.obey(rt, alloc, store, deed) else {
-                return;
-            };
-            if self.job.replies.push(reply).is_err() {
+            if self.obey_next(rt, alloc, store, n).is_none() {
                 return;
             }
         }
     }
+
+    // The worker learns what another has seen, and works behind it.
+    fn work_behind<D: Disk, R: Wait + Clock>(
+        &mut self,
+        rt: &R,
+        alloc: Global,
+        store: &Store<D, N>,
+        other: &mut Worker<N>,
+    ) {
+        let note = store.note(&mut other.pass);
+        store.learn(rt, &mut self.pass, note);
+        self.work(rt, alloc, store);
+    }
 }
 
 // ---- all callers
+
+// How callers work.
+#[derive(Clone, Copy)]
+pub(crate) enum Turns {
+    // All at once, each in a thread of its own.
+    AtOnce,
+    // The others behind the first, from which they learn what it has seen.
+    OneByOne,
+}
+
+// The rules of a store, how many points of a class may be pending, and how its callers work.
+#[derive(Clone, Copy)]
+pub(crate) struct Scene {
+    pub(crate) schemas: &'static [u8],
+    pub(crate) limit: u64,
+    pub(crate) turns: Turns,
+}
 
 // What a run leaves: what each caller did and came to, and the closed store.
 #[derive(Drop)]
@@ -362,8 +485,8 @@ fn left_of<N: Named>(alloc: Global, workers: Vec<Worker<N>>) -> Result<Left, All
     Ok(Left { passes, jobs })
 }
 
-// All workers work at once, each in a thread of its own.
-fn work_all<D: Disk + Send, N: Named + Send + Sync, R: Threads + Wait + Clock + Sync>(
+// All workers work, each in a thread of its own.
+fn work_at_once<D: Disk + Send, N: Named + Send + Sync, R: Threads + Wait + Clock + Sync>(
     rt: &R,
     alloc: Global,
     store: &Store<D, N>,
@@ -378,68 +501,124 @@ fn work_all<D: Disk + Send, N: Named + Send + Sync, R: Threads + Wait + Clock + 
     );
 }
 
+fn work_one_by_one<D: Disk, N: Named, R: Wait + Clock>(
+    rt: &R,
+    alloc: Global,
+    store: &Store<D, N>,
+    workers: &mut [Worker<N>],
+) {
+    if let Some((first, others)) = workers.split_first_mut() {
+        first.work(rt, alloc, store);
+        for worker in others.iter_mut() {
+            worker.work_behind(rt, alloc, store, first);
+        }
+    }
+}
+
+fn work_all<D: Disk + Send, N: Named + Send + Sync, R: Threads + Wait + Clock + Sync>(
+    rt: &R,
+    alloc: Global,
+    store: &Store<D, N>,
+    workers: &mut [Worker<N>],
+    turns: Turns,
+) {
+    match turns {
+        Turns::AtOnce => work_at_once(rt, alloc, store, workers),
+        Turns::OneByOne => work_one_by_one(rt, alloc, store, workers),
+    }
+}
+
+fn start_store<D: Disk + Drop, N: Named>(
+    alloc: Global,
+    parts: Parts<D>,
+) -> Result<Store<D, N>, Fail>
+    requires { IsFresh N.table N.passes N.told N.start N.faults parts }
+{
+    match Store::<D, N>::start(alloc, parts) {
+        Ok(store) => Ok(store),
+        Err(_parts) => Err(Fail::new("there is memory")),
+    }
+}
+
+fn close_store<D: Disk + Drop, N: Named>(
+    rt: &impl Wait,
+    alloc: Global,
+    store: Store<D, N>,
+    workers: Vec<Worker<N>>,
+) -> Result<Ran<D>, Fail> {
+    let Left { passes, jobs } = left_of(alloc, workers)?;
+    let closed = store.close(rt, passes);
+    Ok(Ran { jobs, closed })
+}
+
 fn run_store<D: Disk + Drop + Send, N: Named + Send + Sync, R: Threads + Wait + Clock + Sync>(
     rt: &R,
     alloc: Global,
     parts: Parts<D>,
     passes: Vec<Pass>,
     jobs: Vec<Job>,
+    turns: Turns,
 ) -> Result<Ran<D>, Fail>
     requires fresh { IsFresh N.table N.passes N.told N.start N.faults parts }
     requires one { PassesOfTable N.table passes.items }
 {
     let mut workers = workers_of::<N>(alloc, passes, jobs)?;
-    let Ok(store) = Store::<D, N>::start(alloc, parts) else {
-        return Err(Fail::new("there is memory"));
-    };
-    work_all(rt, alloc, &store, workers.as_mut_slice());
-    let Left { passes, jobs } = left_of(alloc, workers)?;
-    let closed = store.close(rt, passes);
-    Ok(Ran { jobs, closed })
+    let store = start_store::<D, N>(alloc, parts)?;
+    work_all(rt, alloc, &store, workers.as_mut_slice(), turns);
+    close_store(rt, alloc, store, workers)
 }
 
-// The shards of all classes over disks, with these rules. So many points of a class may be pending.
-fn start_shards<D: Disk + Drop>(
-    alloc: Global,
-    disks: Vec<D>,
-    schemas: &[u8],
-    limit: u64,
-) -> Result<Started<D>, Fail>
-    requires all { vec_len disks ≡ 16 }
-    requires some { 0 < limit }
-    ensures { IfOk result (λ started. AreReadyShards (told_at started.shards.items)
-        (opening_of started.shards.items) (faults_at started.shards.items) started.shards.items) }
-{
-    let setup = Setup {
-        rules: Rules::read(alloc, schemas, b"")?,
-        limit,
+// The rules of a schema file. A function that also has to show what a call requires is proved at
+// many times the cost, since the clauses of the rules are searched for it.
+fn read_rules(alloc: Global, schemas: &[u8]) -> Result<Rules, Fail> {
+    Ok(Rules::read(alloc, schemas, b"")?)
+}
+
+// So many points of a class may be pending, but at least one.
+fn setup_of(rules: Rules, limit: u64) -> Setup {
+    Setup {
+        rules,
+        limit: limit.max(1),
         strategy: Strategy::Naive,
-    };
-    match start_all(alloc, disks, &setup) {
-        Ok(started) => Ok(started),
-        Err(_) => Err(Fail::new("the disks can be started from")),
     }
 }
 
-// All jobs are done at once over a store that starts from these disks, and is closed then.
+// The shards of all classes over disks.
+fn start_shards<D: Disk + Drop>(
+    alloc: Global,
+    disks: Vec<D>,
+    setup: &Setup,
+) -> Result<Started<D>, Fail>
+    requires { vec_len disks ≡ 16 }
+    ensures { IfOk result (λ started. AreReadyShards (told_at started.shards.items)
+        (opening_of started.shards.items) (faults_at started.shards.items) started.shards.items) }
+{
+    match start_all(alloc, disks, setup) {
+        Ok(started) => Ok(started),
+        Err(_refused) => Err(Fail::new("the disks can be started from")),
+    }
+}
+
+// All jobs are done over a store that starts from these disks, and is closed then.
 pub(crate) fn run<D: Disk + Drop + Send, R: Threads + Wait + Clock + Sync>(
     rt: &R,
     alloc: Global,
     disks: Vec<D>,
-    schemas: &[u8],
-    limit: u64,
+    scene: Scene,
     jobs: Vec<Job>,
 ) -> Result<Ran<D>, Fail>
-    requires all { vec_len disks ≡ 16 }
-    requires some { 0 < limit }
-    requires few { vec_len jobs ≤ 16 }
+    requires { vec_len disks ≡ 16 }
 {
-    let Started { shards, .. } = start_shards(alloc, disks, schemas, limit)?;
+    if jobs.len() > 16 {
+        return Err(Fail::new("there are at most sixteen callers"));
+    }
+    let setup = setup_of(read_rules(alloc, scene.schemas)?, scene.limit);
+    let Started { shards, .. } = start_shards(alloc, disks, &setup)?;
     let (order, tails, passes) = make(alloc, CLASSES, jobs.len() as u32)?;
     let parts = Parts {
         order,
         tails,
         shards,
     };
-    run_store::<D, Brand, R>(rt, alloc, parts, passes, jobs)
+    run_store::<D, Brand, R>(rt, alloc, parts, passes, jobs, scene.turns)
 }

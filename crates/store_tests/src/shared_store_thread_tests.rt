@@ -3,15 +3,14 @@
 // plain lists, and compared with all that it was told, and with the files.
 ghost use Rattle.std.specs.Prelude.{◌≡◌, ◌<◌, IfOk, vec_len};
 
-use crate::shared_store_kit::{Deed, Job, Ran, Reply, run};
-use crate::shared_store_tests::START;
+use crate::shared_store_kit::{Deed, Job, Ran, Reply, START, Scene, Turns, run};
 use fixed_num::Milli;
 use gate_io::Flag;
 use metric_path::{CLASSES, MetricPath};
 use outside_io::{Disk, MemDisk};
 use point_cache::Put;
 use series_set::{Series, SeriesRows, SeriesSet};
-use shared_store::{DrainEnd, Step, Tally};
+use shared_store::{Closed, DrainEnd, Step, Tally};
 use std::alloc::{AllocError, Global};
 use std::process::Abort;
 use std::sync::Wait;
@@ -56,7 +55,11 @@ const ALL: &[u8] = b"*.*";
 const TWO: &[u8] = b"[all]\npattern = .*\nretentions = 60:10,300:12\n";
 
 // So few points of a class may be pending that some puts find it full.
-const LIMIT: u64 = 6;
+const SCENE: Scene = Scene {
+    schemas: TWO,
+    limit: 6,
+    turns: Turns::AtOnce,
+};
 
 // ---- what is done
 
@@ -135,15 +138,29 @@ fn deeds_of(
     Ok(deeds)
 }
 
-fn jobs_of(alloc: Global) -> Result<Vec<Job>, AllocError> {
+// The flags of two meetings.
+fn all_flags(alloc: Global) -> Result<Vec<Flag>, AllocError> {
     let mut flags = Vec::new(alloc);
     for _flag in 0..CALLERS * 2 {
         flags.push(Flag::new(alloc)?)?;
     }
+    Ok(flags)
+}
+
+fn job_of(
+    alloc: Global,
+    caller: u32,
+    names: &[&'static str; 16],
+    flags: &[Flag],
+) -> Result<Job, AllocError> {
+    let deeds = deeds_of(alloc, caller, names)?;
+    Job::new(alloc, deeds, flags)
+}
+
+fn jobs_of(alloc: Global, flags: &[Flag]) -> Result<Vec<Job>, AllocError> {
     let mut jobs = Vec::new(alloc);
     for (caller, names) in (0..4u32).zip(NAMES.iter()) {
-        let deeds = deeds_of(alloc, caller, names)?;
-        jobs.push(Job::new(alloc, deeds, &flags)?)?;
+        jobs.push(job_of(alloc, caller, names, flags)?)?;
     }
     Ok(jobs)
 }
@@ -160,11 +177,9 @@ fn empty_disks(alloc: Global) -> Result<Vec<MemDisk>, AllocError>
 }
 
 fn run_all<R: Threads + Wait + Clock + Sync>(rt: &R, alloc: Global) -> Result<Ran<MemDisk>, Fail> {
-    let jobs = jobs_of(alloc)?;
-    if jobs.len() > 16 {
-        return Err(Fail::new("there are four callers"));
-    }
-    run(rt, alloc, empty_disks(alloc)?, TWO, LIMIT, jobs)
+    let flags = all_flags(alloc)?;
+    let jobs = jobs_of(alloc, &flags)?;
+    run(rt, alloc, empty_disks(alloc)?, SCENE, jobs)
 }
 
 // ---- what is seen
@@ -191,12 +206,13 @@ fn number_of(value: Option<Milli>) -> Option<u32> {
     u32::try_from(value / 1_000).ok()
 }
 
+fn is_of_minutes(series: &Series) -> bool {
+    series.start() == u64::from(START) && series.step() == 60 && series.values().len() == MINUTES
+}
+
 // Writes the numbers of a series into those of its metric.
 fn lay(numbers: &mut [u32], series: &Series) -> Option<()> {
-    if series.start() != u64::from(START) || series.step() != 60 {
-        return None;
-    }
-    if series.values().len() != MINUTES {
+    if !is_of_minutes(series) {
         return None;
     }
     let first = metric_of(series.path())?.wrapping_mul(MINUTES);
@@ -225,19 +241,24 @@ fn count_metrics(numbers: &[u32]) -> usize {
         .count()
 }
 
-// The numbers of all metrics of all callers that a question shows, by minutes. No series may come
-// twice, or without a value.
-fn seen_in(alloc: Global, rows: &SeriesRows) -> Result<Vec<u32>, Fail> {
-    let mut numbers = vec![in alloc; 0; PLACES * CALLERS]?;
+// No series may come twice, or without a value.
+fn lay_rows(numbers: &mut [u32], rows: &SeriesRows) -> Result<(), Fail> {
     let [set] = rows.as_slice() else {
         return Err(Fail::new("one glob has one list"));
     };
-    if lay_all(&mut numbers, set).is_none() {
+    if lay_all(numbers, set).is_none() {
         return Err(Fail::new("a series shows what was put"));
     }
-    if set.len() != count_metrics(&numbers) {
+    if set.len() != count_metrics(numbers) {
         return Err(Fail::new("each metric is shown once"));
     }
+    Ok(())
+}
+
+// The numbers of all metrics of all callers that a question shows, by minutes.
+fn seen_in(alloc: Global, rows: &SeriesRows) -> Result<Vec<u32>, Fail> {
+    let mut numbers = vec![in alloc; 0; PLACES * CALLERS]?;
+    lay_rows(numbers.as_mut_slice(), rows)?;
     Ok(numbers)
 }
 
@@ -625,8 +646,37 @@ fn has_file(
     path: &MetricPath,
     numbers: &[u32],
 ) -> Result<bool, AllocError> {
-    let bytes = bytes_in(alloc, disk, &path.file_name()?)?;
-    Ok(is_file_of(&bytes, numbers))
+    let name = path.file_name()?;
+    let bytes = bytes_in(alloc, disk, name.as_str())?;
+    Ok(is_file_of(bytes.as_slice(), numbers))
+}
+
+// How many files a metric has on the disk of a class, where it has what was put.
+fn count_file(
+    alloc: Global,
+    class: u32,
+    disk: &mut MemDisk,
+    name: &str,
+    numbers: &[u32],
+) -> Result<usize, Fail> {
+    let path = MetricPath::new(alloc, name.as_bytes())?;
+    count_file_of(alloc, class, disk, &path, numbers)
+}
+
+fn count_file_of(
+    alloc: Global,
+    class: u32,
+    disk: &mut MemDisk,
+    path: &MetricPath,
+    numbers: &[u32],
+) -> Result<usize, Fail> {
+    if path.class() != class || count_known(numbers) == 0 {
+        return Ok(0);
+    }
+    if !has_file(alloc, disk, path, numbers)? {
+        return Err(Fail::new("a file has what was put"));
+    }
+    Ok(1)
 }
 
 // How many files of a caller's metrics the disk of a class has, which are all right.
@@ -639,13 +689,7 @@ fn count_files(
 ) -> Result<usize, Fail> {
     let mut count = 0usize;
     for (name, numbers) in names.iter().zip(replay.numbers.chunks(MINUTES)) {
-        let path = MetricPath::new(alloc, name.as_bytes())?;
-        if path.class() == class && count_known(numbers) > 0 {
-            if !has_file(alloc, disk, &path, numbers)? {
-                return Err(Fail::new("a file has what was put"));
-            }
-            count = count.saturating_add(1);
-        }
+        count = count.saturating_add(count_file(alloc, class, disk, name, numbers)?);
     }
     Ok(count)
 }
@@ -670,12 +714,12 @@ fn count_all_files(
 fn assert_files(
     rt: &impl Abort,
     alloc: Global,
-    disks: Vec<MemDisk>,
+    disks: &mut [MemDisk],
     replays: &[Replay],
 ) -> Result<(), Fail> {
     let mut metrics = 0usize;
-    for (class, mut disk) in (0..CLASSES).zip(disks) {
-        let count = count_all_files(alloc, class, &mut disk, replays)?;
+    for (class, disk) in (0..CLASSES).zip(disks.iter_mut()) {
+        let count = count_all_files(alloc, class, disk, replays)?;
         metrics = metrics.saturating_add(count);
         // each caller has a metric of the class
         assert!(rt; count == CALLERS, "class {class}");
@@ -711,13 +755,24 @@ fn entries_of(replays: &[Replay]) -> u64 {
     entries
 }
 
+// Whether the counts, the questions, the history and the files are those of what all callers did.
+fn assert_replayed(
+    rt: &impl Abort,
+    alloc: Global,
+    closed: &mut Closed<MemDisk>,
+    replays: &[Replay],
+) -> Result<(), Fail> {
+    assert!(rt; closed.tally == tally_of(replays));
+    assert!(rt; closed.history.len() == entries_of(replays));
+    let fronts = all_fronts(alloc, replays)?;
+    assert_one_order(rt, fronts.as_slice())?;
+    assert_files(rt, alloc, closed.disks.as_mut_slice(), replays)
+}
+
 #[test]
 fn four_callers_at_once_are_told_what_they_put(rt: HostRuntime) -> Result<(), Fail> {
     let alloc = rt.alloc();
-    let Ran { jobs, closed } = run_all(&rt, alloc)?;
-    let replays = replays_of(&rt, alloc, &jobs)?;
-    assert!(rt; closed.tally == tally_of(&replays));
-    assert!(rt; closed.history.len() == entries_of(&replays));
-    assert_one_order(&rt, &all_fronts(alloc, &replays)?)?;
-    assert_files(&rt, alloc, closed.disks, &replays)
+    let Ran { jobs, mut closed } = run_all(&rt, alloc)?;
+    let replays = replays_of(&rt, alloc, jobs.as_slice())?;
+    assert_replayed(&rt, alloc, &mut closed, replays.as_slice())
 }

@@ -1,8 +1,8 @@
 // Two callers of a store, of which one waits in a disk while the other goes on.
 ghost use Rattle.std.specs.Prelude.{◌≡◌, IfOk, vec_len};
 
-use crate::shared_store_kit::{Deed, Job, Ran, Reply, run};
-use crate::shared_store_tests::{RULES, Shown, has_end, rows_are_shown};
+use crate::shared_store_ends::{End, Row, Shown, assert_both, assert_counts, jobs_of};
+use crate::shared_store_kit::{Deed, RULES, Ran, Scene, Turns, run};
 use gate_io::{Flag, Gate, GateDisk};
 use metric_path::CLASSES;
 use outside_io::{Disk, MemDisk};
@@ -15,22 +15,6 @@ use std::sync::Wait;
 use std::test::Fail;
 use std::thread::Threads;
 use std::time::Clock;
-
-// How a deed is to end.
-#[derive(Clone, Copy)]
-enum End {
-    Put(Put),
-    PutAll(PutCounts),
-    // The path of the metric of which a drain was begun, or how else the plan ends.
-    Planned(&'static str),
-    Wrote(Wrote),
-    // The series of each glob, and how many entries the question makes.
-    Shown(&'static [&'static [Shown]], u64),
-    Up,
-}
-
-// What is done, and how it is to end.
-type Row = (Deed, End);
 
 // A call of the disk of a class that waits: its first write, or the read that has so many before
 // it. The first of a list puts up the flag 0 and waits for the flag 1, the next has the flags 2 and
@@ -64,22 +48,24 @@ fn flags_of(alloc: Global, stops: &[Stop]) -> Result<Vec<Flag>, AllocError> {
     Ok(flags)
 }
 
-fn stopping<R: Clock + Drop>(
-    rt: R,
-    disk: GateDisk<R>,
-    class: u32,
-    stop: Stop,
-    pair: &[Flag],
-) -> Result<GateDisk<R>, Fail> {
+fn gate_of<R: Clock + Drop>(rt: R, pair: &[Flag]) -> Result<Gate<R>, Fail> {
     let [begun, opens] = pair else {
         return Err(Fail::new("a gate has two flags"));
     };
-    let gate = Gate::new(rt, begun.share()?, opens.share()?);
-    Ok(match stop {
-        Stop::Write(there) if there == class => disk.writing_at(gate),
-        Stop::Read(there, before) if there == class => disk.reading_at(before, gate),
-        _ => disk,
-    })
+    Ok(Gate::new(rt, begun.share()?, opens.share()?))
+}
+
+fn class_of(stop: Stop) -> u32 {
+    match stop {
+        Stop::Write(class) | Stop::Read(class, _) => class,
+    }
+}
+
+fn stopping<R: Clock + Drop>(disk: GateDisk<R>, stop: Stop, gate: Gate<R>) -> GateDisk<R> {
+    match stop {
+        Stop::Write(_) => disk.writing_at(gate),
+        Stop::Read(_, before) => disk.reading_at(before, gate),
+    }
 }
 
 // The disk of a class, without files.
@@ -92,7 +78,9 @@ fn disk_of<R: Clock + Copy + Drop>(
 ) -> Result<GateDisk<R>, Fail> {
     let mut disk = GateDisk::new(MemDisk::new(alloc, 10_000_000));
     for (stop, pair) in stops.iter().zip(flags.chunks(2)) {
-        disk = stopping(rt, disk, class, *stop, pair)?;
+        if class_of(*stop) == class {
+            disk = stopping(disk, *stop, gate_of(rt, pair)?);
+        }
     }
     Ok(disk)
 }
@@ -114,13 +102,12 @@ fn disks_of<R: Clock + Copy + Drop>(
 
 // ---- a case
 
-fn job_of(alloc: Global, before: &[Row], rows: &[Row], flags: &[Flag]) -> Result<Job, AllocError> {
-    let mut deeds = Vec::new(alloc);
-    for (deed, _) in before.iter().chain(rows.iter()) {
-        deeds.push(*deed)?;
-    }
-    Job::new(alloc, deeds, flags)
-}
+// Both callers work at once.
+const SCENE: Scene = Scene {
+    schemas: RULES,
+    limit: 10,
+    turns: Turns::AtOnce,
+};
 
 fn run_case<R: Threads + Wait + Clock + Copy + Send + Sync + Drop>(
     rt: &R,
@@ -128,75 +115,14 @@ fn run_case<R: Threads + Wait + Clock + Copy + Send + Sync + Drop>(
     case: &Case<'_>,
 ) -> Result<Ran<GateDisk<R>>, Fail> {
     let flags = flags_of(alloc, case.stops)?;
-    let mut jobs = Vec::new(alloc);
-    jobs.push(job_of(alloc, case.before, case.first, &flags)?)?;
-    jobs.push(job_of(alloc, &[], case.second, &flags)?)?;
-    let disks = disks_of(*rt, alloc, case.stops, &flags)?;
-    if jobs.len() > 16 {
-        return Err(Fail::new("there are two callers"));
-    }
-    run(rt, alloc, disks, RULES, 10, jobs)
-}
-
-fn is_put(reply: &Reply, want: Put) -> bool {
-    match reply {
-        Reply::Put(put) => *put == want,
-        _ => false,
-    }
-}
-
-fn is_put_whole(reply: &Reply, want: &PutCounts) -> bool {
-    match reply {
-        Reply::PutAll(counts) => counts == want,
-        _ => false,
-    }
-}
-
-fn is_planned(reply: &Reply, want: &str) -> bool {
-    match reply {
-        Reply::Planned(planned) => has_end(planned, want),
-        _ => false,
-    }
-}
-
-fn is_written(reply: &Reply, want: Wrote) -> bool {
-    match reply {
-        Reply::Wrote(wrote) => *wrote == want,
-        _ => false,
-    }
-}
-
-fn is_shown(reply: &Reply, want: &[&'static [Shown]], entries: u64) -> bool {
-    match reply {
-        Reply::Rows(rows, made) => *made == entries && rows_are_shown(rows, want),
-        _ => false,
-    }
-}
-
-fn is_up(reply: &Reply) -> bool {
-    match reply {
-        Reply::Up(up) => *up,
-        _ => false,
-    }
-}
-
-fn ends_so(reply: &Reply, end: End) -> bool {
-    match end {
-        End::Put(put) => is_put(reply, put),
-        End::PutAll(counts) => is_put_whole(reply, &counts),
-        End::Planned(path) => is_planned(reply, path),
-        End::Wrote(wrote) => is_written(reply, wrote),
-        End::Shown(shown, entries) => is_shown(reply, shown, entries),
-        End::Up => is_up(reply),
-    }
-}
-
-fn assert_replies(rt: &impl Abort, replies: &[Reply], before: &[Row], rows: &[Row]) {
-    let wanted = before.iter().chain(rows.iter());
-    for (n, ((_, end), reply)) in wanted.zip(replies.iter()).enumerate() {
-        assert!(rt; ends_so(reply, *end), "{n}");
-    }
-    assert!(rt; replies.len().checked_sub(before.len()) == Some(rows.len()));
+    let jobs = jobs_of(alloc, case.before, case.first, case.second, &flags)?;
+    run(
+        rt,
+        alloc,
+        disks_of(*rt, alloc, case.stops, &flags)?,
+        SCENE,
+        jobs,
+    )
 }
 
 fn count_faults<D: Disk>(disks: &[D]) -> u64 {
@@ -213,13 +139,9 @@ fn assert_case<R: Threads + Wait + Abort + Clock + Copy + Send + Sync + Drop>(
     case: &Case<'_>,
 ) -> Result<(), Fail> {
     let Ran { jobs, closed } = run_case(rt, alloc, case)?;
-    let [first, second] = jobs.as_slice() else {
-        return Err(Fail::new("there are two callers"));
-    };
-    assert_replies(rt, first.replies.as_slice(), case.before, case.first);
-    assert_replies(rt, second.replies.as_slice(), &[], case.second);
-    assert!(rt; closed.history.len() == case.entries);
-    assert!(rt; closed.tally == case.tally && count_faults(closed.disks.as_slice()) == 0);
+    assert_both(rt, jobs.as_slice(), case.before, case.first, case.second)?;
+    assert_counts(rt, &closed, case.entries, case.tally);
+    assert!(rt; count_faults(closed.disks.as_slice()) == 0);
     Ok(())
 }
 

@@ -3,7 +3,7 @@ use denote.Param.{param}
 use denote.Param.Send.{IsSync}
 use Rattle.shared_store.specs.contracts.store.Store as Store
 use Rattle.shared_store.proofs.StoreCross.{store-sync}
-use Rattle.store_tests.proofs.shared_store_kit.work_all.Goals as goal
+use Rattle.store_tests.proofs.shared_store_kit.work_at_once.Goals as goal
 
 pub for_each_mut-requires-sync-F : goal.for_each_mut-requires-sync-F
 for_each_mut-requires-sync-F g c κs within =
