@@ -1,0 +1,165 @@
+#!/usr/bin/env python3
+"""Large installations and large questions: each is answered whole, and not given up for want of memory that there is.
+
+Usage: bench/size.py [NAMES]      (1,000,000 without a number)
+
+Runs `carbon serve` over a folder on the disk of /tmp and checks, over its ports:
+
+  names      so many names, a point each, are taken, browsed (`/metrics/index.json`, `/metrics/find`, `/metrics/expand`) and drained into files of their own
+  class      100,000 names of one class more
+  series     a question that finds 10,000 series, and one that finds 10,001, which is refused in words
+  values     a question for 4,000,000 values, in each of the three forms
+  head       a question whose head has 16,384 bytes
+  again      a second daemon over the same folder finds all names by their files
+
+The contracts leave want of memory free: that it is not answered where there is memory, only such a run can show. It ends with the first thing that is
+otherwise than it has to be, or with a line for each that was shown and its seconds. Run ./carbon build first.
+"""
+import http.client
+import json
+import os
+import re
+import socket
+import subprocess
+import sys
+import tempfile
+import threading
+import time
+
+from live import PROGRAM, class_of, need_program, write_rules
+
+PORTS = re.compile(r"carbon: lines on (\d+), HTTP on (\d+)")
+NOW = int(time.time()) // 60 * 60
+RULES = b"[big]\npattern = ^big[.]\nretentions = 1s:4000000\n\n[all]\npattern = .*\nretentions = 60s:5m\n"
+ONE_CLASS = 100_000
+
+
+def many(count):
+    return ["many.b%04d.m%03d" % (k // 1000, k % 1000) for k in range(count)]
+
+
+def of_one_class(count):
+    found, k = [], 0
+    while len(found) < count:
+        name = "one.n%07d" % k
+        if class_of(name.encode()) == 7:
+            found.append(name)
+        k += 1
+    return found
+
+
+class Daemon:
+    def __init__(self, place):
+        self.process = subprocess.Popen(
+            [PROGRAM, "serve", "--line-port", "0", "--http-port", "0", "--limit", "10000000"],
+            stdin=subprocess.PIPE, stdout=subprocess.PIPE, stderr=subprocess.PIPE, cwd=place, text=True,
+        )
+        for line in self.process.stderr:
+            ports = PORTS.search(line)
+            if ports:
+                break
+        else:
+            sys.exit("no ports: status %d" % self.process.wait())
+        self.lines, self.http = int(ports[1]), int(ports[2])
+        threading.Thread(target=self.process.stderr.read, daemon=True).start()
+
+    def put(self, names):
+        with socket.create_connection(("127.0.0.1", self.lines)) as link:
+            for at in range(0, len(names), 10_000):
+                link.sendall("".join("%s 1 %d\n" % (name, NOW) for name in names[at : at + 10_000]).encode())
+            link.shutdown(socket.SHUT_WR)
+            link.recv(1)
+
+    def get(self, target, want=200):
+        link = http.client.HTTPConnection("127.0.0.1", self.http, timeout=600)
+        link.request("GET", target)
+        reply = link.getresponse()
+        body = reply.read()
+        link.close()
+        if reply.status != want:
+            sys.exit("%d in place of %d for %s: %r" % (reply.status, want, target[:100], body[:200]))
+        return body
+
+    def stop(self):
+        self.process.stdin.write("stop\n")
+        self.process.stdin.close()
+        said = self.process.stdout.read()
+        if self.process.wait(3600):
+            sys.exit("status %d at the end: %s" % (self.process.returncode, said))
+
+
+def need(what, found, wanted):
+    if found != wanted:
+        sys.exit("%s: %r in place of %r" % (what, found, wanted))
+
+
+class Shown:
+    """Prints what was shown, with its seconds."""
+
+    def __init__(self):
+        self.at = time.time()
+
+    def __call__(self, what):
+        print("%-8s shown in %.1f s" % (what, time.time() - self.at), flush=True)
+        self.at = time.time()
+
+
+def browse(daemon, count):
+    need("index.json", len(json.loads(daemon.get("/metrics/index.json"))), count)
+    need("find", len(json.loads(daemon.get("/metrics/find?query=many.*"))), (count + 999) // 1000)
+    need("expand", len(json.loads(daemon.get("/metrics/expand?query=many.*.m0*"))["results"]), sum(name.split(".")[2].startswith("m0") for name in many(count)))
+
+
+def ask_series(daemon):
+    need("10,000 series", len(daemon.get("/render?target=many.b000[0-9].*&from=-3min&format=raw").splitlines()), 10_000)
+    daemon.put(["many.b0000.more"])
+    said = daemon.get("/render?target=many.b000[0-9].*&from=-3min&format=raw", 400)
+    if b"10001" not in said:
+        sys.exit("10,001 series: %r" % said)
+
+
+def ask_values(daemon):
+    ends = "&from=%d&until=%d" % (int(time.time()) - 3_999_990, int(time.time()) + 9)
+    daemon.put(["big.one"])
+    raw = daemon.get("/render?target=big.one&format=raw" + ends)
+    need("values", raw.count(b",") - 3, 3_999_999 - 1)
+    need("values in JSON", daemon.get("/render?target=big.one&format=json" + ends).count(b"], [") + 1, 3_999_999)
+    need("values in CSV", daemon.get("/render?target=big.one&format=csv" + ends).count(b"\n"), 3_999_999)
+
+
+def ask_long(daemon):
+    front = "/render?from=-3min&format=raw&target="
+    room = 16_384 - len("GET  HTTP/1.1\r\nHost: 127.0.0.1:%d\r\nAccept-Encoding: identity\r\n\r\n" % daemon.http) - len(front)
+    names = "group(" + ",".join("many.b0000.m%03d" % (k % 1000) for k in range(room // 16 - 1)) + ")"
+    need("series of a long head", len(daemon.get(front + names + "&" * (room - len(names))).splitlines()), names.count("many"))
+
+
+def main():
+    need_program()
+    count = int(sys.argv[1]) if len(sys.argv) > 1 else 1_000_000
+    shown = Shown()
+    with tempfile.TemporaryDirectory(dir="/tmp") as place:
+        write_rules(place, RULES)
+        daemon = Daemon(place)
+        daemon.put(many(count))
+        browse(daemon, count)
+        shown("names")
+        daemon.put(of_one_class(ONE_CLASS))
+        need("one class", len(json.loads(daemon.get("/metrics/expand?query=one.*"))["results"]), ONE_CLASS)
+        shown("class")
+        ask_series(daemon)
+        shown("series")
+        ask_values(daemon)
+        shown("values")
+        ask_long(daemon)
+        shown("head")
+        daemon.stop()
+        need("files", sum(len(files) for _, _, files in os.walk(os.path.join(place, "data"))), count + ONE_CLASS + 2)
+        shown("drained")
+        daemon = Daemon(place)
+        need("names of files", len(json.loads(daemon.get("/metrics/index.json"))), count + ONE_CLASS + 2)
+        daemon.stop()
+        shown("again")
+
+
+main()
