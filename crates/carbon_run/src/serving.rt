@@ -140,7 +140,7 @@ where
     let Ok((order, tails, passes)) = make(alloc, CLASSES, count) else {
         return report_no_memory(shards, room, out);
     };
-    let Ok(crew) = Crew::new(alloc, passes, options.receivers) else {
+    let Ok(crew) = Crew::new(alloc, passes, options.receivers, options.answer_bytes) else {
         return report_no_memory(shards, room, out);
     };
     let parts = Parts {

@@ -40,6 +40,7 @@ use std::thread::Threads;
 /// | `--receivers N`, `--renderers N` | `serve`: how many threads serve the links of each port: 1 to 256 | 16 |
 /// | `--line-patience S` | `serve`: after how many seconds without a byte a link of metric lines is at its end, 0 to 86,400; 0: never. The net that is handed in keeps to it | 900 |
 /// | `--links N` | `serve`: how many links each port gives before it closes, to 1,000,000,000; 0: it never does | 0 |
+/// | `--answer-bytes N` | `serve`: how many bytes the series, names and text of a question may take, 1,048,576 to 1,099,511,627,776, a sixteenth of them the names | 268,435,456 |
 ///
 /// | Status | Comes |
 /// |---|---|

@@ -66,8 +66,13 @@ impl Crew {
     ghost use Rattle.carbon_serve.specs.Crews.{AllWent, Musters};
 
     /// A crew with these passes: so many workers receive metric lines, one drains, the crew itself
-    /// has the last pass, and all others answer requests.
-    pub fn new(alloc: Global, passes: Vec<Pass>, receivers: u32) -> Result<Crew, AllocError>
+    /// has the last pass, and all others answer requests, of which the answer to a question may take so many bytes.
+    pub fn new(
+        alloc: Global,
+        passes: Vec<Pass>,
+        receivers: u32,
+        answer_bytes: u64,
+    ) -> Result<Crew, AllocError>
         requires { 3 ≤ vec_len passes }
         ensures { IfOk result (λ crew. crew.served ++ crew.own ∷ [] ≡ passes.items) }
     {
@@ -78,7 +83,7 @@ impl Crew {
         let Some(drainer) = passes.pop() else {
             unreachable!()
         };
-        let workers = workers_of(alloc, &mut passes, receivers)?;
+        let workers = workers_of(alloc, &mut passes, receivers, answer_bytes)?;
         Ok(Crew {
             workers,
             drainer,
@@ -141,6 +146,7 @@ fn workers_of(
     alloc: Global,
     passes: &mut Vec<Pass>,
     receivers: u32,
+    answer_bytes: u64,
 ) -> Result<Vec<Worker>, AllocError>
     ensures workers { IfOk result (λ workers. reverse (passes_of workers.items) ≡ passes.old.items) }
     ensures count { IfOk result (λ workers. vec_len workers ≡ vec_len passes.old) }
@@ -149,19 +155,19 @@ fn workers_of(
 {
     let mut workers = Vec::with_capacity(alloc, passes.len())?;
     while let Some(pass) = passes.pop() {
-        workers.push(worker_of(pass, receivers))?;
+        workers.push(worker_of(pass, receivers, answer_bytes))?;
     }
     Ok(workers)
 }
 
 // The worker that a pass makes.
-fn worker_of(pass: Pass, receivers: u32) -> Worker
+fn worker_of(pass: Pass, receivers: u32, answer_bytes: u64) -> Worker
     ensures { result.pass ≡ Some pass }
 {
     let role = if pass.number() < receivers {
         Role::Receiver
     } else {
-        Role::Renderer
+        Role::Renderer { answer_bytes }
     };
     Worker {
         role,

@@ -20,8 +20,8 @@ use std::thread::Threads;
 pub(crate) enum Role {
     /// Those that bring metric lines.
     Receiver,
-    /// Those that bring HTTP requests.
-    Renderer,
+    /// Those that bring HTTP requests, of which the answer to a question may take so many bytes.
+    Renderer { answer_bytes: u64 },
 }
 
 /// A worker that serves links.
@@ -69,7 +69,7 @@ where
         let mut pass = pass;
         match role {
             Role::Receiver => return self.receive(pass),
-            Role::Renderer => self.render(&mut pass),
+            Role::Renderer { answer_bytes } => self.render(&mut pass, answer_bytes),
         }
         pass
     }
@@ -105,7 +105,7 @@ where
 
     // Answers the requests that links bring, and goes on likewise.
     #[tactic(auto, using(crate::proofs::WorkLemmas::works_same, crate::proofs::WorkLemmas::works_then))]
-    fn render(&self, pass: &mut Pass)
+    fn render(&self, pass: &mut Pass, answer_bytes: u64)
         requires one { pass.old.table ≡ N.table }
         ensures works { Works (C.moments self.now.clock.now) N.start pass.old pass.new }
     {
@@ -113,19 +113,27 @@ where
             let Some(link) = self.net.next_http() else {
                 return;
             };
-            if self.render_link(pass, link) == HttpEnd::Spent {
+            if self.render_link(pass, link, answer_bytes) == HttpEnd::Spent {
                 return;
             }
         }
         unreachable!()
     }
 
-    fn render_link(&self, pass: &mut Pass, link: E::L) -> HttpEnd
+    fn render_link(&self, pass: &mut Pass, link: E::L, answer_bytes: u64) -> HttpEnd
         requires one { pass.old.table ≡ N.table }
         ensures works { Works (C.moments self.now.clock.now) N.start pass.old pass.new }
     {
         let mut link = link;
-        serve_http(self.rt, self.alloc, self.store, pass, &mut link, self.clock)
+        serve_http(
+            self.rt,
+            self.alloc,
+            self.store,
+            pass,
+            &mut link,
+            self.clock,
+            answer_bytes,
+        )
     }
 
     /// Drains what is pending, step by step, until the others have ended or the pass is spent. It

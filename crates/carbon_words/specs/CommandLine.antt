@@ -47,12 +47,13 @@ script_app = command_app (codes "script")
 -- the words behind `serve`
 unfoldable pub serve_app : App
 serve_app =
-    with_option (codes "links")
+    with_option (codes "answer-bytes")
+    (with_option (codes "links")
     (with_option (codes "line-patience")
     (with_option (codes "renderers")
     (with_option (codes "receivers")
     (with_option (codes "http-port")
-    (with_option (codes "line-port") (command_app (codes "serve")))))))
+    (with_option (codes "line-port") (command_app (codes "serve"))))))))
 
 -- the words behind `sample`: its start, and how many metric lines it has
 unfoldable pub sample_app : App
@@ -114,14 +115,16 @@ options_in rows =
 unfoldable pub serve_options_in : List Row → Option ServeOptions
 serve_options_in rows =
     option_and_then (λ lines. option_and_then (λ http. option_and_then (λ receivers. option_and_then (λ renderers.
-    option_and_then (λ patience. option_map (λ links. record {
+    option_and_then (λ patience. option_and_then (λ links. option_map (λ bytes. record {
       line_port = lines;
       http_port = http;
       receivers = receivers;
       renderers = renderers;
       line_patience = patience;
       links = links;
+      answer_bytes = bytes;
     })
+    (number_in (choice 1048576 1099511627776 268435456) (codes "answer-bytes") rows))
     (number_in (choice 0 1000000000 0) (codes "links") rows))
     (number_in (choice 0 86400 900) (codes "line-patience") rows))
     (number_in (choice 1 256 16) (codes "renderers") rows))

@@ -42,7 +42,8 @@ fn serve<'a>(alloc: Global) -> Result<Command<'a>, AllocError>
         .arg(option(alloc, "receivers"))?
         .arg(option(alloc, "renderers"))?
         .arg(option(alloc, "line-patience"))?
-        .arg(option(alloc, "links"))
+        .arg(option(alloc, "links"))?
+        .arg(option(alloc, "answer-bytes"))
 }
 
 // The words behind `sample`.

@@ -25,6 +25,8 @@ pub struct ServeOptions {
     pub line_patience: u32,
     /// How many links each port gives before it closes; 0: it never does.
     pub links: u64,
+    /// How many bytes the series, names and text of a question may take.
+    pub answer_bytes: u64,
 }
 
 /// What `sample` says besides.

@@ -68,6 +68,13 @@ const LINKS: Choice = Choice {
     other: 0,
 };
 
+// From a MiB to a TiB.
+const ANSWER_BYTES: Choice = Choice {
+    least: 1_048_576,
+    most: 1_099_511_627_776,
+    other: 268_435_456,
+};
+
 /// What the words behind the program's name say. They are refused exactly where they are no command.
 pub fn read_words(alloc: Global, words: &[String]) -> Result<Command, WordsFault>
     ensures command { IfOk result (λ command. command_of (map string_bytes words.now) ≡ Some command) }
@@ -151,6 +158,7 @@ fn serve_options_in(values: &ArgMatches<'_>) -> Option<ServeOptions>
     let renderers = number_in(values, "renderers", WORKERS)?;
     let line_patience = number_in(values, "line-patience", LINE_PATIENCE)?;
     let links = number_in(values, "links", LINKS)?;
+    let answer_bytes = number_in(values, "answer-bytes", ANSWER_BYTES)?;
     Some(ServeOptions {
         line_port: line_port as u16,
         http_port: http_port as u16,
@@ -158,6 +166,7 @@ fn serve_options_in(values: &ArgMatches<'_>) -> Option<ServeOptions>
         renderers: renderers as u32,
         line_patience: line_patience as u32,
         links,
+        answer_bytes,
     })
 }
 

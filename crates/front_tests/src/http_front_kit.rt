@@ -25,6 +25,9 @@ use std::test::Fail;
 // 2023-11-14 22:13:50 UTC.
 const NOW: u32 = 1_700_000_030;
 
+// How many bytes the answer to a question may take.
+const ANSWER_BYTES: u64 = 268_435_456;
+
 // What a store is given before its links come: the file of the schemas, and metric lines.
 #[derive(Clone, Copy)]
 pub(crate) struct Given<'a> {
@@ -137,7 +140,7 @@ fn serve_link<N: Named, R: Wait>(
     let mut link = link;
     let before = pass.left();
     let clock = FixedClock::new(u64::from(NOW));
-    let end = serve_http(rt, alloc, store, pass, &mut link, &clock);
+    let end = serve_http(rt, alloc, store, pass, &mut link, &clock, ANSWER_BYTES);
     Came {
         written: link.sink.into_bytes(),
         end,

@@ -7,9 +7,9 @@ ghost use Rattle.http_front.specs.Outcomes.{media_of, outcome_of};
 ghost use Rattle.render_answer.specs.declared.answer.Answer.TheVariants as answered;
 
 use http_wire::{MediaType, Refusal};
-use render_answer::{Answer, Text, answer_rows};
+use render_answer::{Answer, Text, answer_within};
 use render_plan::{Format, RenderPlan};
-use series_set::SeriesRows;
+use series_set::{Allowance, SeriesRows, Size};
 use shared_store::AskFault;
 use std::alloc::{AllocError, Global};
 
@@ -55,13 +55,14 @@ pub(crate) fn found(
     alloc: Global,
     plan: &RenderPlan,
     found: Result<SeriesRows, AskFault>,
+    answer_bytes: u64,
 ) -> Result<Outcome, AllocError>
     requires { IfOk found AreRows }
     ensures found { IfOk result (IsFound (plan_seen plan.now) found) }
     ensures short { OnErr result (IsNoFault found) }
 {
     match found {
-        Ok(rows) => made(alloc, plan, rows),
+        Ok(rows) => made(alloc, plan, rows, Allowance::new(answer_bytes)),
         Err(AskFault::TooManySeries(count)) => {
             refused(alloc, &render_answer::Refusal::TooManySeries(count))
         }
@@ -73,13 +74,22 @@ pub(crate) fn found(
     }
 }
 
-// What comes of a plan with these rows.
-fn made(alloc: Global, plan: &RenderPlan, rows: SeriesRows) -> Result<Outcome, AllocError>
+// What comes of a plan with these rows, in this room. The reply is made of a copy of the text.
+fn made(
+    alloc: Global,
+    plan: &RenderPlan,
+    rows: SeriesRows,
+    room: Allowance,
+) -> Result<Outcome, AllocError>
     requires { AreRows rows }
     ensures { IfOk result (IsFound (plan_seen plan.now) (Ok rows)) }
 {
-    match answer_rows(alloc, plan, rows)? {
-        Answer::Body(form, text) => Ok(Outcome::Found(media_of(form), text)),
+    match answer_within(alloc, plan, rows, room)? {
+        Answer::Body(form, text) => {
+            let size = Size::of_text(text.as_slice().len());
+            room.bear(size.plus(size))?;
+            Ok(Outcome::Found(media_of(form), text))
+        }
         Answer::Refused(why) => refused(alloc, &why),
     }
 }

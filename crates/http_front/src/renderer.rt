@@ -22,6 +22,8 @@ pub(crate) struct Renderer<'a, R: Wait, D: Disk, N: Named, C: Clock> {
     pub(crate) store: &'a Store<D, N>,
     pub(crate) clock: &'a C,
     pub(crate) alloc: Global,
+    // What the answer to a question may take.
+    pub(crate) answer_bytes: u64,
 }
 
 impl<'a, R: Wait, D: Disk, N: Named, C: Clock> Renderer<'a, R, D, N, C> {
@@ -93,7 +95,7 @@ impl<'a, R: Wait, D: Disk, N: Named, C: Clock> Renderer<'a, R, D, N, C> {
         ensures pass { SamePass pass.old pass.new }
     {
         let rows = self.store.ask(self.rt, self.alloc, pass, plan.needs(), now);
-        found(self.alloc, plan, rows)
+        found(self.alloc, plan, rows, self.answer_bytes)
     }
 }
 

@@ -17,24 +17,28 @@ use std::alloc::Global;
 pub(crate) fn reply<K: Sink>(
     alloc: Global,
     item: &Item<'_>,
-    outcome: &Outcome,
+    outcome: Outcome,
     out: &mut K,
 ) -> Result<bool, HttpEnd>
     ensures ends { IfOk result
-        (λ ends. ends ≡ ends_link_with (item_of item.now) (answer_of outcome.now)) }
+        (λ ends. ends ≡ ends_link_with (item_of item.now) (answer_of outcome)) }
     ensures replies { OnOk result (Appends (K.written out.old) (K.written out.new)
-        (reply_to (item_of item.now) outcome.now)) }
+        (reply_to (item_of item.now) outcome)) }
     ensures fails { IfErr result
-        (λ end. FailsToReply end (reply_to (item_of item.now) outcome.now) (K.written out.old)
+        (λ end. FailsToReply end (reply_to (item_of item.now) outcome) (K.written out.old)
         (K.written out.new)) }
     ensures writes { WritesOnly K.Sink out.old out.new (result ≡ Err HttpEnd.WriteFault) }
 {
     let mut bytes = Vec::new(alloc);
     match push_answer(alloc, &mut bytes, item, &outcome.as_answer()) {
-        Ok(ends) => match write_all(out, bytes.as_slice()) {
-            Ok(()) => Ok(ends),
-            Err(_) => Err(HttpEnd::WriteFault),
-        },
+        Ok(ends) => {
+            // The reply may be long in going out, and has a copy of the text.
+            drop(outcome);
+            match write_all(out, bytes.as_slice()) {
+                Ok(()) => Ok(ends),
+                Err(_) => Err(HttpEnd::WriteFault),
+            }
+        }
         Err(_) => Err(HttpEnd::NoMemory),
     }
 }

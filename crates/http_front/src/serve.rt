@@ -24,7 +24,8 @@ use std::sync::Wait;
 pub const MOST_LINK_BYTES: u64 = 1 << 40;
 
 /// Serves a link that brings HTTP requests, until it ends: each request has its reply, in order, which is written whole before the next request is
-/// looked at. A query is asked of the store by the pass, at the moment that the clock tells once the request has come.
+/// looked at. A query is asked of the store by the pass, at the moment that the clock tells once the request has come. Where its answer takes more
+/// than so many bytes, in series, names and text, that is want of memory.
 #[tactic(auto, using(crate::proofs::EntryLemmas::link_makes))]
 pub fn serve_http<R: Wait, D: Disk, N: Named, L: Link, C: Clock>(
     rt: &R,
@@ -33,6 +34,7 @@ pub fn serve_http<R: Wait, D: Disk, N: Named, L: Link, C: Clock>(
     pass: &mut Pass,
     link: &mut L,
     clock: &C,
+    answer_bytes: u64,
 ) -> HttpEnd
     requires one { pass.old.table ≡ N.table }
     ensures serves { ServesLink (origin_of C.Clock N.Named clock.now)
@@ -55,6 +57,7 @@ pub fn serve_http<R: Wait, D: Disk, N: Named, L: Link, C: Clock>(
         store,
         clock,
         alloc,
+        answer_bytes,
     };
     renderer.serve(pass, &mut buffers, link)
 }
@@ -246,7 +249,7 @@ impl<'a, R: Wait, D: Disk, N: Named, C: Clock> Renderer<'a, R, D, N, C> {
         let Ok(outcome) = self.answer(pass, request) else {
             return Err(HttpEnd::NoMemory);
         };
-        match reply(self.alloc, &Item::Request(*request), &outcome, out) {
+        match reply(self.alloc, &Item::Request(*request), outcome, out) {
             Ok(false) => Ok(()),
             Ok(true) => Err(HttpEnd::Closed),
             Err(end) => Err(end),
@@ -259,7 +262,7 @@ impl<'a, R: Wait, D: Disk, N: Named, C: Clock> Renderer<'a, R, D, N, C> {
         ensures stops { StopsRefused result why (K.written out.old) (K.written out.new) }
         ensures writes { WritesOnly K.Sink out.old out.new (result ≡ HttpEnd.WriteFault) }
     {
-        match reply(self.alloc, &Item::Refused(why), &Outcome::Refused(why), out) {
+        match reply(self.alloc, &Item::Refused(why), Outcome::Refused(why), out) {
             Ok(_) => HttpEnd::Refused(why.code()),
             Err(end) => end,
         }

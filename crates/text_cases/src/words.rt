@@ -105,7 +105,8 @@ fn push_serve(told: &mut String, more: ServeOptions) -> Result<(), AllocError> {
         told,
         " patience {} links {}",
         more.line_patience, more.links
-    )
+    )?;
+    write!(told, " answer {}", more.answer_bytes)
 }
 
 fn push_sample(told: &mut String, more: SampleOptions) -> Result<(), AllocError> {

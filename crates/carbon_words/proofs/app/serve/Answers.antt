@@ -12,5 +12,6 @@ returns c =
     let receivers = option_added (codes "receivers") _ _ _ _ c.in_ok-arg-3.ensures c.option-3.ensures.local c.option-3.ensures.rule http in
     let renderers = option_added (codes "renderers") _ _ _ _ c.in_ok-arg-4.ensures c.option-4.ensures.local c.option-4.ensures.rule receivers in
     let patience = option_added (codes "line-patience") _ _ _ _ c.in_ok-arg-5.ensures c.option-5.ensures.local c.option-5.ensures.rule renderers in
-    IfOk-weaker c.arg-6.result _ _
-    (λ r added. option_added (codes "links") _ _ _ _ added c.option-6.ensures.local c.option-6.ensures.rule patience) c.arg-6.ensures
+    let links = option_added (codes "links") _ _ _ _ c.in_ok-arg-6.ensures c.option-6.ensures.local c.option-6.ensures.rule patience in
+    IfOk-weaker c.arg-7.result _ _
+    (λ r added. option_added (codes "answer-bytes") _ _ _ _ added c.option-7.ensures.local c.option-7.ensures.rule links) c.arg-7.ensures
