@@ -11,12 +11,19 @@ use std::sync::Wait;
 /// How much work may be done under the locks of all classes, in bytes of patterns that are held against names.
 const MOST_WORK_LOCKED: u64 = 400_000;
 
+/// How many bytes a pattern may have that is held against a name in no more time than it takes to find out whether that
+/// was done beforehand.
+const SHORT_PATTERN: u64 = 32;
+
 impl<D: Disk, N: Named> ClassDesk<D, N> {
-    // How much work a look at the class is for these needs, or more than `most`.
+    // How much work a look at the class is for those of these needs whose patterns are not short, or more than `most`.
     fn work_of(&self, needs: &[Need], most: u64) -> Result<u64, AllocError> {
         let mut work = 0_u64;
         for need in needs {
-            let bytes = (need.glob.text().len() as u64).max(1);
+            let bytes = need.glob.text().len() as u64;
+            if bytes <= SHORT_PATTERN {
+                continue;
+            }
             let names = (most / bytes).saturating_add(1) as usize;
             let names = self.shard.width(&need.glob, names)?;
             work = work.saturating_add(bytes.saturating_mul(names as u64));
