@@ -288,7 +288,7 @@ def a_full_disk_loses_nothing_but_what_cannot_be_written():
                 status, line, took = daemon.stop()
                 want(status, 5, "the status of a stop that cannot write")
         finally:
-            subprocess.run(["umount", place])
+            subprocess.run(["umount", "--lazy", place])
 
 
 # ---- one carbon a folder, and what the system gives
