@@ -8,7 +8,7 @@ Runs `carbon serve` over a folder on the disk of /tmp and checks, over its ports
   names      so many names, a point each, are taken, browsed (`/metrics/index.json`, `/metrics/find`, `/metrics/expand`) and drained into files of their own
   class      100,000 names of one class more
   series     a question that finds 10,000 series, and one that finds 10,001, which is refused in words
-  values     a question for 4,000,000 values, in each of the three forms
+  values     a question for nearly 4,000,000 values, in each of the three forms
   head       a question whose head has 16,384 bytes
   again      a second daemon over the same folder finds all names by their files
 
@@ -87,6 +87,10 @@ class Daemon:
         if self.process.wait(3600):
             sys.exit("status %d at the end: %s" % (self.process.returncode, said))
 
+    def end(self):
+        self.process.kill()
+        self.process.wait()
+
 
 def need(what, found, wanted):
     if found != wanted:
@@ -119,12 +123,12 @@ def ask_series(daemon):
 
 
 def ask_values(daemon):
-    ends = "&from=%d&until=%d" % (int(time.time()) - 3_999_990, int(time.time()) + 9)
+    count, until = 3_999_990, int(time.time())
+    ends = "&from=%d&until=%d" % (until - count, until)
     daemon.put(["big.one"])
-    raw = daemon.get("/render?target=big.one&format=raw" + ends)
-    need("values", raw.count(b",") - 3, 3_999_999 - 1)
-    need("values in JSON", daemon.get("/render?target=big.one&format=json" + ends).count(b"], [") + 1, 3_999_999)
-    need("values in CSV", daemon.get("/render?target=big.one&format=csv" + ends).count(b"\n"), 3_999_999)
+    need("values", daemon.get("/render?target=big.one&format=raw" + ends).split(b"|")[1].count(b",") + 1, count)
+    need("values in JSON", daemon.get("/render?target=big.one&format=json" + ends).count(b"], [") + 1, count)
+    need("values in CSV", daemon.get("/render?target=big.one&format=csv" + ends).count(b"\n"), count)
 
 
 def ask_long(daemon):
@@ -134,6 +138,22 @@ def ask_long(daemon):
     need("series of a long head", len(daemon.get(front + names + "&" * (room - len(names))).splitlines()), names.count("many"))
 
 
+def show_all(daemon, count, shown):
+    daemon.put(many(count))
+    browse(daemon, count)
+    shown("names")
+    daemon.put(of_one_class(ONE_CLASS))
+    need("one class", len(json.loads(daemon.get("/metrics/expand?query=one.*"))["results"]), ONE_CLASS)
+    shown("class")
+    ask_series(daemon)
+    shown("series")
+    ask_values(daemon)
+    shown("values")
+    ask_long(daemon)
+    shown("head")
+    daemon.stop()
+
+
 def main():
     need_program()
     count = int(sys.argv[1]) if len(sys.argv) > 1 else 1_000_000
@@ -141,24 +161,18 @@ def main():
     with tempfile.TemporaryDirectory(dir="/tmp") as place:
         write_rules(place, RULES)
         daemon = Daemon(place)
-        daemon.put(many(count))
-        browse(daemon, count)
-        shown("names")
-        daemon.put(of_one_class(ONE_CLASS))
-        need("one class", len(json.loads(daemon.get("/metrics/expand?query=one.*"))["results"]), ONE_CLASS)
-        shown("class")
-        ask_series(daemon)
-        shown("series")
-        ask_values(daemon)
-        shown("values")
-        ask_long(daemon)
-        shown("head")
-        daemon.stop()
+        try:
+            show_all(daemon, count, shown)
+        finally:
+            daemon.end()
         need("files", sum(len(files) for _, _, files in os.walk(os.path.join(place, "data"))), count + ONE_CLASS + 2)
         shown("drained")
         daemon = Daemon(place)
-        need("names of files", len(json.loads(daemon.get("/metrics/index.json"))), count + ONE_CLASS + 2)
-        daemon.stop()
+        try:
+            need("names of files", len(json.loads(daemon.get("/metrics/index.json"))), count + ONE_CLASS + 2)
+            daemon.stop()
+        finally:
+            daemon.end()
         shown("again")
 
 
