@@ -1,13 +1,20 @@
 -- The bytes of a reply do not depend on where the bytes of its body lie.
-use Rattle.std.proofs.Common.{◌≡◌, ℕ, List, [], ◌∷◌, ◌++◌, length, Option, refl, ap, ◌∙◌, subst}
+use Rattle.std.proofs.Common.{◌≡◌, ℕ, ◌+◌, Bool, List, [], ◌∷◌, ◌++◌, length, take, Option, Result, Ok, Err, IfOk, OnOk, OnErr, refl, sym, ap, ap₂, ◌∙◌, subst, arith, length-append}
+use Rattle.std.proofs.Math.Seq.{take-append-add}
+use Rattle.std.proofs.lemmas.List.{take-append-le}
+use Rattle.std.specs.Prelude.{IfErr}
 use Rattle.std.specs.Io.KnownBytes.{Appends}
 use Rattle.outside_io.specs.Sink.{AppendsFront}
-use Rattle.http_wire.specs.Answers.{ends_link_with, response_of}
+use Rattle.outside_io.proofs.Known.{Appends-more}
+use Rattle.http_wire.specs.Answers.{body_in, ends_link_with, head_to, response_of}
+use Rattle.http_wire.proofs.AnswerLemmas.{head_and_body}
 use Rattle.http_wire.specs.Replies.{found_line, head_of, reply_bytes, text_line}
 use Rattle.http_wire.specs.Requests.{Item, Request, Refused}
 use Rattle.http_wire.specs.declared.answer.Answer.{Answer}
 use Rattle.http_wire.specs.declared.answer.Answer.TheVariants as given
 use Rattle.http_front.specs.Outcomes.{Borrows, answer_of, reply_to}
+use Rattle.http_front.specs.Standing.{FailsToReply}
+use Rattle.http_front.specs.declared.ends.HttpEnd.{HttpEnd}
 use Rattle.http_front.specs.declared.outcome.Outcome.{Outcome}
 use Rattle.http_front.specs.declared.outcome.Outcome.TheVariants as outcome
 
@@ -47,15 +54,38 @@ same_reply item (outcome.Unanswerable text) (given.Refused why) borrows = absurd
 same_reply item (outcome.Unanswerable text) given.DiskFault borrows = absurd borrows
 same_reply item (outcome.Unanswerable text) given.NoMemory borrows = absurd borrows
 
--- what was written of an answer was written of the reply
-pub wrote_reply : (item : Item) (o : Outcome) (a : Answer) (bytes : List ℕ) (before after : Option (List ℕ)) → Borrows o a → bytes ≡ [] ++ response_of item a → Appends before after bytes → Appends before after (reply_to item o)
-wrote_reply item o a bytes before after borrows is wrote =
-    subst (Appends before after) (same_reply item o a borrows) (subst (Appends before after) is wrote)
+-- so what was written of an answer was written of the reply
+pub ends_as : (item : Item) (o : Outcome) (a : Answer) (r : Result Bool HttpEnd) → Borrows o a → IfOk r (λ ends. ends ≡ ends_link_with item a) → IfOk r (λ ends. ends ≡ ends_link_with item (answer_of o))
+ends_as item o a r borrows = subst (λ (last : Bool). IfOk r (λ ends. ends ≡ last)) (same_end item o a borrows)
 
-pub wrote_front : (item : Item) (o : Outcome) (a : Answer) (bytes : List ℕ) (before after : Option (List ℕ)) → Borrows o a → bytes ≡ [] ++ response_of item a → AppendsFront before after bytes → AppendsFront before after (reply_to item o)
-wrote_front item o a bytes before after borrows is wrote =
-    subst (AppendsFront before after) (same_reply item o a borrows) (subst (AppendsFront before after) is wrote)
+pub replies_as : (item : Item) (o : Outcome) (a : Answer) (r : Result Bool HttpEnd) (before after : Option (List ℕ)) → Borrows o a → OnOk r (Appends before after (response_of item a)) → OnOk r (Appends before after (reply_to item o))
+replies_as item o a r before after borrows = subst (λ (bytes : List ℕ). OnOk r (Appends before after bytes)) (same_reply item o a borrows)
+
+pub fails_as : (item : Item) (o : Outcome) (a : Answer) (r : Result Bool HttpEnd) (before after : Option (List ℕ)) → Borrows o a
+    → IfErr r (λ why. FailsToReply why (response_of item a) before after) → IfErr r (λ why. FailsToReply why (reply_to item o) before after)
+fails_as item o a r before after borrows = subst (λ (bytes : List ℕ). IfErr r (λ why. FailsToReply why bytes before after)) (same_reply item o a borrows)
 
 -- what was put into an empty buffer is all that it has
-pub written_as : (piece items front reply : List ℕ) → piece ≡ items → items ≡ front ++ reply → front ≡ [] → piece ≡ [] ++ reply
+pub written_as : (piece items front reply : List ℕ) → piece ≡ items → items ≡ front ++ reply → front ≡ [] → piece ≡ reply
 written_as piece items front reply same is none = same ∙ is ∙ ap (λ (xs : List ℕ). xs ++ reply) none
+
+-- a head and a body are a reply
+pub both_as : (item : Item) (a : Answer) (head body : List ℕ) → head ≡ head_to item a → body ≡ body_in a → head ++ body ≡ response_of item a
+both_as item a head body is same = ap₂ (λ (xs ys : List ℕ). xs ++ ys) is same ∙ sym (head_and_body item a)
+
+-- a front of the first of two texts
+pub front_first : (a b : Option (List ℕ)) (x y : List ℕ) → AppendsFront a b x → AppendsFront a b (x ++ y)
+front_first a b x y front = (front.0, omega (arith, front.1, length-append x y), subst (λ (t : List ℕ). Appends a b t) (sym (take-append-le front.0 x y front.1)) front.2)
+
+-- the first, and a front of what stands behind it
+pub front_next : (a b c : Option (List ℕ)) (x y : List ℕ) → Appends a b x → AppendsFront b c y → AppendsFront a c (x ++ y)
+front_next a b c x y first front = (
+  length x + front.0,
+  omega (arith, front.1, length-append x y),
+  subst (λ (t : List ℕ). Appends a c t) (sym (take-append-add x y front.0)) (Appends-more a b c x (take front.0 y) first front.2),
+)
+
+-- what holds anyhow holds where there is an error
+pub err_anyhow : {T E : Type 0} (r : Result T E) (P : Type 0) → P → OnErr r P
+err_anyhow (Ok x) P holds = tt
+err_anyhow (Err e) P holds = holds

@@ -9,7 +9,7 @@ ghost use Rattle.render_answer.specs.declared.answer.Answer.TheVariants as answe
 use http_wire::{MediaType, Refusal};
 use render_answer::{Answer, Text, answer_within};
 use render_plan::{Format, RenderPlan};
-use series_set::{Allowance, SeriesRows, Size};
+use series_set::{Allowance, SeriesRows};
 use shared_store::AskFault;
 use std::alloc::{AllocError, Global};
 
@@ -74,7 +74,7 @@ pub(crate) fn found(
     }
 }
 
-// What comes of a plan with these rows, in this room. The reply is made of a copy of the text.
+// What comes of a plan with these rows, in this room. The reply has the text where it stands.
 fn made(
     alloc: Global,
     plan: &RenderPlan,
@@ -85,11 +85,7 @@ fn made(
     ensures { IfOk result (IsFound (plan_seen plan.now) (Ok rows)) }
 {
     match answer_within(alloc, plan, rows, room)? {
-        Answer::Body(form, text) => {
-            let size = Size::of_text(text.as_slice().len());
-            room.bear(size.plus(size))?;
-            Ok(Outcome::Found(media_of(form), text))
-        }
+        Answer::Body(form, text) => Ok(Outcome::Found(media_of(form), text)),
         Answer::Refused(why) => refused(alloc, &why),
     }
 }

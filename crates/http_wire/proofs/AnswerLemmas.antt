@@ -1,6 +1,7 @@
 -- Lemmas on the replies to the items of a link.
 use Rattle.std.proofs.Common.{◌≡◌, ℕ, Bool, true, false, cond, List, [], ◌∷◌, ◌++◌, refl, sym, ap, ◌∙◌, append_assoc, append-nil}
-use Rattle.http_wire.specs.Answers.{KeepLink, ends_link_with, response_of, responses_of}
+use Rattle.http_wire.specs.Answers.{KeepLink, body_in, ends_link_with, head_to, response_of, responses_of}
+use Rattle.http_wire.specs.Replies.{reply_bytes, reply_head}
 use Rattle.http_wire.specs.Requests.{Item}
 use Rattle.http_wire.specs.declared.answer.Answer.{Answer}
 
@@ -22,3 +23,8 @@ replies_more (first ∷ items) (given ∷ answers) item answer all =
     ∙ ap (λ (b : Bool). (response_of first given ++ cond b [] before) ++ response_of item answer) (sym all.0)
 replies_more [] (given ∷ answers) item answer all = absurd all
 replies_more (first ∷ items) [] item answer all = absurd all
+
+-- a reply is its head and its body
+pub head_and_body : (item : Item) (answer : Answer) → response_of item answer ≡ head_to item answer ++ body_in answer
+unfolding response_of head_to reply_bytes reply_head
+head_and_body item answer = refl

@@ -1,7 +1,7 @@
 -- What the items of a link are answered, and the bytes of all replies.
 use Rattle.std.specs.Prelude.{◌≡◌, ⊤, Bool, true, false, ◌||◌, List, [], ◌∷◌, ◌++◌, ℕ, Result, Ok, Err, if◌then◌else◌}
 use Rattle.http_wire.specs.Reading.{seen}
-use Rattle.http_wire.specs.Replies.{reply_bytes}
+use Rattle.http_wire.specs.Replies.{body_of, reply_bytes, reply_head}
 use Rattle.http_wire.specs.Requests.{Item, Request, Refused}
 use Rattle.http_wire.specs.Routes.{route}
 use Rattle.http_wire.specs.declared.answer.Answer.{Answer}
@@ -71,6 +71,13 @@ Answers (Request asked) answer = MayAnswer (route asked.method asked.target) ans
 -- the bytes of the reply to an item
 unfoldable pub response_of : Item → Answer → List ℕ
 response_of item answer = reply_bytes (reply_of answer) (ends_link_with item answer)
+
+-- the same up to the body, and the body
+unfoldable pub head_to : Item → Answer → List ℕ
+head_to item answer = reply_head (reply_of answer) (ends_link_with item answer)
+
+abbrev pub body_in : Answer → List ℕ
+body_in answer = body_of (reply_of answer)
 
 -- The bytes of the replies to the items of a link, each of which has its answer. Nothing follows a reply
 -- after which the link ends, and an item that has no answer yet has no reply.

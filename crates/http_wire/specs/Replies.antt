@@ -54,3 +54,7 @@ head_of first count is_last = first ++ (length_name ++ (decimal count ++ last_li
 -- The bytes of a reply; `is_last` where the link ends after it.
 unfoldable pub reply_bytes : Reply → Bool → List ℕ
 reply_bytes reply is_last = head_of (first_lines reply) (length (body_of reply)) is_last ++ body_of reply
+
+-- the same without its body
+unfoldable pub reply_head : Reply → Bool → List ℕ
+reply_head reply is_last = head_of (first_lines reply) (length (body_of reply)) is_last

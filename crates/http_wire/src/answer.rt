@@ -1,10 +1,10 @@
 //! What the items of a link are answered.
 ghost use Rattle.std.specs.Prelude.{◌≡◌, ◌++◌, IfOk, OnErr, OnOk};
-ghost use Rattle.http_wire.specs.Answers.{ends_link_with, is_no_memory, item_of, reply_of, response_of};
+ghost use Rattle.http_wire.specs.Answers.{ends_link_with, head_to, is_no_memory, item_of, reply_of, response_of};
 
 use crate::reader::Request;
 use crate::refusal::Refusal;
-use crate::reply::{MediaType, Reply, push_reply};
+use crate::reply::{MediaType, Reply, push_reply, push_reply_head};
 use std::alloc::{AllocError, Global};
 
 /// What is answered to an item of a link.
@@ -48,6 +48,26 @@ pub fn push_answer(
     let is_last = ends_link_with(item, answer);
     let reply = reply_of(answer);
     push_reply(alloc, out, &reply, is_last)?;
+    Ok(is_last)
+}
+
+/// Puts the head of that reply behind others: all that comes before its body, so that a long body need not be
+/// copied. It tells whether the link ends after the reply. Where memory runs out nothing changes.
+#[tactic(auto, unfolding(crate::specs::Answers::head_to))]
+pub fn push_head(
+    alloc: Global,
+    out: &mut Vec<u8>,
+    item: &Item<'_>,
+    answer: &Answer<'_>,
+) -> Result<bool, AllocError>
+    ensures ends { IfOk result (λ ends. ends ≡ ends_link_with (item_of item.now) answer.now) }
+    ensures ok { OnOk result
+        (out.new.items ≡ out.old.items ++ head_to (item_of item.now) answer.now) }
+    ensures err { OnErr result (out.new.items ≡ out.old.items) }
+{
+    let is_last = ends_link_with(item, answer);
+    let reply = reply_of(answer);
+    push_reply_head(alloc, out, &reply, is_last)?;
     Ok(is_last)
 }
 

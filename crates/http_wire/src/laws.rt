@@ -1,7 +1,7 @@
 //! What the requests of a link and their replies are. The functions do nothing: what they ensure are the laws.
 ghost use Rattle.std.specs.Prelude.{◌≡◌, ◌++◌, ◌∷◌, ℕ, List, [], Option, Result, Some, take};
 ghost use Rattle.std.specs.Option.{ForSome};
-ghost use Rattle.http_wire.specs.Answers.{KeepLink, response_of, responses_of};
+ghost use Rattle.http_wire.specs.Answers.{KeepLink, body_in, head_to, response_of, responses_of};
 ghost use Rattle.http_wire.specs.Cuts.{Awaits};
 ghost use Rattle.http_wire.specs.Fields.{Field, body_length};
 ghost use Rattle.http_wire.specs.Lengths.{LengthIs};
@@ -47,6 +47,13 @@ pub fn replies_stand_in_order()
         → KeepLink items answers
         → responses_of (items ++ item ∷ []) (answers ++ answer ∷ [])
         ≡ responses_of items answers ++ response_of item answer }
+{}
+
+/// The reply to an item is its head with the body of the answer behind it.
+#[tactic(auto, using(crate::proofs::AnswerLemmas::head_and_body))]
+pub fn replies_are_heads_and_bodies()
+    ensures { (item : Item) (answer : Answer)
+        → response_of item answer ≡ head_to item answer ++ body_in answer }
 {}
 
 /// How long a body is, or why its request is refused, is what the fields of the head say of it.

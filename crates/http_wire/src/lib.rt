@@ -12,13 +12,13 @@ mod refusal;
 mod reply;
 mod routing;
 
-pub use answer::{Answer, Item, push_answer};
+pub use answer::{Answer, Item, push_answer, push_head};
 pub use cut::MOST_HEAD_BYTES;
 pub use fields::MOST_BODY_BYTES;
 pub use head::MOST_FIELDS;
 pub use laws::{
-    lengths_are_what_fields_say, pieces_only_add, replies_stand_in_order, requests_are_one,
-    the_end_tells_the_rest,
+    lengths_are_what_fields_say, pieces_only_add, replies_are_heads_and_bodies,
+    replies_stand_in_order, requests_are_one, the_end_tells_the_rest,
 };
 pub use reader::{Handed, Request, RequestReader};
 pub use refusal::Refusal;

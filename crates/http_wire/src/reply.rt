@@ -1,6 +1,6 @@
 //! The bytes of replies.
 ghost use Rattle.std.specs.Prelude.{◌≡◌, ◌+◌, ◌++◌, ◌∷◌, [], decimal, length, IfOk, OnErr, OnOk};
-ghost use Rattle.http_wire.specs.Replies.{body_of, first_lines, found_line, head_of, last_lines, length_name, refusal_line, reply_bytes, text_line};
+ghost use Rattle.http_wire.specs.Replies.{body_of, first_lines, found_line, head_of, last_lines, length_name, refusal_line, reply_bytes, reply_head, text_line};
 
 use crate::refusal::Refusal;
 use itoa::Buffer;
@@ -40,14 +40,52 @@ pub fn push_reply(
     ensures ok { OnOk result (out.new.items ≡ out.old.items ++ reply_bytes reply.now is_last) }
     ensures err { OnErr result (out.new.items ≡ out.old.items) }
 {
+    let first = first_lines(reply);
     match reply {
-        Reply::Found(media, body) => push_parts(alloc, out, found_line(*media), body, is_last),
+        Reply::Found(_, body) => push_parts(alloc, out, first, body, is_last),
         Reply::Text(text) => {
             let mut body = Vec::from_slice(alloc, text)?;
             body.push(b'\n')?;
-            push_parts(alloc, out, text_line(), body.as_slice(), is_last)
+            push_parts(alloc, out, first, body.as_slice(), is_last)
         }
-        Reply::Refused(why) => push_parts(alloc, out, refusal_line(*why), b"", is_last),
+        Reply::Refused(_) => push_parts(alloc, out, first, b"", is_last),
+    }
+}
+
+/// Puts the bytes of a reply up to its body behind others. Where memory runs out nothing changes.
+#[tactic(auto, unfolding(crate::specs::Replies::reply_head))]
+pub(crate) fn push_reply_head(
+    alloc: Global,
+    out: &mut Vec<u8>,
+    reply: &Reply<'_>,
+    is_last: bool,
+) -> Result<(), AllocError>
+    ensures ok { OnOk result (out.new.items ≡ out.old.items ++ reply_head reply.now is_last) }
+    ensures err { OnErr result (out.new.items ≡ out.old.items) }
+{
+    let head = head_of(alloc, first_lines(reply), body_length(reply), is_last)?;
+    out.extend_from_slice(head.as_slice())
+}
+
+// What a reply begins with.
+fn first_lines(reply: &Reply<'_>) -> &'static [u8]
+    ensures { result.now ≡ first_lines reply.now }
+{
+    match reply {
+        Reply::Found(media, _) => found_line(*media),
+        Reply::Text(_) => text_line(),
+        Reply::Refused(why) => refusal_line(*why),
+    }
+}
+
+// How many bytes its body has.
+fn body_length(reply: &Reply<'_>) -> usize
+    ensures { result ≡ length (body_of reply.now) }
+{
+    match reply {
+        Reply::Found(_, body) => body.len(),
+        Reply::Text(text) => text.len() + 1,
+        Reply::Refused(_) => 0,
     }
 }
 
