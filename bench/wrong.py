@@ -1,7 +1,7 @@
 #!/usr/bin/env python3
 """Wrong bodies: plants the bugs that are listed in the folder `wrong`, many at once, and says of each what refuses it.
 
-Usage: bench/wrong.py [--jobs N] [--keep CLONE] CRATE..      tries the wrong bodies of these crates
+Usage: bench/wrong.py [--jobs N] [--keep CLONE] CRATE..      tries the wrong bodies of these crates; CRATE/NAME is one of them
        bench/wrong.py [--jobs N] [--keep CLONE] --all        tries all of them, in the order of crates.txt
        bench/wrong.py --list [CRATE..]                       tries nothing: counts them, and looks whether each still applies
 
@@ -18,15 +18,16 @@ Usage: bench/wrong.py [--jobs N] [--keep CLONE] CRATE..      tries the wrong bod
 
 They are tried in a clone of what is committed here, which is removed at the end. With `--keep CLONE` it is made there and stays, and one that is
 there is brought to what is committed here: the next run then begins with what this one proved. What the last check of each round said is then
-in CLONE/out/wrong. `rt check` also begins with what was proved in other copies on this machine, while their folders `out` stand.
+in CLONE/out/wrong. `rt check` also begins with what was proved in other copies on this machine, while their folders `out` stand. The libraries
+below a crate are built first, each by itself, and their minutes are told apart from those of the crate.
 
 A round plants as many bodies as fit, and is one `rt check --allow-holes` of the crate. A function gets one body at most, and none if it calls one
 that gets another, by the names that stand in its text where a function may. Then each body's functions are judged by what the check says of them and of their closures:
 
     contract     something of their own is not proved: a clause, an invariant, what a callee requires. Where the check only came to a limit of the
                  prover, that is said
-    proof file   all that fails is that a proof file names what the body took away, which says nothing of the contract. Such a body is tried once
-                 more, with the names in that file that the check asks for
+    proof file   all that fails is that a proof file names what the body took away, which says nothing of the contract. Such a body is tried again
+                 (three times at most) with the names in that file that the check asks for, or that the body's own words make of them
     let through  nothing of their own fails: `proved`, `no holes`, or only `it calls Y`, where Y has another body
     bad          the body does not apply or does not compile, or the check has no line for its function
 
@@ -34,9 +35,8 @@ A bug in a constant counts as one in each function that names it. Bodies in what
 leaves a doubt (a proof of no function fails, or one of a function without a body), are tried again alone. Where a round does not compile, the
 bodies on the lines that the compiler names are tried again alone and the others together; where it names none of theirs, each half by itself.
 
-Bodies that a test refuses are planted by turns over that crate of tests, which `rt try --test` interprets: each in half of some runs, so that the
-runs of no two are a part of each other. Such a body is refused if its test fails in its own runs and in no other, which no other one of them
-can bring about; else it is tried alone. Each first has to pass in a run without bodies. One without the name of a test is tried alone.
+Bodies that a test refuses are planted one at a time, and `rt try --test` interprets that test alone (it takes one name), or the whole crate of
+tests where none is named. The test first has to pass in a run without bodies.
 
 Prints a line for each body, and a table at the end; the minutes are those of the processor. The status is 1 if a body came out weaker than its
 line `refused` says (proof file is weaker than contract, and let through than both), is bad, or could not be tried.
@@ -57,7 +57,8 @@ ROOT = os.path.dirname(os.path.dirname(os.path.abspath(__file__)))
 CONTRACT, PROOF_FILE, TEST, LET, BAD, UNTRIED = "contract", "proof file", "test", "let through", "bad", "not tried"
 FN = re.compile(r"( *)(?:pub(?:\([a-z ]+\))? )?(?:const |unsafe )*fn (\w+)")
 ITEM = re.compile(r"(?:pub(?:\([a-z ]+\))? )?(?:const|static) (\w+)\s*:")
-IMPL = re.compile(r"impl\b(?:<.*?>)? (?:(?:\w+::)*(\w+)(?:<.*>)? for )?(?:\w+::)*(\w+)")
+IMPL = re.compile(r"impl\b(?:<.*?>)? (?:(?:\w+::)*(\w+)(?:<(?:\w+::)*(\w+).*>)? for )?(?:\w+::)*(\w+)")
+TYPE = re.compile(r"(?:pub(?:\([a-z ]+\))? )?(?:struct|enum|union) (\w+)")
 TRAIT = re.compile(r"(?:pub(?:\([a-z ]+\))? )?trait (\w+)")
 CALL = re.compile(r"\b(\w+)\s*(?:::<[^;{}]*>)?\s*\(")
 ARGUMENT = re.compile(r"[(,]\s*(?:\w+::)*(\w+)\s*(?=[,)])")
@@ -68,8 +69,12 @@ FOLLOWS = re.compile(r"was not admitted|which antt refuses|not checked, since")
 LIMIT = re.compile(r"could not tell|stopped at the step limit|outgrew the memory limit|ran out of (?:stack|the (?:steps|memory))")
 # What `rt` says of its own state, after which the check has judged nothing.
 UNSOUND = re.compile(r"the kept work of a library could not be used|No space left on device")
+# How the names of a proof call what the code writes by a sign.
+SIGNS = {"<": "lt", "<=": "le", ">": "gt", ">=": "ge", "==": "eq", "!=": "ne"}
+LIBRARIES = "(libraries)"
 
-Function = collections.namedtuple("Function", "file first last scopes name text")
+# (home: the file of the module that the check names it by, which for a method of a type's own is that of the type)
+Function = collections.namedtuple("Function", "file first last scopes name text home")
 
 
 class Body:
@@ -84,7 +89,7 @@ class Body:
         self.lines = {}  # by file and number, from 0: what stands there with the bug
         self.functions = []
         self.is_loose = False  # it changes what is neither a function nor a constant
-        self.is_fitted = False  # its functions' proof files were given the names that it makes
+        self.fittings = 0  # how often its functions' proof files were given names that it makes
         self.verdict, self.why = None, ""
 
     def wanted(self):
@@ -98,7 +103,7 @@ class Body:
 
     def end(self, verdict, why=""):
         self.verdict, self.why = verdict, why
-        why = ", ".join(filter(None, [why, "with fitted names" if self.is_fitted else ""]))
+        why = ", ".join(filter(None, [why, "with fitted names" if self.fittings else ""]))
         mark = " <-- weaker than it says" if self.is_weaker() else ""
         if self.wanted() == LET and verdict in (PROOF_FILE, CONTRACT):
             mark = " (stronger than it says)"
@@ -159,9 +164,9 @@ def functions_of(file, lines):
     """The functions of a source: where each begins and ends (in the layout that `rt fmt` makes), and the names that its impl may go by."""
     found, scopes = [], ()
     for at, line in enumerate(lines):
-        if line[:1] not in ("", " ", "}"):
-            head, trait = IMPL.match(line), TRAIT.match(line)
-            scopes = (head[2] + (head[1] or ""), head[2]) if head else (trait[1],) if trait else ()
+        if line[:1] not in ("", " ", "}", "{") and not line.startswith("where"):
+            head, trait = IMPL.match(head_at(lines, at)), TRAIT.match(line)
+            scopes = (head[3] + (head[1] or "") + (head[2] or ""), head[3]) if head else (trait[1],) if trait else ()
         it = FN.match(line)
         if not it:
             continue
@@ -172,7 +177,31 @@ def functions_of(file, lines):
                 if FN.match(lines[last]) and len(FN.match(lines[last])[1]) <= len(it[1]):
                     last -= 1  # (one with no body, of a trait)
                     break
-        found.append(Function(file, at, last, scopes if it[1] else (), it[2], "\n".join(lines[at : last + 1])))
+        found.append(Function(file, at, last, scopes if it[1] else (), it[2], "\n".join(lines[at : last + 1]), file))
+    return found
+
+
+def head_at(lines, at):
+    """An item's head in one line, which may stand in several."""
+    last = at
+    while "{" not in lines[last] and last + 1 < min(at + 9, len(lines)):
+        last += 1
+    return " ".join(it.strip() for it in lines[at : last + 1])
+
+
+def at_home(functions, lines):
+    """Gives the methods of a type's own that stand in another file than the type the file of the type."""
+    homes = collections.defaultdict(list)
+    for file, rows in lines.items():
+        for row in rows:
+            it = TYPE.match(row) if file.endswith(".rt") else None
+            if it:
+                homes[it[1]].append(file)
+    found = []
+    for it in functions:
+        is_own = len(it.scopes) == 2 and it.scopes[0] == it.scopes[1]
+        files = homes[it.scopes[0]] if is_own else []
+        found.append(it._replace(home=files[0]) if len(files) == 1 else it)
     return found
 
 
@@ -189,6 +218,7 @@ class Sources:
                         self.lines[file] = it.read().split("\n")
                 if name.endswith(".rt"):
                     self.functions += functions_of(file, self.lines[file])
+        self.functions = at_home(self.functions, self.lines)
 
     def place(self, body):
         """Finds the lines and the functions that a body changes, or says why it does not apply."""
@@ -294,7 +324,7 @@ def timed(words, folder):
 
 
 def module_of(function):
-    words = function.file[len("src/") : -len(".rt")].split("/")
+    words = function.home[len("src/") : -len(".rt")].split("/")
     return [] if words in (["lib"], ["main"]) else words
 
 
@@ -309,8 +339,15 @@ def is_of(parts, function):
         return rest[:1] == [function.name]
     if rest[1:2] != [function.name]:
         return False
-    # (the impl of a trait goes by the type, the trait and what the trait is of)
-    return rest[0] in function.scopes or function.scopes[0] != function.scopes[-1] and rest[0].startswith(function.scopes[0])
+    # (the impl of a trait goes by the type, the trait and what the trait is of, but that of Drop by the type)
+    return rest[0] == function.scopes[0] or rest[0] + "Drop" == function.scopes[0] == function.scopes[-1] + "Drop"
+
+
+def is_proof_of(file, function):
+    """Whether a file is one of a function's own proofs, or of those of a module's functions that call each other round, which have one folder: a `+`
+    begins its name."""
+    steps = file[: -len(".antt")].split("/")
+    return steps[0] == "proofs" and (is_of(steps[1:], function) or steps[-2][:1] == "+" and steps[1:-2] == module_of(function))
 
 
 def segments(text):
@@ -329,8 +366,8 @@ def segments(text):
 class Log:
     """What a check said of a crate."""
 
-    def __init__(self, crate, text):
-        self.crate, self.text = crate, text
+    def __init__(self, crate, text, lines):
+        self.crate, self.text, self.lines = crate, text, lines
         self.said, self.errors = [], []
         for line in text.split("\n"):
             it = SAID.match(line)
@@ -366,7 +403,7 @@ class Log:
                 continue
             for part in segments(text):
                 bare = re.sub(r"`[^`]*`", "`", part)
-                if re.match(r"(?:no proof: |not proved: |could not tell: )?it calls", bare) or bare in ("not proved", "no proof"):
+                if re.match(r"(?:no proof: |not proved: |could not tell: )?it (?:calls|waits for the proof of)", bare) or bare in ("not proved", "no proof"):
                     continue
                 if LIMIT.search(bare) and "stands on" not in bare:
                     found.append(("limit", part))
@@ -390,12 +427,18 @@ class Log:
                 return [("doubt", part)]  # (that of no function; else that one is judged by itself)
         return []
 
+    def is_answer_of(self, file, at, function):
+        """Whether a place in a proof file is of a function, as in those that several have: there an answer begins with the function's name, or with
+        what is asked and then that name."""
+        lines = self.lines.get(file, [])
+        heads = [it for it in (re.match(r"(?:abbrev )?pub ([^ :]+) :", line) for line in reversed(lines[: at + 1])) if it]
+        return "/+" not in file or not heads or "/+%s/" % function.name in file or function.name in heads[0][1].split("-")
+
     def in_proofs(self, function):
         """What is refused in a function's own proof files: for what has to be proved there, or only for a name that is gone."""
         found = []
-        for file, _, what, _ in self.errors:
-            steps = file[: -len(".antt")].split("/")
-            if steps[0] == "proofs" and is_of(steps[1:], function):
+        for file, at, what, _ in self.errors:
+            if is_proof_of(file, function) and self.is_answer_of(file, at, function):
                 bare = re.sub(r"`[^`]*`", "`", what)
                 kind = "limit" if LIMIT.search(bare) else PROOF_FILE if NAMES.search(bare) else "follows" if FOLLOWS.search(bare) else CONTRACT
                 found.append((kind, what))
@@ -403,8 +446,31 @@ class Log:
 
 
 def fitted(log, body, sources):
-    """Where a body is refused only for names that are gone: gives its functions' proof files the names that the check asks for in their place, as a
-    condition that is turned round has another name. Says whether there was something to change."""
+    """Where a body is refused only for names that are gone: gives its functions' proof files other names in their place, of goals those that the check
+    asks for, and of fields those that the body's own words make. Says whether there was something to change."""
+    own = []
+    for file, lines in sources.lines.items():
+        if any(is_proof_of(file, it) for it in body.functions):
+            own.append((file, [body.lines.get((file, at), line) for at, line in enumerate(lines)]))
+    goals = goals_for(log)
+    gone = {it[1] for file, _, what, _ in log.errors if any(file == one for one, _ in own) for it in re.finditer(r"has no field (?:named )?`([^`]+)`", what)}
+    fields = {it: field_for(it, body, sources) for it in gone}
+    more = {}
+    for file, lines in own:
+        for at, line in enumerate(lines):
+            changed = line
+            for one, other in goals.items():
+                changed = changed.replace(one, other)
+            for one, other in fields.items():
+                changed = re.sub(r"(?<=\.)%s(?![\w-])" % re.escape(one), lambda _: other, changed)
+            if changed != line:
+                more[file, at] = changed
+    body.lines.update(more)
+    return bool(more)
+
+
+def goals_for(log):
+    """The parts of the names of goals that are gone, with those that the check asks for in their place: a condition that is turned round has another."""
     asked = set(re.findall(r"^note: src/.* \(`([^`]+)`\)", log.text, re.M))
     changes = {}
     for gone, rest in re.findall(r"^help: `Goals` has no `([^`]+)`; rattle asks for (.*)", log.text, re.M):
@@ -415,18 +481,29 @@ def fitted(log, body, sources):
             for kind, a, b, c, d in difflib.SequenceMatcher(None, one, other, False).get_opcodes():
                 if kind != "equal":
                     changes["-".join(one[max(a - 1, 0) : b + 1])] = "-".join(other[max(c - 1, 0) : d + 1])
-    more = {}
-    for file, lines in sources.lines.items():
-        steps = file[: -len(".antt")].split("/")
-        if steps[0] == "proofs" and any(is_of(steps[1:], it) for it in body.functions):
-            for at, line in enumerate(lines):
-                changed = body.lines.get((file, at), line)
-                for one, other in changes.items():
-                    changed = changed.replace(one, other)
-                if changed != body.lines.get((file, at), line):
-                    more[file, at] = changed
-    body.lines.update(more)
-    return bool(more)
+    return changes
+
+
+def field_for(gone, body, sources):
+    """The name of a field of the proof that stands where this one stood: each word that the body put in the place of one, and `not` where it turned a
+    condition round."""
+    name = gone
+    for (file, at), line in body.lines.items():
+        if not file.endswith(".rt"):
+            continue
+        one, other = words_in(sources.lines[file][at]), words_in(line)
+        for kind, a, b, c, d in difflib.SequenceMatcher(None, one, other, False).get_opcodes():
+            if kind == "replace" and b - a == d - c:
+                for was, now in zip(one[a:b], other[c:d]):
+                    name = re.sub(r"(?<![A-Za-z0-9_])%s(?![A-Za-z_])" % re.escape(SIGNS.get(was, was)), SIGNS.get(now, now), name)
+            elif kind != "equal" and "!" in one[a:b] + other[c:d] and name == gone:
+                turned = re.sub(r"^(if|then|else)-not-", r"\1-", name)
+                name = turned if turned != name else re.sub(r"^(if|then|else)-", r"\1-not-", name)
+    return name
+
+
+def words_in(line):
+    return re.findall(r"[A-Za-z_]\w*|\d[\d_]*|[<>=!]=|[<>!]", line)
 
 
 def judge(log, body, is_alone, every):
@@ -452,7 +529,7 @@ class Trier:
     """A clone, and what was spent in it."""
 
     def __init__(self, keep, jobs):
-        self.jobs, self.seconds, self.checks = jobs, collections.Counter(), collections.Counter()
+        self.jobs, self.seconds, self.checks, self.built = jobs, collections.Counter(), collections.Counter(), set()
         self.room = None if keep else tempfile.mkdtemp(prefix="wrong-")
         self.clone = os.path.abspath(keep) if keep else self.room + "/clone"
         if keep and os.path.exists(self.clone + "/.git"):
@@ -467,6 +544,25 @@ class Trier:
         elif os.path.isdir(self.clone):
             subprocess.run(["git", "-C", self.clone, "checkout", "-q", "--", "crates"])
 
+    def libraries(self, crate):
+        """Builds the libraries below a crate, the lowest first, and says whether all are there."""
+        lines = lines_of_crates()
+        below, found = list(lines[crate]), set()
+        while below:
+            one = below.pop()
+            if one not in found:
+                found.add(one)
+                below += lines[one]
+        for name in [it for it in lines if it in found and it not in self.built]:
+            status, text, seconds = timed(["rt", "lib", "--jobs", str(self.jobs)], "%s/crates/%s" % (self.clone, name))
+            self.seconds[LIBRARIES] += seconds
+            print("-- the library %s: %.1f minutes" % (name, seconds / 60), flush=True)
+            if status:
+                self.keep(name, [], text)
+                return False
+            self.built.add(name)
+        return True
+
     def check(self, crate, sources, bodies):
         sources.write(bodies)
         for _ in range(2):
@@ -475,7 +571,7 @@ class Trier:
             self.seconds[crate] += seconds
             self.keep(crate, bodies, text)
             if status in (0, 1, 3) and not UNSOUND.search(text):
-                return Log(crate, text)
+                return Log(crate, text, sources.lines)
         return None
 
     def keep(self, crate, bodies, text):
@@ -495,6 +591,12 @@ class Trier:
                 body.end(BAD, why)
             else:
                 able.append(body)
+        later = [it for it in able if it.tests]
+        if len(later) < len(able) and not self.libraries(crate):
+            for body in able:
+                if not body.tests:
+                    body.end(UNTRIED, "a library below does not build")
+            return sources, later
         waiting = [(it, it[0].is_loose) for it in in_rounds([it for it in able if not it.tests])]
         number = 0
         while waiting:
@@ -518,8 +620,8 @@ class Trier:
                 told = judge(log, body, is_alone, sources.functions)
                 if not told:
                     waiting.append(([body], True))
-                elif told[0] == PROOF_FILE and not body.is_fitted and fitted(log, body, sources):
-                    body.is_fitted = True
+                elif told[0] == PROOF_FILE and body.fittings < 3 and fitted(log, body, sources):
+                    body.fittings += 1
                     late.append(body)
                 else:
                     body.end(*told)
@@ -528,7 +630,7 @@ class Trier:
             if not is_alone:
                 self.look_beside(log, planted, sources)
         sources.write([])
-        return sources, [it for it in able if it.tests]
+        return sources, later
 
     @staticmethod
     def holds(body, file, at):
@@ -556,89 +658,49 @@ class Trier:
                 if own:
                     print("   beside them %s is refused: %s" % (function.name, own[0][:120]), flush=True)
 
-    def tests(self, crate, names, of):
-        """Runs tests of a crate by their names, and gives those that failed and those that passed, or None if no run was made."""
-        words = ["rt", "try", "--test"] + (["--", *names] if names else [])
+    def tests(self, crate, name, of):
+        """Runs a test of a crate by its name, or all where there is none, and says whether it passed; None if no run was made."""
+        words = ["rt", "try", "--test"] + (["--", name] if name else [])
         status, text, seconds = timed(words, "%s/crates/%s" % (self.clone, crate))
         self.seconds[of] += seconds
+        self.keep(of, [], " ".join(words) + " in " + crate + "\n" + text)
         told = re.findall(r"^test (\S+) \.\.\. (ok|FAILED)", text, re.M)
-        ended = re.search(r"^test result: ", text, re.M)
-        failed = {name for name, end in told if end == "FAILED"}
-        passed = {name for name, end in told if end == "ok"}
-        # a run that stops in the middle of a test is a failure of it, one that does not come to the tests is none
-        if not ended and not re.search(r"^tests: \d+", text, re.M):
-            return None
-        return failed, passed, bool(ended) and status == 0
+        if not re.search(r"^test result: ", text, re.M):
+            # a run that stops in the middle of a test is a failure of it, one that does not come to the tests is none
+            return False if re.search(r"^tests: \d+", text, re.M) else None
+        if not name:
+            return status == 0 and bool(told)
+        own = [end for one, end in told if one == name or one.endswith("::" + name)]
+        return own == ["ok"] if own else None
 
     def by_tests(self, bodies, sources):
-        """Tries the bodies that tests refuse, over the crates of tests that they name."""
-        for crate in dict.fromkeys(it.tests[0] for it in bodies):
-            own = [it for it in bodies if it.tests[0] == crate]
-            named = [it for it in own if len(it.tests) > 1]
-            wanted = sorted({it.tests[1] for it in named})
-            fine = self.tests(crate, wanted, own[0].crate)
-            lost = fine is None or not fine[2] or any(not has(fine[1], it) for it in wanted)
-            for body in own if lost else []:
+        """Tries the bodies of a crate that tests refuse, each alone."""
+        fine = {}
+        for body in bodies:
+            crate, name = (body.tests + [None])[:2]
+            if (crate, name) not in fine:
+                fine[crate, name] = self.tests(crate, name, body.crate)
+            if not fine[crate, name]:
                 body.end(UNTRIED, "without a bug its test does not pass or is not there")
-            if lost:
                 continue
-            while named:
-                group = []
-                for body in named:
-                    if all(self.is_beside(body, other) for other in group):
-                        group.append(body)
-                named = [it for it in named if it not in group]
-                self.by_turns(crate, group, sources)
-            for body in own:
-                if body.verdict is None:
-                    self.alone(crate, body, sources)
-
-    @staticmethod
-    def is_beside(one, other):
-        return one.tests[1] != other.tests[1] and (one.crate != other.crate or is_apart(one, other))
-
-    def plant(self, bodies, sources):
-        for crate, it in sources.items():
-            it.write([body for body in bodies if body.crate == crate])
-
-    def by_turns(self, crate, group, sources):
-        """Plants each of a group in half of some runs; no body's runs are a part of another's."""
-        if len(group) < 4:
-            return
-        runs = next(n for n in itertools.count(4) if len(list(itertools.combinations(range(n), n // 2))) >= len(group))
-        turns = dict(zip(group, itertools.combinations(range(runs), runs // 2)))
-        names = sorted({it.tests[1] for it in group})
-        told = []
-        for run in range(runs):
-            self.plant([it for it in group if run in turns[it]], sources)
-            told.append(self.tests(crate, names, group[0].crate))
-            print("-- %s, run %d of %d: %d planted" % (crate, run + 1, runs, sum(run in turns[it] for it in group)), flush=True)
-        self.plant([], sources)
-        for body in group:
-            ends = [it and (has(it[0], body.tests[1]), has(it[1], body.tests[1])) for it in told]
-            if all(end == ((True, False) if run in turns[body] else (False, True)) for run, end in enumerate(ends)):
-                body.end(TEST)
-
-    def alone(self, crate, body, sources):
-        self.plant([body], sources)
-        told = self.tests(crate, body.tests[1:], body.crate)
-        self.plant([], sources)
-        if told is None:
-            body.end(BAD, "the tests were not begun with it")
-        elif told[2]:
-            body.end(LET)
-        else:
-            body.end(TEST)
+            sources.write([body])
+            is_passed = self.tests(crate, name, body.crate)
+            sources.write([])
+            if is_passed is None:
+                body.end(BAD, "the tests were not begun with it")
+            else:
+                body.end(LET if is_passed else TEST)
 
 
-def has(names, name):
-    return any(it == name or it.endswith("::" + name) for it in names)
+def lines_of_crates():
+    """The repository's crates in the order of crates.txt, each with those of them that it names."""
+    with open(ROOT + "/crates.txt", encoding="utf-8") as it:
+        found = {line.partition(":")[0].split()[0]: line.partition(":")[2].split() for line in it if ":" in line}
+    return {it: [name for name in named if name in found] for it, named in found.items()}
 
 
 def order_of_crates():
-    with open(ROOT + "/crates.txt", encoding="utf-8") as it:
-        names = [line.partition(":")[0].split()[0] for line in it if ":" in line]
-    return [it for it in names if os.path.exists("%s/wrong/%s.edit" % (ROOT, it))]
+    return [it for it in lines_of_crates() if os.path.exists("%s/wrong/%s.edit" % (ROOT, it))]
 
 
 def list_all(crates):
@@ -670,6 +732,7 @@ def table(tried, seconds):
         total += count
         spent += seconds[crate]
     row("all", total, spent)
+    print("and the libraries below: %.1f minutes" % (seconds[LIBRARIES] / 60))
 
 
 def row(name, count, seconds):
@@ -678,7 +741,7 @@ def row(name, count, seconds):
 
 
 def main(words):
-    jobs, keep, is_list, is_all, crates = 1, None, False, False, []
+    jobs, keep, is_list, is_all, crates, names = 1, None, False, False, [], collections.defaultdict(set)
     words = list(words)
     while words:
         word = words.pop(0)
@@ -690,10 +753,12 @@ def main(words):
             is_list = True
         elif word == "--all":
             is_all = True
-        elif word.startswith("-") or not os.path.exists("%s/wrong/%s.edit" % (ROOT, word)):
-            sys.exit(__doc__ if word.startswith("-") else "there is no wrong/%s.edit" % word)
         else:
-            crates.append(word)
+            crate, _, name = word.partition("/")
+            if word.startswith("-") or not os.path.exists("%s/wrong/%s.edit" % (ROOT, crate)):
+                sys.exit(__doc__ if word.startswith("-") else "there is no wrong/%s.edit" % crate)
+            crates += [crate] if crate not in crates else []
+            names[crate] |= {name} if name else set()
     if is_list:
         return 0 if list_all(crates or order_of_crates()) else 1
     if is_all:
@@ -701,15 +766,17 @@ def main(words):
     if not crates:
         sys.exit(__doc__)
     signal.signal(signal.SIGTERM, lambda *_: sys.exit(143))
-    tried = {it: bodies_of(it) for it in crates}
+    tried = {it: [body for body in bodies_of(it) if not names[it] or body.name in names[it]] for it in crates}
+    for crate in crates:
+        lost = names[crate] - {it.name for it in tried[crate]}
+        if lost:
+            sys.exit("wrong/%s.edit has no %s" % (crate, ", ".join(sorted(lost))))
     trier = Trier(keep, jobs)
     try:
-        later, sources = [], {}
         for crate in crates:
-            sources[crate], more = trier.crate(crate, tried[crate])
+            sources, later = trier.crate(crate, tried[crate])
+            trier.by_tests(later, sources)
             print("-- %s: %.1f minutes" % (crate, trier.seconds[crate] / 60), flush=True)
-            later += more
-        trier.by_tests(later, sources)
     finally:
         trier.close()
         table(tried, trier.seconds)

@@ -15,7 +15,7 @@ use Rattle.carbon_model.specs.Replay.{replay}
 use Rattle.carbon_model.proofs.HistoryLemmas.{replay-append}
 use Rattle.render_plan.specs.declared.fault.QueryFault.{QueryFault}
 use Rattle.render_plan.specs.declared.fault.QueryFault.TheVariants as faults
-use Rattle.render_plan.specs.declared.need.Need.{Need}
+use Rattle.render_need.specs.declared.need.Need.{Need}
 use Rattle.render_plan.specs.Needed.{needs_of}
 use Rattle.render_plan.specs.Planned.{Plan as QueryPlan, read_plan}
 use Rattle.render_plan.specs.Values.{Rows}

@@ -15,7 +15,7 @@ use Rattle.path_glob.specs.Faults.{Said}
 use Rattle.find_api.specs.Queries.{read_queries}
 use Rattle.find_api.specs.Texts.{IsExpandText, IsFindText}
 use Rattle.find_api.specs.declared.fault.FindFault.{FindFault}
-use Rattle.render_plan.specs.declared.need.Need.{Need}
+use Rattle.render_need.specs.declared.need.Need.{Need}
 use Rattle.render_plan.specs.Planned.{Plan, read_plan}
 use Rattle.render_plan.specs.declared.fault.QueryFault.{QueryFault}
 use Rattle.http_wire.specs.Requests.{Asked, Item, Request, Refused}

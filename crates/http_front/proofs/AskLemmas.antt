@@ -11,7 +11,7 @@ use Rattle.shared_store.specs.declared.ask_fault.AskFault.TheVariants as ask
 use Rattle.render_plan.specs.Needed.{needs_of}
 use Rattle.render_plan.specs.Planned.{Plan}
 use Rattle.render_plan.specs.Values.{Rows}
-use Rattle.render_plan.specs.declared.need.Need.{Need}
+use Rattle.render_need.specs.declared.need.Need.{Need}
 use Rattle.render_answer.specs.Answer.{AnswersPlan, AnswersRows}
 use Rattle.render_answer.specs.Rows.{HasRows}
 use Rattle.render_answer.specs.declared.answer.Answer.{Answer as QueryAnswer}

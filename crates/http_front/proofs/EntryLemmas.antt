@@ -15,7 +15,7 @@ use Rattle.find_api.specs.declared.fault.FindFault.{FindFault}
 use Rattle.render_plan.specs.Needed.{needs_of}
 use Rattle.render_plan.specs.Planned.{Plan, read_plan}
 use Rattle.render_plan.specs.declared.fault.QueryFault.{QueryFault}
-use Rattle.render_plan.specs.declared.need.Need.{Need}
+use Rattle.render_need.specs.declared.need.Need.{Need}
 use Rattle.http_wire.specs.Requests.{Asked, Item, Request, Refused}
 use Rattle.http_wire.specs.Routes.{query_of, route}
 use Rattle.http_wire.specs.declared.refusal.Refusal.{Refusal}

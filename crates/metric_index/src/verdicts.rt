@@ -42,7 +42,9 @@ impl<'a> Verdicts<'a> {
         }
     }
 
-    /// Holds a glob against those of these paths, which are in byte order, that begin with its literal front.
+    /// Holds a glob against those of these paths, which are in byte order, that begin with its literal front. The
+    /// search is one of this glob, which may have been held against others before: what it remembers of their
+    /// nodes is not tried again.
     ///
     /// # Errors
     ///
@@ -50,13 +52,16 @@ impl<'a> Verdicts<'a> {
     pub fn of_paths(
         alloc: Global,
         glob: &'a Glob,
+        search: &mut GlobSearch<'_>,
         paths: &'a [MetricPath],
         work: &mut Work,
     ) -> Result<Verdicts<'a>, AllocError>
-        ensures { IfOk result (λ verdicts. verdicts ≡ glob.now) }
+        requires same { search.old ≡ glob.now }
+        ensures glob { IfOk result (λ verdicts. verdicts ≡ glob.now) }
+        ensures search { search.new ≡ search.old }
     {
         let paths = run_of(paths, glob.literal_front());
-        let fits = fits_of(alloc, glob, paths, work)?;
+        let fits = fits_of(alloc, search, paths, work)?;
         Ok(Verdicts { glob, paths, fits })
     }
 
@@ -68,13 +73,16 @@ impl<'a> Verdicts<'a> {
     }
 
     /// Whether the glob fits a path. The cursor stands at the first of the known paths that may be this one, and
-    /// goes on over those that are below: for paths in byte order each known one is passed once.
+    /// goes on over it and over those that are below: for paths in byte order each known one is passed once.
     pub(crate) fn fits(&self, cursor: &mut usize, path: &MetricPath) -> bool
         ensures { IsTrue result ↔ IsFitted self.now path.now }
     {
         *cursor = self.place_from(*cursor, path);
         match self.known_at(*cursor, path) {
-            Some(fits) => fits,
+            Some(fits) => {
+                *cursor = cursor.saturating_add(1);
+                fits
+            }
             None => self.glob.matches(path),
         }
     }
@@ -109,16 +117,16 @@ fn run_of<'a>(paths: &'a [MetricPath], front: &[u8]) -> &'a [MetricPath] {
     &rest[..count]
 }
 
-// Whether a glob fits each of these paths.
+// Whether the glob of a search fits each of these paths.
 fn fits_of(
     alloc: Global,
-    glob: &Glob,
+    search: &mut GlobSearch<'_>,
     paths: &[MetricPath],
     work: &mut Work,
 ) -> Result<Vec<bool>, AllocError>
-    ensures { IfOk result (λ fits. AreVerdicts glob.now paths.now fits.items) }
+    ensures fits { IfOk result (λ fits. AreVerdicts search.old paths.now fits.items) }
+    ensures search { search.new ≡ search.old }
 {
-    let mut search = GlobSearch::new(alloc, glob)?;
     let mut fits = Vec::with_capacity(alloc, paths.len())?;
     for path in paths {
         fits.push(search.matches(work, path)?)?;

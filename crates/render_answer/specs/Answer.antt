@@ -20,7 +20,7 @@ use Rattle.render_answer.specs.declared.answer.Answer.{Answer}
 use Rattle.render_answer.specs.declared.answer.Answer.TheVariants.{Body, Refused}
 use Rattle.render_answer.specs.declared.refusal.Refusal.{Refusal}
 use Rattle.render_answer.specs.declared.refusal.Refusal.TheVariants.{Query, TooManySeries, TooManyPoints, StepTooWide, GridTooLong}
-use Rattle.render_answer.specs.Rows.{HasRows, HasTooManyPoints, HasTooManySeries}
+use Rattle.found_rows.specs.Rows.{HasRows, HasTooManyPoints, HasTooManySeries}
 
 -- ---- texts
 

@@ -1,2 +1,2 @@
-pub mod Rows
+pub use Rattle.found_rows.specs.Rows
 pub mod Answer

@@ -77,7 +77,7 @@ fn are_short(sets: &[SeriesSet]) -> bool
 }
 
 /// Whether a query may be evaluated over rows: at most 100, each of at most 100 series.
-#[tactic(auto, using(render_plan::proofs::RowLemmas::short_rows))]
+#[tactic(auto, using(render_need::proofs::RowLemmas::short_rows))]
 pub fn may_be_evaluated(rows: &SeriesRows) -> bool
     ensures { IsTrue result → AreRows rows.now }
 {

@@ -9,4 +9,3 @@ mod SoundLemmas
 mod RangeLemmas
 mod TakenLemmas
 mod ValueLemmas
-pub mod RowLemmas

@@ -1,29 +1,16 @@
 -- How many series the values of targets have, and when these end.
 use Rattle.std.specs.Prelude.{ℕ, ◌+◌, ◌*◌, ◌≤◌, List, All, length}
-use Rattle.series_set.specs.Series.{SeriesValue, end_of, widest_step}
+use Rattle.series_set.specs.Series.{SeriesValue}
 use Rattle.series_funcs.specs.Combined.{most_series}
 use Rattle.target_parse.specs.Bytes.{most_depth}
 use Rattle.time_range.specs.SpanOf.{latest}
-use Rattle.render_plan.specs.Values.{Rows, concat}
-
--- the latest end of a series that is evaluated, before any call moves it
-abbrev pub latest_row_end : ℕ
-latest_row_end = 5000000000
+use Rattle.render_need.specs.Rows.{Rows, concat}
+pub use Rattle.render_need.specs.Rows.{AreRows, IsEarly, latest_row_end}
 
 -- a call moves an end by less than the longest shift: so late a series ends in calls that nest so
 -- deep
 unfoldable pub end_within : ℕ → ℕ
 end_within levels = latest_row_end + levels * latest
-
--- a series of the narrow steps that may be combined, which ends so early
-pub record IsEarly (by : ℕ) (s : SeriesValue) : Type 0 where
-  pub short : s.step ≤ widest_step
-  pub early : end_of s ≤ by
-
--- Lists of series that may be evaluated: few series in all, none of a wide step or a late end.
-pub record AreRows (rows : Rows) : Type 0 where
-  pub few : length (concat rows) ≤ most_series
-  pub early : All (IsEarly latest_row_end) (concat rows)
 
 -- series made of the first of some rows, of which others are left: there are no more than were
 -- taken, and they end so early

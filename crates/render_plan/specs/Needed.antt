@@ -1,15 +1,16 @@
 -- Which series a query needs.
-use Rattle.std.specs.Prelude.{ℕ, ◌+◌, ◌-◌, ◌≤◌, min, List, [], ◌∷◌, ◌++◌, if◌then◌else◌}
+use Rattle.std.specs.Prelude.{ℕ, ◌+◌, ◌-◌, min, List, [], ◌∷◌, ◌++◌, if◌then◌else◌}
 use Rattle.path_glob.specs.Faults.{Said}
 use Rattle.series_funcs.specs.declared.kinds.Shape.{Shape}
 use Rattle.series_funcs.specs.declared.kinds.Shape.TheVariants.{TimeShift}
 use Rattle.time_range.specs.SpanOf.{latest}
+use Rattle.render_need.specs.declared.need.Need.{Need}
 use Rattle.render_plan.specs.declared.needs.Shift.{Shift}
 use Rattle.render_plan.specs.declared.operation.Operation.{Operation}
 use Rattle.render_plan.specs.declared.operation.Operation.TheVariants as operation
-use Rattle.render_plan.specs.declared.need.Need.{Need}
 use Rattle.render_plan.specs.Planned.{Plan}
 use Rattle.render_plan.specs.Terms.{Term, Terms, Fetch, Apply, NoTerms, WithTerm, all_terms}
+pub use Rattle.render_need.specs.Ends.{AreEnds}
 
 abbrev pub no_shift : Shift
 no_shift = record { later = 0; earlier = 0 }
@@ -51,8 +52,3 @@ abbrev mutual
 -- the needs of a query, in the order of its targets
 unfoldable pub needs_of : Plan → List Need
 needs_of plan = needs_in_all plan.from plan.until no_shift (all_terms plan.targets)
-
--- moments that are in order and not too late
-pub record AreEnds (need : Need) : Type 0 where
-  pub order : need.from ≤ need.until
-  pub early : need.until ≤ latest

@@ -1,6 +1,6 @@
 -- What a plan that was read keeps.
 use Rattle.std.specs.Prelude.{◌≡◌, ◌≤◌, List, IfSome}
-use Rattle.render_plan.specs.declared.need.Need.{Need}
+use Rattle.render_need.specs.declared.need.Need.{Need}
 use Rattle.render_plan.specs.Needed.{needs_of}
 use Rattle.render_plan.specs.Planned.{Plan}
 use Rattle.render_plan.specs.Sound.{AreSound}

@@ -1,5 +1,5 @@
 -- The value of a query: what its targets make of the series that it needs.
-use Rattle.std.specs.Prelude.{◌≡◌, ℕ, ◌+◌, List, [], ◌∷◌, ◌++◌, drop, map, Option, Some, None, Result, Ok, Err}
+use Rattle.std.specs.Prelude.{◌≡◌, ℕ, ◌+◌, List, [], ◌∷◌, drop, map, Option, Some, None, Result, Ok, Err}
 use Rattle.std.specs.List.{slice_index_or}
 use Rattle.std.specs.Result.{result_map_both}
 use Rattle.series_set.specs.Series.{SeriesValue}
@@ -16,10 +16,7 @@ use Rattle.render_plan.specs.declared.settings.Format.{Format}
 use Rattle.render_plan.specs.declared.settings.Format.TheVariants.{Json, Raw, Csv}
 use Rattle.render_plan.specs.Planned.{Plan}
 use Rattle.render_plan.specs.Terms.{Term, Terms, Fetch, Apply, NoTerms, WithTerm, all_terms}
-
--- lists of series, one for each need or each argument
-abbrev pub Rows : Type 0
-Rows = List (List SeriesValue)
+pub use Rattle.render_need.specs.Rows.{Rows, concat}
 
 -- how many paths a target has
 abbrev mutual
@@ -30,11 +27,6 @@ abbrev mutual
   pub path_counts : Terms → ℕ
   path_counts NoTerms = 0
   path_counts (WithTerm term terms) = path_count term + path_counts terms
-
--- all series of several lists, in order
-abbrev pub concat : Rows → List SeriesValue
-concat [] = []
-concat (set ∷ sets) = set ++ concat sets
 
 abbrev pub nth : Rows → ℕ → List SeriesValue
 nth sets place = slice_index_or sets place []

@@ -10,7 +10,6 @@ mod fault;
 mod form;
 mod function;
 mod laws;
-mod need;
 mod needs;
 mod operation;
 mod plan;
@@ -22,6 +21,6 @@ mod value;
 
 pub use fault::{QueryFault, TargetCause};
 pub use laws::the_last_text_of_a_parameter_holds;
-pub use need::Need;
 pub use plan::RenderPlan;
+pub use render_need::Need;
 pub use settings::Format;

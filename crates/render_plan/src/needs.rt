@@ -7,10 +7,10 @@ ghost use Rattle.render_plan.specs.Sound.{AreSound, IsShortShift, IsSound, IsSou
 ghost use Rattle.render_plan.specs.Terms.{term_of, terms_of};
 
 use crate::check::copied;
-use crate::need::Need;
 use crate::operation::Operation;
 use crate::target::Target;
 use path_glob::Glob;
+use render_need::Need;
 use series_funcs::Shape;
 use std::alloc::{AllocError, Global};
 use time_range::LATEST;

@@ -3,11 +3,11 @@
 use crate::answer::answer_of;
 use crate::fault::QueryFault;
 use crate::form::parameters_in;
-use crate::need::Need;
 use crate::needs::{Ends, needs_of};
 use crate::settings::{Format, Settings, settled};
 use crate::target::Target;
 use crate::targets::targets_or_fault;
+use render_need::Need;
 use series_set::{Allowance, EvalFault, SeriesRows, SeriesSet};
 use std::alloc::Global;
 use std::marker::Model;

@@ -16,7 +16,7 @@ use Rattle.metric_path.specs.Path.{path_fault}
 use Rattle.metric_path.specs.Class.{class_of}
 use Rattle.fixed_num.specs.Moment.{is_moment}
 use Rattle.ring_format.specs.Layout.{LayoutValue}
-use Rattle.metric_index.specs.Found.{Finds as FindsEntries}
+use Rattle.metric_index.specs.Found.{Finds as FindsEntries, IsFitted}
 use Rattle.metric_index.specs.Index.{entry_of, paths_of}
 use Rattle.metric_table.specs.Table.{seen}
 use Rattle.metric_table.specs.declared.found_metric.FoundMetric.{FoundMetric}
@@ -28,7 +28,7 @@ use Rattle.series_fetch.specs.declared.range.Window.TheVariants.{Empty, Range}
 use Rattle.carbon_model.specs.Found.{Finds, IsKnown}
 use Rattle.carbon_model.specs.State.{Kept, State, layout_of, layout_or, points_in}
 use Rattle.carbon_model.specs.RingFiles.{IsOfClass}
-use Rattle.shard_core.specs.Looks.{IsSoundLook, Looks, LooksAt, MayRead, NamesOf, TellsOf, looked_as, looked_if, looked_in, looked_paths}
+use Rattle.shard_core.specs.Looks.{FindsFor, IsFoundAs, IsFoundIn, IsKnownTo, IsReadableLook, IsSoundLook, Looks, LooksAtFound, MayRead, NamesOf, TellsOf, looked_as, looked_if, looked_in, looked_paths}
 use Rattle.shard_core.specs.Shard.{AreOfClass, Holds, Inside, KnowsAs}
 use Rattle.shard_core.specs.Table.{IsEntry, Lists, Table, layout_kept}
 use Rattle.shard_core.specs.declared.looked.Looked.{Looked}
@@ -148,8 +148,8 @@ looked_rising metrics now from until (m ∷ found) rising =
     (looked_rising metrics now from until found (sorted_tail (slice_cmp nat_cmp) m.0 (paths_of found) rising))
 
 -- a metric of which the question has buckets, by what is known of it
-abbrev HasBuckets : (List ℕ → Option Known) → ℕ → ℕ → ℕ → List ℕ → Type 0
-HasBuckets entry now from until path = (known : Known) × ((entry path ≡ Some known) × (window known.layout now from until ≢ Empty))
+abbrev HasBuckets : (List ℕ × Known → Type 0) → ℕ → ℕ → ℕ → List ℕ → Type 0
+HasBuckets P now from until path = (known : Known) × (P (path, known) × (window known.layout now from until ≢ Empty))
 
 has_by : (w : Window) (metrics : Metrics) (m : List ℕ × Known) (looked : List Looked) (path : List ℕ) → Contains (looked_paths (looked_if metrics w m looked)) path → ((m.0 ≡ path) × (w ≢ Empty)) ⊎ Contains (looked_paths looked) path
 has_by Empty metrics m looked path c = inr c
@@ -158,14 +158,14 @@ has_by (Range i begin end) metrics m looked path c = elim (first_or_behind m.0 (
   | inr behind ↦ inr behind
 ]
 
-looked_has : (entry : List ℕ → Option Known) (metrics : Metrics) (now from until : ℕ) (found : List (List ℕ × Known)) (path : List ℕ) → All (λ m. entry m.0 ≡ Some m.1) found
-    → Contains (looked_paths (looked_in metrics now from until found)) path → HasBuckets entry now from until path × Contains (paths_of found) path
-looked_has entry metrics now from until [] path all c = absurd (omega (arith, c.1))
-looked_has entry metrics now from until (m ∷ found) path all c =
+looked_has : (P : List ℕ × Known → Type 0) (metrics : Metrics) (now from until : ℕ) (found : List (List ℕ × Known)) (path : List ℕ) → All P found
+    → Contains (looked_paths (looked_in metrics now from until found)) path → HasBuckets P now from until path × Contains (paths_of found) path
+looked_has P metrics now from until [] path all c = absurd (omega (arith, c.1))
+looked_has P metrics now from until (m ∷ found) path all c =
     elim (has_by (window m.1.layout now from until) metrics m (looked_in metrics now from until found) path c) [
-      | inl own ↦ ((m.1, (ap entry (sym own.0) ∙ All-head (λ x. entry x.0 ≡ Some x.1) m found all, own.1)), (zero, omega arith, own.0))
+      | inl own ↦ ((m.1, (subst (λ (p : List ℕ). P (p, m.1)) own.0 (All-head P m found all), own.1)), (zero, omega arith, own.0))
       | inr behind ↦
-          let more = looked_has entry metrics now from until found path (All-tail (λ x. entry x.0 ≡ Some x.1) m found all) behind in
+          let more = looked_has P metrics now from until found path (All-tail P m found all) behind in
           (more.0, behind_first m.0 (paths_of found) path more.1)
     ]
 
@@ -175,26 +175,26 @@ in_by Empty metrics m looked path (inr behind) = behind
 in_by (Range i begin end) metrics m looked path (inl own) = (zero, omega arith, own.0)
 in_by (Range i begin end) metrics m looked path (inr behind) = behind_first m.0 (looked_paths looked) path behind
 
-has_looked : (entry : List ℕ → Option Known) (metrics : Metrics) (now from until : ℕ) (found : List (List ℕ × Known)) (path : List ℕ) → All (λ m. entry m.0 ≡ Some m.1) found
-    → ((known : Known) → entry path ≡ Some known → window known.layout now from until ≢ Empty) → Contains (paths_of found) path → Contains (looked_paths (looked_in metrics now from until found)) path
-has_looked entry metrics now from until [] path all some c = absurd (omega (arith, c.1))
-has_looked entry metrics now from until (m ∷ found) path all some c =
+has_looked : (P : List ℕ × Known → Type 0) (metrics : Metrics) (now from until : ℕ) (found : List (List ℕ × Known)) (path : List ℕ) → All P found
+    → ((known : Known) → P (path, known) → window known.layout now from until ≢ Empty) → Contains (paths_of found) path → Contains (looked_paths (looked_in metrics now from until found)) path
+has_looked P metrics now from until [] path all some c = absurd (omega (arith, c.1))
+has_looked P metrics now from until (m ∷ found) path all some c =
     in_by (window m.1.layout now from until) metrics m (looked_in metrics now from until found) path
     (elim (first_or_behind m.0 (paths_of found) path c) [
-      | inl own ↦ inl (own, some m.1 (ap entry (sym own) ∙ All-head (λ x. entry x.0 ≡ Some x.1) m found all))
-      | inr behind ↦ inr (has_looked entry metrics now from until found path (All-tail (λ x. entry x.0 ≡ Some x.1) m found all) some behind)
+      | inl own ↦ inl (own, some m.1 (subst (λ (p : List ℕ). P (p, m.1)) own (All-head P m found all)))
+      | inr behind ↦ inr (has_looked P metrics now from until found path (All-tail P m found all) some behind)
     ])
 
 each_by : (w : Window) (P : Looked → Type 0) (metrics : Metrics) (m : List ℕ × Known) (looked : List Looked) → P (looked_as metrics w m) → All P looked → All P (looked_if metrics w m looked)
 each_by Empty P metrics m looked first others = others
 each_by (Range i begin end) P metrics m looked first others = All-cons P (looked_as metrics (Range i begin end) m) looked first others
 
-looked_each : (P : Looked → Type 0) (entry : List ℕ → Option Known) (metrics : Metrics) (now from until : ℕ) (found : List (List ℕ × Known)) → All (λ m. entry m.0 ≡ Some m.1) found
-    → ((m : List ℕ × Known) → entry m.0 ≡ Some m.1 → P (looked_as metrics (window m.1.layout now from until) m)) → All P (looked_in metrics now from until found)
-looked_each P entry metrics now from until [] all each = All-nil P
-looked_each P entry metrics now from until (m ∷ found) all each =
-    each_by (window m.1.layout now from until) P metrics m (looked_in metrics now from until found) (each m (All-head (λ x. entry x.0 ≡ Some x.1) m found all))
-    (looked_each P entry metrics now from until found (All-tail (λ x. entry x.0 ≡ Some x.1) m found all) each)
+looked_each : (Q : Looked → Type 0) (P : List ℕ × Known → Type 0) (metrics : Metrics) (now from until : ℕ) (found : List (List ℕ × Known)) → All P found
+    → ((m : List ℕ × Known) → P m → Q (looked_as metrics (window m.1.layout now from until) m)) → All Q (looked_in metrics now from until found)
+looked_each Q P metrics now from until [] all each = All-nil Q
+looked_each Q P metrics now from until (m ∷ found) all each =
+    each_by (window m.1.layout now from until) Q metrics m (looked_in metrics now from until found) (each m (All-head P m found all))
+    (looked_each Q P metrics now from until found (All-tail P m found all) each)
 
 -- ---- name by name
 
@@ -227,58 +227,126 @@ looked_on metrics now from until found i m old all w within is window_is so_far 
 pub sound_more : (old : List Looked) (looked : Looked) → All IsSoundLook old → IsSoundLook looked → All IsSoundLook (old ++ looked ∷ [])
 sound_more old looked all sound = All-append IsSoundLook old (looked ∷ []) all (All-cons IsSoundLook looked [] sound (All-nil IsSoundLook))
 
+-- ---- what is found
+
+-- what holds of each found metric holds of what it says, and the other way round
+of_found : (P : FoundMetric → Type 0) (Q : List ℕ × Known → Type 0) (found : List FoundMetric) → ((m : FoundMetric) → P m → Q (seen m)) → All P found → All Q (map seen found)
+of_found P Q [] so all = All-nil Q
+of_found P Q (m ∷ found) so all = All-cons Q (seen m) (map seen found) (so m (All-head P m found all)) (of_found P Q found so (All-tail P m found all))
+
+to_found : (P : FoundMetric → Type 0) (Q : List ℕ × Known → Type 0) (found : List FoundMetric) → ((m : FoundMetric) → Q (seen m) → P m) → All Q (map seen found) → All P found
+to_found P Q [] so all = All-nil P
+to_found P Q (m ∷ found) so all = All-cons P m found (so m (All-head Q (seen m) (map seen found) all)) (to_found P Q found so (All-tail Q (seen m) (map seen found) all))
+
+abbrev HasEntry : Table → List ℕ × Known → Type 0
+HasEntry table m = entry_of table m.0 ≡ Some m.1
+
+is_there : (o : Option Known) (known : Known) → o ≡ Some known → IsSome o
+is_there o known there = rw there refl
+
+finds_for : (told : Option Image) (shard : Inside) (s : State) (fits : List ℕ → Type 0) (found : List FoundMetric) → All (λ p. path_fault p ≡ None) (paths_of shard.table)
+    → Lists shard.class shard.rules shard.cache.metrics shard.table → FindsEntries shard.table fits (map seen found) → Holds told shard s → FindsFor shard.class s fits found
+finds_for told shard s fits found legal lists finds holds = record {
+  all = record {
+    in_order = finds.in_order;
+    found = λ path. (
+      λ c.
+          let fit = (finds.found path).0 c in
+          let one = class_at shard path legal lists fit.1 in
+          let known = some_is (entry_of shard.table path) fit.1 in
+          ((one, fit.0), known_by known.0.is_kept told shard s path known.0 refl known.1 one (entry_at shard path known.0 known.1 lists) holds),
+      λ both. (finds.found path).1 (both.0.1, state_listed told shard s path both.0.0 lists holds both.1),
+    );
+  };
+  each = to_found (IsFoundAs shard.class s) (HasEntry shard.table) found
+      (λ m there.
+      let one = class_at shard m.path.now legal lists (is_there (entry_of shard.table m.path.now) (seen m).1 there) in record {
+        here = one.here;
+        layout = layout_here told shard s m.path.now (seen m).1 there one lists holds;
+        drains = drains_here told shard s m.path.now (seen m).1 there one holds;
+      }) finds.entries;
+}
+
+-- what the table finds is what the shard has of it
+pub found_in : (shard : Inside) (fits : List ℕ → Type 0) (found : List FoundMetric) → All (λ p. path_fault p ≡ None) (paths_of shard.table)
+    → Lists shard.class shard.rules shard.cache.metrics shard.table → FindsEntries shard.table fits (map seen found) → IsFoundIn shard fits found
+found_in shard fits found legal lists finds = record {
+  states = λ told s holds. finds_for told shard s fits found legal lists finds holds;
+  known = to_found (IsKnownTo shard) (HasEntry shard.table) found
+      (λ m there. (
+        (entry_at shard m.path.now (seen m).1 there lists).here,
+        subst (λ (o : Option Known). IsSomeAnd o (λ known. known.layout ≡ m.layout.now)) (sym there) refl,
+      )) finds.entries;
+}
+
 -- ---- the whole look
 
-pub looks : (shard : Inside) (fits : List ℕ → Type 0) (now from until : ℕ) (found : List (List ℕ × Known)) (looked : List Looked) → All (λ p. path_fault p ≡ None) (paths_of shard.table)
-    → Lists shard.class shard.rules shard.cache.metrics shard.table → FindsEntries shard.table fits found → looked ≡ looked_in shard.cache.metrics now from until found → LooksAt shard fits now from until looked
-looks shard fits now from until found looked legal lists finds is told s holds =
-    subst (λ (ls : List Looked). Looks shard.class s fits now from until ls) (sym is) (record {
+-- what a state has of a found metric, by what is known of it
+abbrev IsSeenAs : ℕ → State → List ℕ × Known → Type 0
+IsSeenAs class s m = (class_of m.0 ≡ class) × ((m.1.layout ≡ layout_of s m.0) × (m.1.drains ≡ s.drains m.0))
+
+-- what is looked at of the metrics that were found for a state, whose pending points are these
+pub looks_of : (class : ℕ) (s : State) (fits : List ℕ → Type 0) (now from until : ℕ) (metrics : Metrics) (found : List FoundMetric) → ((path : List ℕ) → class_of path ≡ class → points_in s path ≡ points_of metrics path)
+    → FindsFor class s fits found → Looks class s fits now from until (looked_in metrics now from until (map seen found))
+looks_of class s fits now from until metrics found pending finds =
+    let has : All (IsSeenAs class s) (map seen found) = of_found (IsFoundAs class s) (IsSeenAs class s) found (λ m is. (is.here, (is.layout, is.drains))) finds.each in record {
       found = record {
-        in_order = looked_rising shard.cache.metrics now from until found finds.in_order;
+        in_order = looked_rising metrics now from until (map seen found) finds.all.in_order;
         found = λ path. (
           λ c.
-              let has = looked_has (entry_of shard.table) shard.cache.metrics now from until found path finds.entries c in
-              let fit = (finds.found path).0 has.1 in
-              let one = class_at shard path legal lists fit.1 in
-              let layout = layout_here told shard s path has.0.0 has.0.1.0 one lists holds in (
-                (one, (fit.0, λ e. has.0.1.1 (ap (λ (l : LayoutValue). window l now from until) layout ∙ e))),
-                known_by has.0.0.is_kept told shard s path has.0.0 refl has.0.1.0 one (entry_at shard path has.0.0 has.0.1.0 lists) holds,
+              let one = looked_has (IsSeenAs class s) metrics now from until (map seen found) path has c in
+              let fit = (finds.all.found path).0 one.1 in (
+                (fit.0.0, (fit.0.1, λ e. one.0.1.1 (ap (λ (l : LayoutValue). window l now from until) one.0.1.0.1.0 ∙ e))),
+                fit.1,
               ),
           λ both.
-              let one = both.0.0 in
-              let listed = state_listed told shard s path one lists holds both.1 in
-              has_looked (entry_of shard.table) shard.cache.metrics now from until found path finds.entries
-              (λ known there e. both.0.1.1 (ap (λ (l : LayoutValue). window l now from until) (sym (layout_here told shard s path known there one lists holds)) ∙ e))
-              ((finds.found path).1 (both.0.1.0, listed)),
+              has_looked (IsSeenAs class s) metrics now from until (map seen found) path has
+              (λ known is e. both.0.1.1 (ap (λ (l : LayoutValue). window l now from until) (sym is.1.0) ∙ e))
+              ((finds.all.found path).1 ((both.0.0, both.0.1.0), both.1)),
         );
       };
-      each = looked_each (TellsOf s now from until) (entry_of shard.table) shard.cache.metrics now from until found finds.entries
-          (λ m there.
-          let one = class_at shard m.0 legal lists (rw there refl) in
-          let layout = layout_here told shard s m.0 m.1 there one lists holds in record {
-            layout = layout;
-            window = ap (λ (l : LayoutValue). window l now from until) layout;
-            pending = sym (points_here told shard s m.0 one.here holds);
-            drains = drains_here told shard s m.0 m.1 there one holds;
+      each = looked_each (TellsOf s now from until) (IsSeenAs class s) metrics now from until (map seen found) has
+          (λ m is. record {
+            layout = is.1.0;
+            window = ap (λ (l : LayoutValue). window l now from until) is.1.0;
+            pending = sym (pending m.0 is.0);
+            drains = is.1.1;
           });
-    })
+    }
 
--- what a look tells of a metric beside its window
+-- the same of a shard, which has the pending points of each state that it stands for
+pub looks_at : (shard : Inside) (now from until : ℕ) (found : List FoundMetric) (looked : List Looked) → looked ≡ looked_in shard.cache.metrics now from until (map seen found)
+    → LooksAtFound shard found now from until looked
+looks_at shard now from until found looked is told s glob holds finds =
+    subst (λ (ls : List Looked). Looks shard.class s (IsFitted glob) now from until ls) (sym is)
+    (looks_of shard.class s (IsFitted glob) now from until shard.cache.metrics found (λ path one. points_here told shard s path one holds) finds)
+
+abbrev HasMoments : Looked → Type 0
+HasMoments looked = All (λ p. is_moment p.0 ≡ true) looked.pending
+
+-- whatever was found, a look has what a read needs of it
+pub readable_looks : (shard : Inside) (now from until : ℕ) (found : List FoundMetric) (looked : List Looked) → AreOfClass shard.class shard.cache.metrics
+    → looked ≡ looked_in shard.cache.metrics now from until (map seen found) → All IsSoundLook looked → All IsReadableLook looked
+readable_looks shard now from until found looked metrics is sound =
+    let moments : All HasMoments looked = subst (λ (ls : List Looked). All HasMoments ls) (sym is)
+    (looked_each HasMoments (λ m. Unit {0}) shard.cache.metrics now from until (map seen found) (λ k d within. tt) (λ m any. points_have_moments shard.class shard.cache.metrics m.0 metrics)) in
+    λ k d within.
+    let fit = sound k d within in record { window = fit.0; rising = fit.1; moments = moments k d within }
+
+-- what a look tells of a metric that was found
 abbrev IsHere : Inside → Looked → Type 0
-IsHere shard looked = (class_of looked.path ≡ shard.class) × (KnowsAs shard looked.path looked.layout × All (λ p. is_moment p.0 ≡ true) looked.pending)
+IsHere shard looked = (class_of looked.path ≡ shard.class) × KnowsAs shard looked.path looked.layout
 
--- what is looked at may be read
-pub may_read : (shard : Inside) (fits : List ℕ → Type 0) (now from until : ℕ) (found : List (List ℕ × Known)) (looked : List Looked) → AreOfClass shard.class shard.cache.metrics
-    → Lists shard.class shard.rules shard.cache.metrics shard.table → FindsEntries shard.table fits found → looked ≡ looked_in shard.cache.metrics now from until found → All IsSoundLook looked → All (MayRead shard) looked
-may_read shard fits now from until found looked metrics lists finds is sound =
-    let here : All (IsHere shard) looked = subst (λ (ls : List Looked). All (IsHere shard) ls) (sym is) (looked_each (IsHere shard) (entry_of shard.table) shard.cache.metrics now from until found finds.entries
-    (λ m there. (
-      (entry_at shard m.0 m.1 there lists).here,
-      (subst (λ (o : Option Known). IsSomeAnd o (λ known. known.layout ≡ m.1.layout)) (sym there) refl, points_have_moments shard.class shard.cache.metrics m.0 metrics),
-    ))) in
+-- what was found and looked at may be read
+pub may_read : (shard : Inside) (fits : List ℕ → Type 0) (now from until : ℕ) (found : List FoundMetric) (looked : List Looked) → IsFoundIn shard fits found
+    → looked ≡ looked_in shard.cache.metrics now from until (map seen found) → All IsReadableLook looked → All (MayRead shard) looked
+may_read shard fits now from until found looked finds is readable =
+    let here : All (IsHere shard) looked = subst (λ (ls : List Looked). All (IsHere shard) ls) (sym is)
+    (looked_each (IsHere shard) (λ m. (class_of m.0 ≡ shard.class) × KnowsAs shard m.0 m.1.layout) shard.cache.metrics now from until (map seen found)
+    (of_found (IsKnownTo shard) (λ m. (class_of m.0 ≡ shard.class) × KnowsAs shard m.0 m.1.layout) found (λ m its. its) finds.known) (λ m its. its)) in
     λ k d within.
     let its = here k d within in
-    let fit = sound k d within in record { here = its.0; known = its.1.0; window = fit.0; rising = fit.1; moments = its.1.1 }
+    let fit = readable k d within in record { here = its.0; known = its.1; window = fit.window; rising = fit.rising; moments = fit.moments }
 
 pub names_are : (shard : Inside) (names : List (List ℕ)) → All (λ p. path_fault p ≡ None) (paths_of shard.table) → IsStrictlySortedBy (slice_cmp nat_cmp) (paths_of shard.table)
     → Lists shard.class shard.rules shard.cache.metrics shard.table → names ≡ paths_of shard.table → NamesOf shard names

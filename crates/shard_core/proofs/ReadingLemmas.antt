@@ -1,5 +1,5 @@
 -- What a file reads as under a patch.
-use Rattle.std.proofs.Common.{◌≡◌, ℕ, ℤ, Bool, true, false, List, [], Option, Some, None, Result, Ok, Err, IfOk, IsSomeAnd, OnOk, refl, subst, if◌then◌else◌}
+use Rattle.std.proofs.Common.{◌≡◌, ℕ, ℤ, Bool, true, false, List, [], Option, Some, None, Result, Ok, Err, IfOk, IfSome, IsSomeAnd, OnOk, refl, subst, if◌then◌else◌}
 use Rattle.std.specs.Prelude.{option_and_then, slice_get, unwrap_or}
 use Rattle.outside_io.specs.Image.{Image}
 use Rattle.ring_format.specs.declared.archive.Archive.{Archive}
@@ -91,3 +91,8 @@ if_ok_more (Err e) P Q holds more = tt
 pub if_ok_both : {X E : Type 0} (r : Result X E) (P Q R : X → Type 0) → IfOk r P → IfOk r Q → ((x : X) → P x → Q x → R x) → IfOk r R
 if_ok_both (Ok x) P Q R holds more both = both x holds more
 if_ok_both (Err e) P Q R holds more both = tt
+
+-- an option whose value has more to say
+pub if_some_more : {X : Type 0} (o : Option X) (P Q : X → Type 0) → IfSome o P → ((x : X) → P x → Q x) → IfSome o Q
+if_some_more None P Q holds more = tt
+if_some_more (Some x) P Q holds more = more x holds

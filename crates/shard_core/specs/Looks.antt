@@ -6,10 +6,14 @@ use Rattle.outside_io.specs.Image.{Image}
 use Rattle.metric_path.specs.Class.{class_of}
 use Rattle.fixed_num.specs.Moment.{is_moment}
 use Rattle.ring_format.specs.Layout.{LayoutValue}
+use Rattle.path_glob.specs.Faults.{Said}
 use Rattle.point_cache.specs.Points.{IsRising}
 use Rattle.series_fetch.specs.Window.{IsWindow, window}
 use Rattle.series_fetch.specs.declared.range.Window.TheVariants.{Empty, Range}
 use Rattle.series_fetch.specs.declared.range.Window.{Window}
+use Rattle.metric_index.specs.Found.{IsFitted}
+use Rattle.metric_index.specs.Index.{paths_of}
+use Rattle.metric_table.specs.Table.{seen}
 use Rattle.metric_table.specs.declared.found_metric.FoundMetric.{FoundMetric}
 use Rattle.metric_table.specs.declared.known.Known.{Known}
 use Rattle.point_cache.specs.Pending.{Metrics, points_of}
@@ -42,6 +46,41 @@ abbrev pub LooksAt : Inside → (List ℕ → Type 0) → ℕ → ℕ → ℕ �
 LooksAt shard fits now from until looked =
     (told : Option Image) (s : State) → Holds told shard s → Looks shard.class s fits now from until looked
 
+-- ---- what is found
+
+-- what a state has of a found metric of a class
+pub record IsFoundAs (class : ℕ) (s : State) (metric : FoundMetric) : Type 0 where
+  pub here : class_of metric.path.now ≡ class
+  pub layout : metric.layout.now ≡ layout_of s metric.path.now
+  pub drains : metric.drains ≡ s.drains metric.path.now
+
+-- the metrics of a class that a state knows and that fit, in byte order, each as the state has it
+pub record FindsFor (class : ℕ) (s : State) (fits : List ℕ → Type 0)
+    (found : List FoundMetric) : Type 0 where
+  pub all : Finds s (λ path. IsOfClass class path × fits path) (paths_of (map seen found))
+  pub each : All (IsFoundAs class s) found
+
+-- a metric of its class that a shard knows, in the layout that it has there
+abbrev pub IsKnownTo : Inside → FoundMetric → Type 0
+IsKnownTo shard metric =
+    (class_of metric.path.now ≡ shard.class)
+    × KnowsAs shard metric.path.now metric.layout.now
+
+-- the metrics of a shard that fit: those of whatever state it stands for
+pub record IsFoundIn (shard : Inside) (fits : List ℕ → Type 0)
+    (found : List FoundMetric) : Type 0 where
+  pub states : (told : Option Image) (s : State) → Holds told shard s
+      → FindsFor shard.class s fits found
+  pub known : All (IsKnownTo shard) found
+
+-- what is looked at of metrics that were found: what a state has of them, for which the shard stands
+-- and in which they are those that a glob fits
+abbrev pub LooksAtFound : Inside → List FoundMetric → ℕ → ℕ → ℕ → List Looked → Type 0
+LooksAtFound shard found now from until looked =
+    (told : Option Image) (s : State) (glob : Said) → Holds told shard s
+    → FindsFor shard.class s (IsFitted glob) found
+    → Looks shard.class s (IsFitted glob) now from until looked
+
 -- ---- inside a look
 
 -- what is told of a metric of which this is known, for a question about this window
@@ -69,6 +108,12 @@ abbrev pub IsSoundLook : Looked → Type 0
 IsSoundLook looked = IsWindow looked.layout looked.window × IsRising looked.pending
 
 -- ---- what a read needs
+
+-- what a read needs of a look, whatever the shard is
+pub record IsReadableLook (looked : Looked) : Type 0 where
+  pub window : IsWindow looked.layout looked.window
+  pub rising : IsRising looked.pending
+  pub moments : All (λ p. is_moment p.0 ≡ true) looked.pending
 
 -- All that a read needs: a metric of the class in the layout that it has, a window of that layout,
 -- and points in rising time.
@@ -100,6 +145,14 @@ pub record CountsLooks (shard : Inside) (fits : List ℕ → Type 0) (now from u
     (count : LookCount) : Type 0 where
   pub looked : List Looked
   pub looks : LooksAt shard fits now from until looked
+  pub series : count.series ≡ length looked
+  pub values : count.values ≡ sum_by buckets_of looked
+
+-- the same in a state
+pub record CountsFor (class : ℕ) (s : State) (fits : List ℕ → Type 0) (now from until : ℕ)
+    (count : LookCount) : Type 0 where
+  pub looked : List Looked
+  pub looks : Looks class s fits now from until looked
   pub series : count.series ≡ length looked
   pub values : count.values ≡ sum_by buckets_of looked
 

@@ -20,7 +20,8 @@ pub use laws::{
     a_shard_replays_its_answers, a_started_shard_stands_for_an_opening,
     what_was_looked_at_may_be_read_later,
 };
+pub use look_count::count_found;
 pub use looked::{LookCount, LookFault, Looked};
-pub use metric_table::Verdicts;
+pub use metric_table::{FoundMetric, Verdicts};
 pub use planned::{Planned, Wrote};
 pub use shard::Shard;

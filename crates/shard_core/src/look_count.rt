@@ -1,7 +1,11 @@
 //! How much a look finds.
-ghost use Rattle.std.specs.Prelude.{◌≡◌, ◌+◌, ◌≤◌, IfSome};
+ghost use Rattle.std.specs.Prelude.{◌≡◌, ◌+◌, ◌≤◌, ℕ, IfSome};
+ghost use Rattle.carbon_model.specs.State.{State};
+ghost use Rattle.metric_index.specs.Found.{IsFitted};
+ghost use Rattle.path_glob.specs.Faults.{Said};
 ghost use Rattle.series_fetch.specs.Window.{IsWindow};
-ghost use Rattle.shard_core.specs.Looks.{CountsFound, bucket_count, series_of};
+ghost use Rattle.shard_core.specs.Looks.{CountsFor, CountsFound, CountsLooks, FindsFor, IsFoundIn, bucket_count, series_of};
+ghost use Rattle.shard_core.specs.Shard.{Inside};
 
 use crate::looked::LookCount;
 use crate::shard::Shard;
@@ -32,9 +36,7 @@ impl<D: Disk> Shard<D> {
         ensures { IfOk result
             (CountsLooks (inside_of self.now) (IsFitted glob.now) now from until) }
     {
-        // Each path is legal, and they rise.
-        let _ = self.table.len();
-        let found = self.table.find(self.alloc, glob)?;
+        let found = self.find(glob)?;
         match count_found(&found, from, until, now) {
             Some(count) => Ok(count),
             None => Err(AllocError),
@@ -42,8 +44,24 @@ impl<D: Disk> Shard<D> {
     }
 }
 
+/// How many of the metrics that [`Shard::find`] found a look would find for a question from a
+/// moment until another, both in seconds since the Unix epoch, and how many values of them: those
+/// of which the question has buckets at the moment `now`. None where a count is above 2^64 - 1.
+pub fn count_found(found: &[FoundMetric<'_>], from: u64, until: u64, now: u64) -> Option<LookCount>
+    requires order { from ≤ until }
+    requires now { now ≤ 4_000_000_000 }
+    ensures states { IfSome result (λ count. (class : ℕ) (s : State) (glob : Said)
+        → FindsFor class s (IsFitted glob) found.now
+        → CountsFor class s (IsFitted glob) now from until count) }
+    ensures shards { IfSome result (λ count. (shard : Inside) (glob : Said)
+        → IsFoundIn shard (IsFitted glob) found.now
+        → CountsLooks shard (IsFitted glob) now from until count) }
+{
+    sum_found(found, from, until, now)
+}
+
 // The count of metrics that were found: none where it is above 2^64 - 1.
-fn count_found(found: &[FoundMetric<'_>], from: u64, until: u64, now: u64) -> Option<LookCount>
+fn sum_found(found: &[FoundMetric<'_>], from: u64, until: u64, now: u64) -> Option<LookCount>
     requires order { from ≤ until }
     requires now { now ≤ 4_000_000_000 }
     ensures { IfSome result (CountsFound now from until found.now) }

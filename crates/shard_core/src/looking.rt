@@ -9,11 +9,12 @@ use std::alloc::AllocError;
 
 impl<D: Disk> Shard<D> {
     ghost use Rattle.std.specs.Prelude.{◌≡◌, ◌≤◌, All, IfOk, map};
+    ghost use Rattle.path_glob.specs.Faults.{Said};
     ghost use Rattle.metric_index.specs.Found.{IsFitted};
     ghost use Rattle.metric_table.specs.Table.{seen};
     ghost use Rattle.series_fetch.specs.Window.{IsWindow};
     ghost use Rattle.point_cache.specs.Points.{IsRising};
-    ghost use Rattle.shard_core.specs.Looks.{IsSoundLook, LooksAt, MayRead, looked_as, looked_in};
+    ghost use Rattle.shard_core.specs.Looks.{IsFoundIn, IsReadableLook, IsSoundLook, LooksAt, LooksAtFound, MayRead, looked_as, looked_in};
     ghost use Rattle.shard_core.specs.View.{inside_of};
 
     /// The metrics that a glob fits, at the moment `now`, for a question from a moment until
@@ -34,14 +35,45 @@ impl<D: Disk> Shard<D> {
         ensures readable { IfOk result
             (λ looked. All (MayRead (inside_of self.now)) looked.items) }
     {
-        // Each path is legal, and they rise.
-        let _ = self.table.len();
-        let found = self.table.find(self.alloc, glob)?;
+        let found = self.find(glob)?;
         self.look_at(&found, from, until, now)
     }
 
+    /// The known metrics that a glob fits, in byte order of their paths. What is found can be
+    /// counted by [`count_found`](crate::count_found) and looked at by [`Shard::look_at`].
+    pub fn find(&self, glob: &Verdicts<'_>) -> Result<Vec<FoundMetric<'_>>, AllocError>
+        ensures { IfOk result
+            (λ found. IsFoundIn (inside_of self.now) (IsFitted glob.now) found.items) }
+    {
+        // Each path is legal, and they rise.
+        let _ = self.table.len();
+        self.table.find(self.alloc, glob)
+    }
+
+    /// What [`Shard::look`] tells of metrics that were found, for a question from a moment until
+    /// another at the moment `now`: those of which the question has buckets, in the order in which
+    /// they were found. The disk is not read.
+    pub fn look_at(
+        &self,
+        found: &[FoundMetric<'_>],
+        from: u64,
+        until: u64,
+        now: u64,
+    ) -> Result<Vec<Looked>, AllocError>
+        requires order { from ≤ until }
+        requires now { now ≤ 4_000_000_000 }
+        ensures looks { IfOk result
+            (λ looked. LooksAtFound (inside_of self.now) found.now now from until looked.items) }
+        ensures readable { IfOk result (λ looked. (glob : Said)
+            → IsFoundIn (inside_of self.now) (IsFitted glob) found.now
+            → All (MayRead (inside_of self.now)) looked.items) }
+        ensures sound { IfOk result (λ looked. All IsReadableLook looked.items) }
+    {
+        self.look_at_each(found, from, until, now)
+    }
+
     // The found metrics of which the question has buckets.
-    fn look_at(
+    fn look_at_each(
         &self,
         found: &[FoundMetric<'_>],
         from: u64,

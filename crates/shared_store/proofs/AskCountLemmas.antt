@@ -18,12 +18,13 @@ use Rattle.std.proofs.Math.Nat.{mod-lt}
 use Rattle.metric_path.specs.Class.{class_of, fnv1a}
 use Rattle.carbon_history.specs.declared.entry.Entry.{Entry}
 use Rattle.carbon_model.specs.State.{State}
-use Rattle.shard_core.specs.Looks.{TellsOf, buckets_of, looked_paths}
+use Rattle.shard_core.specs.Looks.{CountsFor, TellsOf, buckets_of, looked_paths}
+use Rattle.metric_index.specs.Found.{IsFitted}
 use Rattle.shard_core.specs.declared.looked.LookCount.{LookCount}
 use Rattle.shard_core.specs.declared.looked.Looked.{Looked}
-use Rattle.render_plan.specs.declared.need.Need.{Need}
-use Rattle.render_answer.specs.Rows.{FindsAll, series_count, value_count, value_count_all, value_count_of}
-use Rattle.shared_store.specs.Counting.{CountsBelow, CountsClass, CountsNeed, CountsNeeds, SumsUp}
+use Rattle.render_need.specs.declared.need.Need.{Need}
+use Rattle.found_rows.specs.Rows.{FindsAll, series_count, value_count, value_count_all, value_count_of}
+use Rattle.shared_store.specs.Counting.{CountsBelow, CountsNeed, CountsNeeds, SumsUp}
 use Rattle.shared_store.proofs.AskFoundLemmas as found
 use Rattle.shared_store.proofs.AskFoundLemmas.{first_or_later, here_first, in_later, nothing, path_in, value_counted}
 
@@ -123,7 +124,7 @@ sum_is : (a b c d e f : ℕ) → a ≡ b + c → b ≡ d → c ≡ e → f ≡ d
 sum_is a b c d e f sum one other both = omega (arith, sum, one, other, both)
 
 module _ (start : State) (list : List Entry) (class now : ℕ) (need : Need) (before more count : LookCount)
-    (below : CountsBelow class (found.whole start list class now need) now need before) (here : CountsClass class (found.part start list class now need) now need more) (sums : SumsUp before more count) where
+    (below : CountsBelow class (found.whole start list class now need) now need before) (here : CountsFor class (found.part start list class now need) (IsFitted need.glob) now need.from need.until more) (sums : SumsUp before more count) where
   abbrev s : State
   s = found.whole start list class now need
 

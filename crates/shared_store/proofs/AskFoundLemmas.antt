@@ -43,10 +43,9 @@ use Rattle.shard_core.specs.Looks.{Looks, TellsOf, bucket_count, looked_paths}
 use Rattle.shard_core.specs.declared.looked.Looked.{Looked}
 use Rattle.series_set.specs.Series.{SeriesValue}
 use Rattle.series_funcs.specs.Combined.{most_series}
-use Rattle.render_plan.specs.declared.need.Need.{Need}
-use Rattle.render_plan.specs.Bounds.{AreRows, IsEarly, latest_row_end}
-use Rattle.render_plan.specs.Values.{Rows, concat}
-use Rattle.render_answer.specs.Rows as answer
+use Rattle.render_need.specs.declared.need.Need.{Need}
+use Rattle.render_need.specs.Rows.{AreRows, IsEarly, Rows, concat, latest_row_end}
+use Rattle.found_rows.specs.Rows as answer
 use Rattle.shared_store.specs.Asking.{HasGrid, InOrder, IsLookOf, IsReadable, IsSeriesAt, IsShortLook, IsWithin, LooksBelow, LooksUp, Pairwise, PutsInOrder, all_buckets, all_series, buckets_of, set_buckets}
 use Rattle.shared_store.proofs.AskStateLemmas.{known_alike, layout_alike, part_of, points_alike}
 

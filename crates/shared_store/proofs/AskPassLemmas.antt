@@ -15,7 +15,7 @@ use Rattle.carbon_history.specs.Entries.{NamesPasses, about_class, is_about, of_
 use Rattle.carbon_model.specs.State.{State}
 use Rattle.carbon_model.specs.Replay.{IsLegalHistory}
 use Rattle.carbon_model.proofs.HistoryLemmas.{legal_more}
-use Rattle.render_plan.specs.declared.need.Need.{Need}
+use Rattle.render_need.specs.declared.need.Need.{Need}
 use Rattle.shared_history.specs.declared.view.Look.{Look}
 use Rattle.shared_history.specs.Events.{ask_by}
 use Rattle.shared_history.specs.Parts.{IsNoMore, OrderValue, PassValue, TailValue, look_now, order_with, own_entries, pass_looking, pass_seeing}

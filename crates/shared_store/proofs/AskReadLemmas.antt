@@ -6,10 +6,9 @@ use Rattle.metric_path.specs.Class.{class_of}
 use Rattle.carbon_history.specs.declared.entry.Entry.{Entry}
 use Rattle.carbon_model.specs.State.{State}
 use Rattle.carbon_model.specs.Replay.{replay}
-use Rattle.render_plan.specs.declared.need.Need.{Need}
-use Rattle.render_plan.specs.Bounds.{AreRows}
-use Rattle.render_plan.specs.Values.{Rows}
-use Rattle.render_answer.specs.Rows.{FindsFew, IsReadFor}
+use Rattle.render_need.specs.declared.need.Need.{Need}
+use Rattle.render_need.specs.Rows.{AreRows, Rows}
+use Rattle.found_rows.specs.Rows.{FindsFew, IsReadFor}
 use Rattle.series_funcs.specs.Combined.{most_series}
 use Rattle.series_set.specs.Series.{SeriesValue}
 use Rattle.shard_core.specs.Looks.{looked_paths}

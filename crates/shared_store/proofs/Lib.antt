@@ -19,3 +19,4 @@ mod NameLemmas
 mod PieceLemmas
 mod RoomLemmas
 pub mod StoreCross
+mod FindLemmas

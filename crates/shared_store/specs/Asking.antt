@@ -30,10 +30,9 @@ use Rattle.shard_core.specs.declared.looked.Looked.{Looked}
 use Rattle.shard_core.specs.declared.looked.LookFault.{LookFault}
 use Rattle.shard_core.specs.declared.looked.LookFault.TheVariants as look
 use Rattle.series_set.specs.Series.{SeriesValue}
-use Rattle.render_plan.specs.declared.need.Need.{Need}
-use Rattle.render_plan.specs.Bounds.{IsEarly, latest_row_end}
-use Rattle.render_plan.specs.Values.{Rows}
-use Rattle.render_answer.specs.Rows.{FindsFew, HasRows, HasTooManyPoints, HasTooManySeries, IsAsked, IsReadFor, most_points, window_of}
+use Rattle.render_need.specs.declared.need.Need.{Need}
+use Rattle.render_need.specs.Rows.{IsEarly, Rows, latest_row_end}
+use Rattle.found_rows.specs.Rows.{FindsFew, HasRows, HasTooManyPoints, HasTooManySeries, IsAsked, IsReadFor, most_points, window_of}
 use Rattle.shared_history.specs.Events.{ask_by}
 use Rattle.shared_history.specs.Parts.{PassValue}
 use Rattle.shared_history.specs.Views.{look_at}

@@ -8,9 +8,9 @@ use Rattle.carbon_history.specs.declared.entry.Entry.TheVariants.{Drain, Ask, Fa
 use Rattle.shared_history.specs.Parts.{PassValue, greatest_ask, own_entries}
 use Rattle.carbon_model.specs.State.{State}
 use Rattle.carbon_model.specs.Replay.{replay}
-use Rattle.render_plan.specs.declared.need.Need.{Need}
-use Rattle.render_plan.specs.Values.{Rows}
-use Rattle.render_answer.specs.Rows.{HasRows, HasTooManyPoints, HasTooManySeries, IsReadFor}
+use Rattle.render_need.specs.declared.need.Need.{Need}
+use Rattle.render_need.specs.Rows.{Rows}
+use Rattle.found_rows.specs.Rows.{HasRows, HasTooManyPoints, HasTooManySeries, IsReadFor}
 use Rattle.shared_store.specs.declared.ask_fault.AskFault.{AskFault}
 use Rattle.shared_store.specs.declared.ask_fault.AskFault.TheVariants.{DiskFault, TooManySeries, TooManyPoints, NoMemory}
 use Rattle.shared_store.specs.Passes.{Enters}

@@ -1,33 +1,21 @@
 -- How much the needs of a question find, before anything of it is copied.
 use Rattle.std.specs.Prelude.{◌≡◌, ◌↔◌, ℕ, ◌+◌, ◌<◌, Contains, List, length}
-use Rattle.std.specs.List.{sum_by}
 use Rattle.std.specs.List.Sorted.{IsStrictlySortedBy}
 use Rattle.std.specs.Ordering.{nat_cmp}
 use Rattle.std.specs.Cmp.Lexicographic.{slice_cmp}
 use Rattle.metric_path.specs.Class.{class_of}
-use Rattle.metric_index.specs.Found.{IsFitted}
 use Rattle.carbon_model.specs.State.{State}
 use Rattle.carbon_model.specs.Found.{IsKnown}
-use Rattle.shard_core.specs.Looks.{Looks, buckets_of}
 use Rattle.shard_core.specs.declared.looked.LookCount.{LookCount}
-use Rattle.shard_core.specs.declared.looked.Looked.{Looked}
-use Rattle.render_plan.specs.declared.need.Need.{Need}
-use Rattle.render_answer.specs.Rows.{FindsAll, FindsOf, IsAsked, series_count, value_count_all, value_count_of}
+use Rattle.render_need.specs.declared.need.Need.{Need}
+use Rattle.found_rows.specs.Rows.{FindsAll, FindsOf, IsAsked, series_count, value_count_all, value_count_of}
 
 -- two counts in one
 pub record SumsUp (one other both : LookCount) : Type 0 where
   pub series : both.series ≡ one.series + other.series
   pub values : both.values ≡ one.values + other.values
 
--- so many metrics, with so many values, are found by a need among those of a class
-pub record CountsClass (class : ℕ) (s : State) (now : ℕ) (need : Need)
-    (count : LookCount) : Type 0 where
-  pub looked : List Looked
-  pub looks : Looks class s (IsFitted need.glob) now need.from need.until looked
-  pub series : count.series ≡ length looked
-  pub values : count.values ≡ sum_by buckets_of looked
-
--- the same among those of all classes below one
+-- so many metrics, with so many values, are found by a need among those of all classes below one
 pub record CountsBelow (class : ℕ) (s : State) (now : ℕ) (need : Need)
     (count : LookCount) : Type 0 where
   pub paths : List (List ℕ)

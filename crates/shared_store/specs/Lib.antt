@@ -13,3 +13,4 @@ pub mod Counting
 pub mod Empty
 pub mod Naming
 pub mod Pieces
+pub mod Finds

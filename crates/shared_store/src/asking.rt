@@ -6,14 +6,15 @@ ghost use Rattle.shared_store.specs.Asking.{AreDesksOf, IsHeld};
 use crate::ask_fault::AskFault;
 use crate::class_desk::ClassDesk;
 use crate::counting::count_all;
-use crate::finding::{find_all, put_in_order};
+use crate::finding::{look_all, put_in_order};
+use crate::finds::find_all;
 use crate::named::Named;
 use crate::order_desk::OrderDesk;
 use crate::store::Store;
 use crate::try_end::TryEnd;
 use crate::wanted::{Wanted, want_all};
 use outside_io::Disk;
-use render_plan::Need;
+use render_need::Need;
 use series_set::SeriesRows;
 use shared_history::Pass;
 use std::alloc::{AllocError, Global};
@@ -21,8 +22,8 @@ use std::sync::{MutexGuard, Wait};
 
 impl<D: Disk, N: Named> Store<D, N> {
     ghost use Rattle.std.specs.Prelude.{◌≡◌, ◌≤◌, ◌+◌, ◌^◌, All, IfOk, length, vec_len, []};
-    ghost use Rattle.render_plan.specs.Bounds.{AreRows};
-    ghost use Rattle.render_plan.specs.Needed.{AreEnds};
+    ghost use Rattle.render_need.specs.Rows.{AreRows};
+    ghost use Rattle.render_need.specs.Ends.{AreEnds};
     ghost use Rattle.shared_history.specs.Events.{MayAsk, ask_by};
     ghost use Rattle.shared_history.specs.Parts.{own_entries};
     ghost use Rattle.shared_store.specs.Asking.{AnswersTry, AreAllDesksOf, AreDesks, AreDesksOf, EntersBehind, EntersTries, IsNoMove, MarksAll, TriesTo};
@@ -143,11 +144,13 @@ impl<D: Disk, N: Named> Store<D, N> {
         ensures rows { IfOk result AreRows }
         ensures still { 3 ≤ attempt → IsNoMove result }
     {
-        match count_all(desks.as_slice(), needs, now) {
+        let finds = find_all(alloc, desks.as_slice(), needs)?;
+        match count_all(finds.as_slice(), now) {
             Ok(()) => {}
             Err(fault) => return Err(TryEnd::Ended(fault)),
         }
-        let found = find_all(alloc, desks.as_slice(), needs, now)?;
+        let found = look_all(alloc, finds.as_slice(), now)?;
+        drop(finds);
         let mut held = held_in(alloc, desks, attempt);
         let found = put_in_order(alloc, found)?;
         self.read_all(rt, alloc, &mut held, pass, found.as_slice())

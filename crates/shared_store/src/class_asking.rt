@@ -5,7 +5,7 @@ use crate::order_desk::OrderDesk;
 use crate::wanted::Wanted;
 use carbon_model::Values;
 use outside_io::Disk;
-use shard_core::{LookCount, LookFault, Looked};
+use shard_core::{FoundMetric, LookFault, Looked};
 use shared_history::{Event, Pass, agree, enter_ask, mark, see};
 use std::alloc::AllocError;
 use std::sync::{Mutex, Wait};
@@ -14,13 +14,12 @@ impl<D: Disk, N: Named> ClassDesk<D, N> {
     ghost use Rattle.std.specs.Prelude.{◌≡◌, ◌≤◌, ◌+◌, ◌^◌, All, IfOk, length};
     ghost use Rattle.metric_path.specs.Class.{class_of};
     ghost use Rattle.metric_index.specs.Found.{IsFitted};
+    ghost use Rattle.path_glob.specs.Faults.{Said};
     ghost use Rattle.carbon_history.specs.Entries.{about_class};
     ghost use Rattle.carbon_model.specs.Replay.{replay};
-    ghost use Rattle.render_plan.specs.Needed.{AreEnds};
-    ghost use Rattle.shard_core.specs.Looks.{Looks};
+    ghost use Rattle.shard_core.specs.Looks.{FindsFor, Looks};
     ghost use Rattle.shared_history.specs.Parts.{own_entries};
     ghost use Rattle.shared_store.specs.Asking.{HasNotMoved, IsLookAt, IsReadable, MarksClass, ReadsAt, ReadsWell};
-    ghost use Rattle.shared_store.specs.Counting.{CountsClass};
 
     /// The entries of the class are those that the history has about it. Nothing changes.
     pub(crate) fn agree(&mut self, order: &mut OrderDesk<N>)
@@ -40,32 +39,32 @@ impl<D: Disk, N: Named> ClassDesk<D, N> {
         mark(&mut self.tail, pass);
     }
 
-    /// How many metrics of the class a need finds, and how many values of them. Nothing of them is
-    /// copied.
-    pub(crate) fn count(&self, need: &Wanted<'_>, now: u32) -> Result<LookCount, AllocError>
-        requires ends { AreEnds need.now }
-        requires now { now ≤ 4_000_000_000 }
-        ensures { IfOk result
-            (CountsClass self.now.class (replay N.start self.now.list) now need.now) }
+    /// The known metrics of the class that a need's glob fits, in byte order of their paths.
+    pub(crate) fn find(&self, wanted: &Wanted<'_>) -> Result<Vec<FoundMetric<'_>>, AllocError>
+        ensures { IfOk result (λ found. FindsFor self.now.class (replay N.start self.now.list)
+            (IsFitted wanted.now.glob) found.items) }
     {
-        let glob = need.glob(self.class());
-        let need = need.need();
-        self.shard
-            .count_looks(glob, need.from, need.until, u64::from(now))
+        self.shard.find(wanted.glob(self.class()))
     }
 
-    /// The metrics of the class that a need finds, in byte order of their paths. The disk is not
-    /// read.
-    pub(crate) fn look(&self, need: &Wanted<'_>, now: u32) -> Result<Vec<Looked>, AllocError>
-        requires ends { AreEnds need.now }
+    /// What there is to say of those of these metrics of which a question has buckets, which its glob found, in byte
+    /// order of their paths. The disk is not read.
+    pub(crate) fn look_at(
+        &self,
+        found: &[FoundMetric<'_>],
+        from: u64,
+        until: u64,
+        now: u32,
+    ) -> Result<Vec<Looked>, AllocError>
+        requires order { from ≤ until }
         requires now { now ≤ 4_000_000_000 }
-        ensures looks { IfOk result (λ looked. Looks self.now.class (replay N.start self.now.list)
-            (IsFitted need.now.glob) now need.now.from need.now.until looked.items) }
+        ensures looks { IfOk result (λ looked. (glob : Said)
+            → FindsFor self.now.class (replay N.start self.now.list) (IsFitted glob) found.now
+            → Looks self.now.class (replay N.start self.now.list) (IsFitted glob) now from until
+            looked.items) }
         ensures readable { IfOk result (λ looked. All IsReadable looked.items) }
     {
-        let glob = need.glob(self.class());
-        let need = need.need();
-        self.shard.look(glob, need.from, need.until, u64::from(now))
+        self.shard.look_at(found, from, until, u64::from(now))
     }
 
     /// Reads a metric of the class that was looked at when the pass had seen what it sees now. A

@@ -2,18 +2,17 @@
 ghost use Rattle.std.specs.Prelude.{◌≡◌, ◌≤◌, List, All, IfOk, length};
 ghost use Rattle.carbon_history.specs.declared.entry.Entry.{Entry};
 ghost use Rattle.carbon_model.specs.Replay.{replay};
-ghost use Rattle.render_plan.specs.Needed.{AreEnds};
-ghost use Rattle.shared_store.specs.Asking.{AreDesks, AreDesksOf, Counts};
+ghost use Rattle.render_need.specs.Ends.{AreEnds};
+ghost use Rattle.shared_store.specs.Asking.{Counts};
 ghost use Rattle.shared_store.specs.Counting.{CountsNeed, CountsNeeds, SumsUp};
+ghost use Rattle.shared_store.specs.Finds.{AreFindsOf, needs_in};
 
 use crate::ask_fault::AskFault;
-use crate::class_desk::ClassDesk;
+use crate::finds::NeedFinds;
 use crate::named::Named;
-use crate::wanted::Wanted;
 use outside_io::Disk;
 use shard_core::LookCount;
 use std::alloc::AllocError;
-use std::sync::MutexGuard;
 
 /// How many series a question may find.
 const MOST_SERIES: u64 = 10_000;
@@ -27,21 +26,18 @@ const NONE: LookCount = LookCount {
     values: 0,
 };
 
-/// Whether a question may have what its needs find, where the locks of all classes are held. A
-/// count above 2^64 - 1 is answered as want of memory.
+/// Whether a question may have what its needs find. A count above 2^64 - 1 is answered as want of
+/// memory.
 pub(crate) fn count_all<D: Disk, N: Named>(
-    desks: &[MutexGuard<'_, ClassDesk<D, N>>],
-    needs: &[Wanted<'_>],
+    finds: &[NeedFinds<'_, D, N>],
     now: u32,
 ) -> Result<(), AskFault>
-    requires sixteen { length desks.now ≡ 16 }
-    requires desks { AreDesks desks.now }
-    requires needs { All AreEnds needs.now }
+    requires needs { All AreEnds (needs_in finds.now) }
     requires now { now ≤ 4_000_000_000 }
-    ensures { (list : List Entry) → AreDesksOf list desks.now
-        → Counts (replay N.start list) now needs.now result }
+    ensures { (list : List Entry) → All (AreFindsOf list) finds.now
+        → Counts (replay N.start list) now (needs_in finds.now) result }
 {
-    let Ok(count) = count_needs(desks, needs, now) else {
+    let Ok(count) = count_needs(finds, now) else {
         return Err(AskFault::NoMemory);
     };
     if count.series > MOST_SERIES {
@@ -55,40 +51,34 @@ pub(crate) fn count_all<D: Disk, N: Named>(
 
 // How much all needs find.
 fn count_needs<D: Disk, N: Named>(
-    desks: &[MutexGuard<'_, ClassDesk<D, N>>],
-    needs: &[Wanted<'_>],
+    finds: &[NeedFinds<'_, D, N>],
     now: u32,
 ) -> Result<LookCount, AllocError>
-    requires sixteen { length desks.now ≡ 16 }
-    requires desks { AreDesks desks.now }
-    requires needs { All AreEnds needs.now }
+    requires needs { All AreEnds (needs_in finds.now) }
     requires now { now ≤ 4_000_000_000 }
-    ensures { IfOk result (λ count. (list : List Entry) → AreDesksOf list desks.now
-        → CountsNeeds (replay N.start list) now needs.now count) }
+    ensures { IfOk result (λ count. (list : List Entry) → All (AreFindsOf list) finds.now
+        → CountsNeeds (replay N.start list) now (needs_in finds.now) count) }
 {
     let mut count = NONE;
-    for need in needs {
-        count = sum_of(count, count_need(desks, need, now)?)?;
+    for need in finds {
+        count = sum_of(count, count_need(need, now)?)?;
     }
     Ok(count)
 }
 
 // How much one need finds in all classes.
 fn count_need<D: Disk, N: Named>(
-    desks: &[MutexGuard<'_, ClassDesk<D, N>>],
-    need: &Wanted<'_>,
+    finds: &NeedFinds<'_, D, N>,
     now: u32,
 ) -> Result<LookCount, AllocError>
-    requires sixteen { length desks.now ≡ 16 }
-    requires desks { AreDesks desks.now }
-    requires ends { AreEnds need.now }
+    requires ends { AreEnds finds.now.need }
     requires now { now ≤ 4_000_000_000 }
-    ensures { IfOk result (λ count. (list : List Entry) → AreDesksOf list desks.now
-        → CountsNeed (replay N.start list) now need.now count) }
+    ensures { IfOk result (λ count. (list : List Entry) → AreFindsOf list finds.now
+        → CountsNeed (replay N.start list) now finds.now.need count) }
 {
     let mut count = NONE;
-    for desk in desks {
-        count = sum_of(count, desk.count(need, now)?)?;
+    for class in finds.classes() {
+        count = sum_of(count, class.count(now)?)?;
     }
     Ok(count)
 }

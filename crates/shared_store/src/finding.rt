@@ -2,55 +2,48 @@
 ghost use Rattle.std.specs.Prelude.{◌≡◌, ◌≤◌, List, All, IfOk, length};
 ghost use Rattle.carbon_history.specs.declared.entry.Entry.{Entry};
 ghost use Rattle.carbon_model.specs.Replay.{replay};
-ghost use Rattle.render_plan.specs.Needed.{AreEnds};
-ghost use Rattle.shared_store.specs.Asking.{AreDesks, AreDesksOf, LooksUp, Pairwise, PutsInOrder};
+ghost use Rattle.render_need.specs.Ends.{AreEnds};
+ghost use Rattle.shared_store.specs.Asking.{LooksUp, Pairwise, PutsInOrder};
+ghost use Rattle.shared_store.specs.Finds.{AreFindsOf, needs_in};
 
-use crate::class_desk::ClassDesk;
+use crate::finds::NeedFinds;
 use crate::found_set::FoundSet;
 use crate::named::Named;
-use crate::wanted::Wanted;
 use outside_io::Disk;
 use std::alloc::{AllocError, Global};
-use std::sync::MutexGuard;
 
-/// The metrics that each need finds, where the locks of all classes are held.
-pub(crate) fn find_all<D: Disk, N: Named>(
+/// Looks at all that each need finds.
+pub(crate) fn look_all<D: Disk, N: Named>(
     alloc: Global,
-    desks: &[MutexGuard<'_, ClassDesk<D, N>>],
-    needs: &[Wanted<'_>],
+    finds: &[NeedFinds<'_, D, N>],
     now: u32,
 ) -> Result<Vec<FoundSet>, AllocError>
-    requires sixteen { length desks.now ≡ 16 }
-    requires desks { AreDesks desks.now }
-    requires needs { All AreEnds needs.now }
+    requires needs { All AreEnds (needs_in finds.now) }
     requires now { now ≤ 4_000_000_000 }
-    ensures { IfOk result (λ sets. (list : List Entry) → AreDesksOf list desks.now
-        → Pairwise (LooksUp (replay N.start list) now) needs.now sets.items) }
+    ensures { IfOk result (λ sets. (list : List Entry) → All (AreFindsOf list) finds.now
+        → Pairwise (LooksUp (replay N.start list) now) (needs_in finds.now) sets.items) }
 {
-    let mut sets = Vec::with_capacity(alloc, needs.len())?;
-    for need in needs {
-        sets.push(find(alloc, desks, need, now)?)?;
+    let mut sets = Vec::with_capacity(alloc, finds.len())?;
+    for need in finds {
+        sets.push(look(alloc, need, now)?)?;
     }
     Ok(sets)
 }
 
-// The metrics of all classes that one need finds.
-fn find<D: Disk, N: Named>(
+// Looks at the metrics of all classes that one need finds.
+fn look<D: Disk, N: Named>(
     alloc: Global,
-    desks: &[MutexGuard<'_, ClassDesk<D, N>>],
-    need: &Wanted<'_>,
+    finds: &NeedFinds<'_, D, N>,
     now: u32,
 ) -> Result<FoundSet, AllocError>
-    requires sixteen { length desks.now ≡ 16 }
-    requires desks { AreDesks desks.now }
-    requires ends { AreEnds need.now }
+    requires ends { AreEnds finds.now.need }
     requires now { now ≤ 4_000_000_000 }
-    ensures { IfOk result (λ found. (list : List Entry) → AreDesksOf list desks.now
-        → LooksUp (replay N.start list) now need.now found) }
+    ensures { IfOk result (λ found. (list : List Entry) → AreFindsOf list finds.now
+        → LooksUp (replay N.start list) now finds.now.need found) }
 {
     let mut found = FoundSet::new(alloc);
-    for desk in desks {
-        found.append(desk.look(need, now)?)?;
+    for class in finds.classes() {
+        found.append(class.look(now)?)?;
     }
     Ok(found)
 }

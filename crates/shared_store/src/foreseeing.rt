@@ -4,7 +4,7 @@ use crate::named::Named;
 use crate::store::Store;
 use metric_path::{CLASSES, MetricPath};
 use outside_io::Disk;
-use render_plan::Need;
+use render_need::Need;
 use std::alloc::{AllocError, Global};
 use std::sync::Wait;
 

@@ -13,6 +13,7 @@ mod drain_end;
 mod draining;
 mod events;
 mod finding;
+mod finds;
 mod foreseeing;
 mod found_set;
 mod laws;

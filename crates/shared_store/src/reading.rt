@@ -2,7 +2,7 @@
 ghost use Rattle.std.specs.Prelude.{◌≢◌, ◌≤◌, IfOk, length};
 ghost use Rattle.series_fetch.specs.Window.{HasBuckets, IsWindow};
 ghost use Rattle.series_fetch.specs.declared.range.Window.TheVariants.{Empty};
-ghost use Rattle.render_answer.specs.Rows.{most_points};
+ghost use Rattle.found_rows.specs.Rows.{most_points};
 ghost use Rattle.shared_store.specs.Asking.{EndsAs, IsSeriesOf, buckets_of};
 
 use crate::ask_fault::AskFault;

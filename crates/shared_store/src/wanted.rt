@@ -2,8 +2,8 @@
 ghost use Rattle.std.specs.Prelude.{◌≡◌, All, IfOk};
 
 use metric_path::MetricPath;
-use path_glob::Work;
-use render_plan::Need;
+use path_glob::{GlobSearch, Work};
+use render_need::Need;
 use shard_core::Verdicts;
 use std::alloc::{AllocError, Global};
 use std::marker::Model;
@@ -19,7 +19,7 @@ pub(crate) struct Wanted<'a> {
 
 impl<'a> Model for Wanted<'a> {
     ghost use Rattle.std.specs.Prelude.{◌≡◌, All};
-    ghost use Rattle.render_plan.specs.declared.need.Need.{Need as NeedValue};
+    ghost use Rattle.render_need.specs.declared.need.Need.{Need as NeedValue};
 
     ghost Value = { NeedValue };
 
@@ -75,8 +75,10 @@ fn verdicts_by_class<'a>(
     ensures { IfOk result (λ all. All (λ v. v ≡ need.now.glob) all.items) }
 {
     let mut all = Vec::with_capacity(alloc, names.len())?;
+    // Nodes that stand in several classes are tried once.
+    let mut search = GlobSearch::new(alloc, &need.glob)?;
     for paths in names {
-        all.push(Verdicts::of_paths(alloc, &need.glob, paths, work)?)?;
+        all.push(Verdicts::of_paths(alloc, &need.glob, &mut search, paths, work)?)?;
     }
     Ok(all)
 }

@@ -1,6 +1,6 @@
 // Callers of a store, at once or one behind the other: what they do, and what comes of it.
 ghost use Rattle.std.specs.Prelude.{◌≡◌, ◌<◌, ◌≤◌, All, IfOk, IfSome, true, vec_len};
-ghost use Rattle.render_plan.specs.Needed.{AreEnds};
+ghost use Rattle.render_need.specs.Ends.{AreEnds};
 ghost use Rattle.shard_core.specs.Started.{AreReadyShards};
 ghost use Rattle.shard_set.specs.Disks.{faults_at, told_at};
 ghost use Rattle.shard_set.specs.OpeningState.{opening_of};
@@ -15,7 +15,7 @@ use metric_path::{CLASSES, MetricPath};
 use outside_io::Disk;
 use path_glob::Glob;
 use point_cache::Put;
-use render_plan::Need;
+use render_need::Need;
 use schema_rules::Rules;
 use series_set::SeriesRows;
 use shard_core::{Planned, Wrote};

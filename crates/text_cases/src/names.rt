@@ -5,7 +5,7 @@ use crate::telling::push_next;
 use case_lines::{Case, CaseFault};
 use metric_index::{Hit, Index, Verdicts};
 use metric_path::MetricPath;
-use path_glob::Work;
+use path_glob::{GlobSearch, Work};
 use std::alloc::Global;
 
 /// Tells a case of an index; `false` where the verb is of another subject.
@@ -36,7 +36,8 @@ fn tell_known_hits(alloc: Global, told: &mut String, case: &Case) -> Result<(), 
         names.push(path_of(alloc, name.as_slice())?)?;
     }
     let glob = glob_of(alloc, case.bytes(0)?)?;
-    let known = Verdicts::of_paths(alloc, &glob, &names, &mut Work::of_question())?;
+    let mut search = GlobSearch::new(alloc, &glob)?;
+    let known = Verdicts::of_paths(alloc, &glob, &mut search, &names, &mut Work::of_question())?;
     let index = index_of(alloc, case.rest(2_usize.saturating_add(count)))?;
     push_hits(told, &index.find(alloc, &known)?)
 }

@@ -12,9 +12,9 @@ loop-path-preserved c =
     let path : List ℕ = c.path-item.result in
     let some : length c.loop-path.fits.items < length c.args.paths.now = omega (arith, c.loop-path-test.true, v.count) in
     let next : get_or c.args.paths.now (length c.loop-path.fits.items) path ≡ path = search rules in
-    let is : IsTrue fits ↔ IsFitted c.args.glob.now path = subst (λ (g : Said). IsTrue fits ↔ IsFitted g path) v.same c.in_ok-matches.ensures.fits in
+    let is : IsTrue fits ↔ IsFitted c.args.search.now path = subst (λ (g : Said). IsTrue fits ↔ IsFitted g path) v.same c.in_ok-matches.ensures.fits in
     record {
       same = c.matches.ensures.same ∙ v.same;
-      have = subst (AreVerdicts c.args.glob.now c.args.paths.now) (sym c.in_ok-push.ensures.items) (verdicts_more c.args.glob.now c.args.paths.now c.loop-path.fits.items fits path path v.have some next is);
+      have = subst (AreVerdicts c.args.search.now c.args.paths.now) (sym c.in_ok-push.ensures.items) (verdicts_more c.args.search.now c.args.paths.now c.loop-path.fits.items fits path path v.have some next is);
       count = search rules;
     }

@@ -1,5 +1,5 @@
 use Rattle.std.specs.Prelude.{All}
-use Rattle.render_plan.specs.Needed.{AreEnds}
+use Rattle.render_need.specs.Ends.{AreEnds}
 use Rattle.store_tests.proofs.shared_store_kit.needs_of.Given as goal
 
 abbrev pub invariant-loop-glob : goal.invariant-loop-glob

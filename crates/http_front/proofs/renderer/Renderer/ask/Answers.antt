@@ -1,6 +1,6 @@
 use Rattle.std.proofs.Common.{List, subst}
 use Rattle.render_plan.specs.Asked.{plan_seen}
-use Rattle.render_plan.specs.declared.need.Need.{Need}
+use Rattle.render_need.specs.declared.need.Need.{Need}
 use Rattle.shared_store.specs.Asks.{Asks}
 use Rattle.http_front.specs.Origin.{origin_of}
 use Rattle.http_front.proofs.AskLemmas.{comes_of_plan, err_so, ok_so, short_of_plan}

@@ -3,7 +3,7 @@ use Rattle.std.specs.Prelude.{Contains}
 use Rattle.std.proofs.lemmas.List.{take_more}
 use Rattle.carbon_model.specs.Replay.{replay}
 use Rattle.carbon_model.specs.State.{State}
-use Rattle.render_plan.specs.Values.{Rows}
+use Rattle.render_need.specs.Rows.{Rows}
 use Rattle.series_set.specs.Series.{SeriesValue}
 use Rattle.shard_core.specs.Looks.{looked_paths}
 use Rattle.shard_core.specs.declared.looked.Looked.{Looked}

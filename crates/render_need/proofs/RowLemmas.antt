@@ -1,10 +1,9 @@
 -- Lists of series that may be evaluated.
-use Rattle.std.proofs.Common.{◌+◌, ◌*◌, ◌≤◌, List, [], ◌∷◌, All, length, arith}
+use Rattle.std.proofs.Common.{◌*◌, ◌≤◌, List, [], ◌∷◌, All, length, arith}
 use Rattle.std.proofs.lemmas.List.{length-append}
 use Rattle.std.proofs.lemmas.List.Elements.{All-append, All-head, All-nil, All-tail}
 use Rattle.series_set.specs.Series.{SeriesValue}
-use Rattle.render_plan.specs.Bounds.{AreRows, IsEarly, latest_row_end}
-use Rattle.render_plan.specs.Values.{Rows, concat}
+use Rattle.render_need.specs.Rows.{AreRows, IsEarly, Rows, concat, latest_row_end}
 
 abbrev IsShort : List SeriesValue → Type 0
 IsShort set = (length set ≤ 100) × All (IsEarly latest_row_end) set

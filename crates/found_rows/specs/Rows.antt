@@ -16,8 +16,8 @@ use Rattle.carbon_model.specs.Series.{series_at, series_in}
 use Rattle.carbon_model.specs.State.{State, layout_of, points_in}
 use Rattle.series_set.specs.Series.{SeriesValue}
 use Rattle.series_funcs.specs.Combined.{most_series}
-use Rattle.render_plan.specs.declared.need.Need.{Need}
-use Rattle.render_plan.specs.Values.{Rows, concat}
+use Rattle.render_need.specs.declared.need.Need.{Need}
+use Rattle.render_need.specs.Rows.{Rows, concat}
 
 -- ---- what is found
 

@@ -2,7 +2,7 @@ use Rattle.std.proofs.Common.{◌≡◌, ◌++◌, All, map}
 use Rattle.std.specs.Prelude.{drop}
 use Rattle.metric_table.specs.Table.{seen}
 use Rattle.shard_core.specs.Looks.{IsSoundLook, looked_in}
-use Rattle.shard_core.proofs.shard.Shard.look_at.Given as goal
+use Rattle.shard_core.proofs.shard.Shard.look_at_each.Given as goal
 
 abbrev pub invariant-loop-metric : goal.invariant-loop-metric
 invariant-loop-metric g l = record {

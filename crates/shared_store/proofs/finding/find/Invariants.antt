@@ -1,8 +1,0 @@
-use Rattle.std.proofs.Common.{List}
-use Rattle.carbon_history.specs.declared.entry.Entry.{Entry}
-use Rattle.carbon_model.specs.Replay.{replay}
-use Rattle.shared_store.specs.Asking.{AreDesksOf, LooksBelow}
-use Rattle.shared_store.proofs.finding.find.Given as goal
-
-abbrev pub invariant-loop-desk : goal.invariant-loop-desk
-invariant-loop-desk g l = (list : List Entry) → AreDesksOf list l.desks → LooksBelow l.desk-index (replay g.N.Named.start list) l.now l.need l.found
