@@ -14,6 +14,10 @@ use std::alloc::{AllocError, Global};
 use std::marker::Model;
 use std::sync::MutexGuard;
 
+/// How many metrics all globs of a question may fit together, each counted as often as it is found: of
+/// each 32 bytes are kept until all are counted.
+const MOST_FOUND: u64 = 1_000_000;
+
 /// The known metrics of a class that the glob of a need fits, in byte order of their paths, while the lock of the
 /// class is held. Nothing of them is copied.
 #[derive(Drop)]
@@ -45,17 +49,24 @@ impl<'a, D: Disk, N: Named> ClassFinds<'a, D, N> {
     ghost use Rattle.shard_core.specs.Looks.{CountsFor, Looks};
     ghost use Rattle.shared_store.specs.Asking.{IsReadable};
 
-    /// What a need finds in the class of a desk.
+    /// What a need finds in the class of a desk, where that is no more than may be kept, of which it
+    /// then takes its part. Else that is want of memory.
     fn find(
         desk: &'a ClassDesk<D, N>,
         wanted: &'a Wanted<'_>,
+        left: &mut u64,
     ) -> Result<ClassFinds<'a, D, N>, AllocError>
         ensures { IfOk result (λ finds. finds ≡ record { desk = desk.now; need = wanted.now }) }
     {
+        let found = desk.find(wanted)?;
+        let Some(rest) = left.checked_sub(found.len() as u64) else {
+            return Err(AllocError);
+        };
+        *left = rest;
         Ok(ClassFinds {
             desk,
             need: wanted.need(),
-            found: desk.find(wanted)?,
+            found,
         })
     }
 
@@ -130,9 +141,10 @@ pub(crate) fn find_all<'a, D: Disk, N: Named>(
     ensures finds { IfOk result (λ finds. (list : List Entry) → AreDesksOf list desks.now
         → All (AreFindsOf list) finds.items) }
 {
+    let mut left = MOST_FOUND;
     let mut finds = Vec::with_capacity(alloc, needs.len())?;
     for wanted in needs {
-        finds.push(find(alloc, desks, wanted)?)?;
+        finds.push(find(alloc, desks, wanted, &mut left)?)?;
     }
     Ok(finds)
 }
@@ -142,6 +154,7 @@ fn find<'a, D: Disk, N: Named>(
     alloc: Global,
     desks: &'a [MutexGuard<'_, ClassDesk<D, N>>],
     wanted: &'a Wanted<'_>,
+    left: &mut u64,
 ) -> Result<NeedFinds<'a, D, N>, AllocError>
     requires sixteen { length desks.now ≡ 16 }
     requires desks { AreDesks desks.now }
@@ -151,7 +164,7 @@ fn find<'a, D: Disk, N: Named>(
 {
     let mut classes = Vec::with_capacity(alloc, desks.len())?;
     for desk in desks {
-        classes.push(ClassFinds::find(desk, wanted)?)?;
+        classes.push(ClassFinds::find(desk, wanted, left)?)?;
     }
     Ok(NeedFinds {
         need: wanted.need(),
