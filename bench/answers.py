@@ -6,7 +6,7 @@ Usage: bench/answers.py [HUNDREDS]      (10, at most 10: how many hundreds of se
 Makes 1,000 ring files of 1,440 points each in a folder in memory, and asks the program that was started over them, under `valgrind
 --tool=callgrind`. A function's row is the difference of two questions, `limit(FUNCTION,0)` and `limit(SERIES,0)`: with neither a text is
 written, and both find and read the same series. Each is per point of the series read. The last rows are of one series of 1,440 and of
-1,000,000 points, from memory and from a file. Nothing counted here is a test. Run ./carbon once to build the program.
+1,000,000 points, from memory and from a file. Nothing counted here is a test. Run ./carbon build first.
 """
 import os
 import sys

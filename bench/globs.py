@@ -7,7 +7,7 @@ Puts one point for each of so many names, in mixed order, and asks three globs t
 before all that is kept, where it finds the same but has no series to read and to write. Prints the memory that a name takes beyond its text, with
 its pending point; the processor time of a match in microseconds, of several questions in a row; and the instructions of a match, counted
 by `valgrind --tool=callgrind` over a tenth of the names. The memory of a name without a pending point is that of a program that was started over
-the ring files of a tenth of the names, made in a folder in memory. Nothing timed here is a test. Run ./carbon once to build the program.
+the ring files of a tenth of the names, made in a folder in memory. Nothing timed here is a test. Run ./carbon build first.
 """
 import os
 import random

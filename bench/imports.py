@@ -142,7 +142,7 @@ def known(series):
 
 def check_graph(script, points):
     if not os.path.exists(PROGRAM):
-        print("graph: no program yet; run ./carbon once to build it")
+        print("graph: no program yet; run ./carbon build")
         return
     with tempfile.TemporaryDirectory() as place:
         write_rules(place, RULES, SPARSE)

@@ -5,7 +5,7 @@ Usage: bench/instructions.py
 
 Each row counts what `valgrind --tool=callgrind` sees of some lines of a script that runs already, and prints it for one line, metric, point or
 byte. Such counts are steady on a busy machine, where seconds are not: what the kernel does is not counted, and of a fill of bytes each
-counts as one. Nothing is checked beyond the answers' first words, and nothing counted here is a test. Run ./carbon once to build the program.
+counts as one. Nothing is checked beyond the answers' first words, and nothing counted here is a test. Run ./carbon build first.
 """
 import os
 import sys

@@ -10,7 +10,7 @@ The kinds of lines:
   long           lines of 16,384 bytes, of which only the blanks between the fields are many (a hundredth of the lines)
 
 Processor time of the program and of the kernel for it, and the most memory that was held, both until the last line is obeyed: nothing is drained.
-Nothing is checked, and nothing timed here is a test: the numbers are for reading. Run ./carbon once to build the program.
+Nothing is checked, and nothing timed here is a test: the numbers are for reading. Run ./carbon build first.
 """
 import random
 import sys

@@ -13,7 +13,7 @@ MEMORY = "/dev/shm" if os.path.isdir("/dev/shm") else None
 
 def need_program():
     if not os.path.exists(PROGRAM):
-        sys.exit("no program yet; run ./carbon once to build it")
+        sys.exit("no program yet; run ./carbon build")
 
 
 def folder():

@@ -7,7 +7,7 @@ Sends a point of each of so many names to `./carbon serve`, and asks over a link
 place of the folder `data`. Each row is of one question, asked some times in a row: the milliseconds in which half of the times it was answered,
 whole, and those of the processor that the daemon took for it, with the kernel; how many of the known names that are a second, since all of them
 are under the question's locks, and how many it tells; and the bytes of the reply. That each of them tells so many names as it should is all that
-is checked; nothing timed here is a test. The daemon is killed. Run ./carbon once to build the program.
+is checked; nothing timed here is a test. The daemon is killed. Run ./carbon build first.
 """
 import http.client
 import json

@@ -88,7 +88,7 @@ def copy_crate(name):
     here, there = os.path.join(ROOT, "crates", name), os.path.join(PLACE, "crates", name)
     built = os.path.join(here, "out", "rlib")
     if not os.path.exists(os.path.join(built, "stamp")):
-        sys.exit("the library %s is not built; run ./carbon once to build it" % name)
+        sys.exit("the library %s is not built; run ./carbon build" % name)
     shutil.rmtree(there, ignore_errors=True)
     for part in DATA:
         if os.path.isdir(os.path.join(here, part)):

@@ -5,7 +5,7 @@ Usage: bench/samples.py [LINES]      (1,000,000 without a number)
 
 Runs `carbon sample 7 LINES` twice over folders in memory. Instructions
 are those that `valgrind --tool=callgrind` counts of a tenth as many lines, less those of a sample of one line. The outputs of the two runs are compared,
-which is all that is checked. Nothing timed here is a test. Run ./carbon once to build the program.
+which is all that is checked. Nothing timed here is a test. Run ./carbon build first.
 """
 import os
 import re

@@ -15,7 +15,7 @@ stand in COMMAND. Each row of lines is of a daemon of its own:
 
 Each daemon is stopped by SIGTERM, which loses nothing: it is started again, and each of its points is asked for and compared. That, and how
 many points were stored, is all that is checked; nothing timed here is a test. Seconds of the processor are of the daemon and of the kernel for
-it, from the first byte that is sent until the last line is taken, and again until all is drained. Run ./carbon once to build the program.
+it, from the first byte that is sent until the last line is taken, and again until all is drained. Run ./carbon build first.
 """
 import http.client
 import os

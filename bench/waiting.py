@@ -6,7 +6,7 @@ Usage: bench/waiting.py [FOLDER [ORDER..]]
 Puts one point for each of 3,000 and of 300,000 metrics of one class and drains them all, under each drain order that is named, `sorted` and
 `naive` where none is, into a new folder in FOLDER, /dev/shm unless another is named: a folder in memory, so that the file system's own work stays
 small. Prints the processor time of the puts and of the drain in microseconds a metric, and the kernel's part of the latter; of the few metrics
-the mean of twenty runs. Nothing timed here is a test. Run ./carbon once to build the program.
+the mean of twenty runs. Nothing timed here is a test. Run ./carbon build first.
 """
 import sys
 import tempfile
