@@ -22,7 +22,7 @@ import sys
 import tempfile
 import time
 
-from live import HERE, PROGRAM, class_of, folder, need_program
+from live import HERE, PROGRAM, class_of, folder, need_program, write_rules
 
 LAUNCHER = os.path.abspath(os.path.join(HERE, "..", "carbon"))
 PORTS = re.compile(r"carbon: lines on (\d+), HTTP on (\d+)")
@@ -410,6 +410,31 @@ def a_long_reply_arrives_whole_at_a_slow_reader():
         want(size > 100_000 * 16, True, "its length")
 
 
+# ---- questions that take too much
+
+
+@case
+def a_question_that_takes_too_much_is_told_by_its_first_bytes():
+    now = int(time.time())
+    query = "target=a.b&from=%d&until=%d&x=\x1b[2J" % (now - 150_000, now)
+    requests = {
+        "GET /render?%s HTTP/1.0\r\n\r\n" % query.replace("\x1b", "%1b"): "GET /render?%s HTTP/1.0" % query.replace("\x1b", "%1b"),
+        "POST /render HTTP/1.0\r\nContent-Length: %d\r\n\r\n%s" % (len(query), query): "POST /render HTTP/1.0 %s" % query.replace("\x1b", "\\x1b"),
+        "GET /render?%s&%s HTTP/1.0\r\n\r\n" % (query[:-6], "y" * 1000): ("GET /render?%s&%s" % (query[:-6], "y" * 1000))[:200],
+    }
+    for request, told in requests.items():
+        with folder() as place:
+            write_rules(place, b"[all]\npattern = .*\nretentions = 1s:200000\n")
+            with serving("--answer-bytes", "1048576", place=place) as daemon:
+                daemon.send(point("a.b"))
+                for _ in range(3):
+                    want(exchange(daemon.http_port, request.encode()).split()[1], b"503", "the status")
+                lines = daemon.told().splitlines()[1:]
+                want(lines, ["carbon: out of memory, status 503: " + told], "standard error behind the line of the ports")
+                want(daemon.ask("a.b")[0], 200, "a question that takes less")
+                want(daemon.stop()[0:2], (0, "stored 1 replaced 0 full 0 drains 1"), "the stop")
+
+
 # ---- patience
 
 
@@ -479,6 +504,8 @@ def lines_that_were_sent_before_the_stop_are_taken():
 
 @case
 def the_end_of_the_launcher_is_a_stop():
+    if is_stale():
+        raise Passed("the launcher would build the program first")
     for how in signal.SIGTERM, signal.SIGHUP, signal.SIGKILL:
         with serving(launched=True) as daemon:
             daemon.send(point("a.b", 7))
@@ -487,6 +514,17 @@ def the_end_of_the_launcher_is_a_stop():
             want(gone, True, "the port after %s" % how.name)
             settled(lambda: lock_is_free(daemon.place), 20)
             want(os.path.exists(path_of(daemon.place, "a.b")), True, "the drained file after %s" % how.name)
+
+
+def is_stale():
+    """Whether a source is newer than the program, or a build of it was begun."""
+    top = os.path.dirname(LAUNCHER)
+    newest = os.path.getmtime(PROGRAM)
+    sources = [os.path.join(top, "crates.txt")]
+    for root, folders, files in os.walk(os.path.join(top, "crates")):
+        folders[:] = [name for name in folders if name != "out"]
+        sources += [os.path.join(root, name) for name in files if name.endswith((".rt", ".antt"))]
+    return os.path.exists(os.path.join(os.path.dirname(PROGRAM), "begun")) or any(os.path.getmtime(file) > newest for file in sources)
 
 
 def refuses(port):

@@ -5,6 +5,7 @@
 //! Nothing is told of what a socket gives or takes. What is proved is that each call keeps to its trait: a count of
 //! faults rises wherever a call answers a fault, and never falls.
 
+mod exchange;
 mod faults;
 mod hang_up;
 mod head_end;
@@ -15,6 +16,8 @@ mod net_settings;
 mod pace;
 mod patience;
 mod port;
+mod question;
+mod questions_told;
 mod readiness;
 mod shared;
 mod system_clock;

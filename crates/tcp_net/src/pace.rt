@@ -79,6 +79,24 @@ impl Pace {
         };
     }
 
+    // Whether a request is coming.
+    pub(crate) fn is_reading(&self) -> bool {
+        matches!(self.phase, Phase::Head { .. } | Phase::Body { .. })
+    }
+
+    // Whether replies are written.
+    pub(crate) fn is_replying(&self) -> bool {
+        matches!(self.phase, Phase::Reply { .. })
+    }
+
+    // How many bytes of the request have come behind its head.
+    pub(crate) fn bytes_behind_head(&self) -> u64 {
+        match self.phase {
+            Phase::Body { bytes, .. } => bytes,
+            _ => 0,
+        }
+    }
+
     // Until when more of the request may come. There is no end to it where nothing of one has come.
     pub(crate) fn deadline(&self) -> Option<Duration> {
         match self.phase {

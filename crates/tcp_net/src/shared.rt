@@ -2,6 +2,7 @@
 use crate::hang_up::HangUp;
 use crate::net_closer::StopTimes;
 use crate::port::{BoundPorts, Port};
+use crate::questions_told::QuestionsTold;
 use std::io;
 use std::net::Net;
 use std::sync::OnceLock;
@@ -16,6 +17,8 @@ pub(crate) struct Shared {
     // how long links go on after the ports were closed
     pub(crate) grace: Duration,
     pub(crate) hang_up: HangUp,
+    // those without an answer
+    pub(crate) questions: QuestionsTold,
 }
 
 #[derive(Drop)]
@@ -31,6 +34,7 @@ impl Shared {
             closing: AtomicBool::new(false),
             grace: times.grace,
             hang_up: HangUp::new(rt, times.rest)?,
+            questions: QuestionsTold::new(),
         })
     }
 

@@ -4,6 +4,7 @@ ghost use Rattle.std.specs.Prelude.{◌≡◌, None};
 use crate::faults::raised;
 use crate::timed_stream::TimedStream;
 use outside_io::{Link, ReadEnd, Sink, Source, WriteEnd};
+use std::io::Eprint;
 use std::time::Clock;
 
 /// A TCP connection. It tells nothing of its bytes. Bytes are sent without delay, also where they are few.
@@ -22,6 +23,9 @@ use std::time::Clock;
 /// **Replies.** A write fails where the other end takes no byte for 75 seconds, and on a link for HTTP where the
 /// writes, with no read between them, have waited for more than 20 seconds and one more for each 1,024 bytes that were
 /// taken. So a reply is taken at a kilobyte a second at least. The time that carbon itself takes does not count.
+///
+/// **Questions without memory.** Where the reply to a request has the status 503, standard error is told so with the
+/// first 200 bytes of its first line and its body, at most once a minute for all links of a net.
 ///
 /// **The stop.** A second after the net was closed the links are told to end. A source then gives the bytes that have
 /// come already, and is at its end once there are none, and after five seconds whatever comes. Writes go on for five
@@ -77,7 +81,7 @@ impl<R: Clock + Copy> Source for TcpLink<R> {
     }
 }
 
-impl<R: Clock + Copy> Sink for TcpLink<R> {
+impl<R: Clock + Copy + Eprint> Sink for TcpLink<R> {
     ghost written = { λ _. None };
 
     ghost write_faults = { λ link. link.write_faults };
@@ -89,6 +93,7 @@ impl<R: Clock + Copy> Sink for TcpLink<R> {
     }
 
     fn write(&mut self, piece: &[u8]) -> WriteEnd {
+        self.timed.tell_unanswered(piece);
         match self.timed.send(piece) {
             Ok(count) if 0 < count => {
                 self.lingers = true;
@@ -103,7 +108,7 @@ impl<R: Clock + Copy> Sink for TcpLink<R> {
     }
 }
 
-impl<R: Clock + Copy> Link for TcpLink<R> {
+impl<R: Clock + Copy + Eprint> Link for TcpLink<R> {
     ghost use Rattle.std.specs.Prelude.{refl};
 
     ghost reads_apart = { λ _. refl };

@@ -13,7 +13,7 @@ use crate::timed_stream::TimedStream;
 use outside_io::{Net, NetFailed};
 use std::alloc::{AllocError, Global};
 use std::io;
-use std::io::ErrorKind;
+use std::io::{Eprint, ErrorKind};
 use std::net::{TcpListener, TcpStream};
 use std::os::fd::AsRawFd;
 use std::sync::Arc;
@@ -34,7 +34,9 @@ pub struct TcpNet<R> {
     faults: u64,
 }
 
-impl<R: std::net::Net<Listener = TcpListener, Stream = TcpStream> + Clock + Copy> TcpNet<R> {
+impl<R: std::net::Net<Listener = TcpListener, Stream = TcpStream> + Clock + Copy + Eprint> TcpNet<
+    R,
+> {
     /// A net with these settings, and with no port bound yet. It takes two descriptors, each port and each link one
     /// more, and so at the stop does each connection that waits on a port.
     pub fn new(alloc: Global, rt: R, settings: NetSettings) -> io::Result<Self>
@@ -86,7 +88,7 @@ impl<R: std::net::Net<Listener = TcpListener, Stream = TcpStream> + Clock + Copy
     }
 }
 
-impl<R: std::net::Net<Listener = TcpListener, Stream = TcpStream> + Clock + Copy> Net
+impl<R: std::net::Net<Listener = TcpListener, Stream = TcpStream> + Clock + Copy + Eprint> Net
     for TcpNet<R> {
     type L = TcpLink<R>;
 

@@ -1,6 +1,7 @@
 // The clock of the system, and both ends of connections in one process.
 mod kit;
 mod paces;
+mod questions;
 mod slow;
 mod stops;
 

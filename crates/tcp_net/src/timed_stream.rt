@@ -2,6 +2,7 @@
 ghost use Rattle.std.specs.Prelude.{◌≡◌, ◌≤◌, length};
 ghost use Rattle.std.specs.Io.{ReadsAtMost, WritesAtMost};
 
+use crate::exchange::Exchange;
 use crate::linger::linger;
 use crate::pace::Pace;
 use crate::patience::Patience;
@@ -9,7 +10,7 @@ use crate::readiness::{Readiness, asked_for, wait_for};
 use crate::shared::Shared;
 use libc::net::{POLLIN, POLLOUT};
 use std::io;
-use std::io::{ErrorKind, Read, Write};
+use std::io::{Eprint, ErrorKind, Read, Write};
 use std::net::TcpStream;
 use std::sync::Arc;
 use std::time::{Clock, Duration};
@@ -22,7 +23,7 @@ pub(crate) struct TimedStream<R: Clock + Copy> {
     shared: Arc<Shared>,
     pub(crate) patience: Patience,
     // where requests come
-    pace: Option<Pace>,
+    exchange: Option<Exchange>,
 }
 
 impl<R: Clock + Copy> TimedStream<R> {
@@ -33,7 +34,7 @@ impl<R: Clock + Copy> TimedStream<R> {
             stream,
             shared,
             patience,
-            pace: patience.for_exchange.map(Pace::new),
+            exchange: patience.for_exchange.map(Exchange::new),
         }
     }
 
@@ -65,8 +66,8 @@ impl<R: Clock + Copy> TimedStream<R> {
         requires { count ≤ length buf.now }
         ensures { ReadsAtMost result buf.now }
     {
-        if let Some(pace) = &mut self.pace {
-            pace.note_read(&buf[..count], self.rt.monotonic()?);
+        if let Some(exchange) = &mut self.exchange {
+            exchange.note_read(&buf[..count], self.rt.monotonic()?);
         }
         match self.time_to_read()? {
             Some(Duration::ZERO) => Ok(0),
@@ -76,7 +77,7 @@ impl<R: Clock + Copy> TimedStream<R> {
 
     // How much longer bytes may come; none: there is no end to it.
     fn time_to_read(&self) -> io::Result<Option<Duration>> {
-        let request = self.pace.as_ref().and_then(Pace::deadline);
+        let request = self.pace().and_then(Pace::deadline);
         match least(request, self.shared.hang_up.deadline()) {
             Some(deadline) => Ok(Some(deadline.saturating_sub(self.rt.monotonic()?))),
             None => Ok(None),
@@ -91,6 +92,10 @@ impl<R: Clock + Copy> TimedStream<R> {
             self.shared.hang_up.watched(),
         ];
         Ok(wait_for(&mut asked, limit))
+    }
+
+    fn pace(&self) -> Option<&Pace> {
+        Some(&self.exchange.as_ref()?.pace)
     }
 
     // Sends a front of the piece. After a wait that was too long it tries once more, since the system says that there
@@ -117,8 +122,8 @@ impl<R: Clock + Copy> TimedStream<R> {
     fn count_sent(&mut self, count: usize) -> usize
         ensures { result ≡ count }
     {
-        if let Some(pace) = &mut self.pace {
-            pace.note_write(count);
+        if let Some(exchange) = &mut self.exchange {
+            exchange.pace.note_write(count);
         }
         count
     }
@@ -126,7 +131,7 @@ impl<R: Clock + Copy> TimedStream<R> {
     // Waits until the system takes bytes again, or the hang-up where that is still to come, and counts the time.
     fn wait_for_room(&mut self) -> io::Result<Readiness> {
         let begun = self.rt.monotonic()?;
-        let limit = match &self.pace {
+        let limit = match self.pace() {
             Some(pace) => pace.wait_left().min(self.patience.for_room),
             None => self.patience.for_room,
         };
@@ -139,8 +144,9 @@ impl<R: Clock + Copy> TimedStream<R> {
             }
             None => wait_for(&mut [room, hang_up.watched()], Some(limit)),
         };
-        if let Some(pace) = &mut self.pace {
-            pace.note_wait(self.rt.monotonic()?.saturating_sub(begun));
+        if let Some(exchange) = &mut self.exchange {
+            let waited = self.rt.monotonic()?.saturating_sub(begun);
+            exchange.pace.note_wait(waited);
         }
         Ok(readiness)
     }
@@ -148,6 +154,18 @@ impl<R: Clock + Copy> TimedStream<R> {
     // Ends the connection so that the last bytes that were sent arrive.
     pub(crate) fn linger(&self) -> io::Result<()> {
         linger(&self.rt, &self.stream, self.shared.hang_up.deadline())
+    }
+}
+
+impl<R: Clock + Copy + Eprint> TimedStream<R> {
+    // Tells an operator where the piece, which is about to be sent, is the reply that there was no memory for a question.
+    pub(crate) fn tell_unanswered(&self, piece: &[u8]) {
+        let Some(exchange) = &self.exchange else {
+            return;
+        };
+        if let Some(unanswered) = exchange.unanswered(piece) {
+            self.shared.questions.tell(&self.rt, unanswered);
+        }
     }
 }
 

@@ -169,6 +169,15 @@ fn send_on(mut client: &TcpStream) {
     }
 }
 
+// Sends what bridges the time until the sender has its thread.
+fn send_ahead(mut client: &TcpStream) -> io::Result<()> {
+    let piece = [b'x'; 4096];
+    for _ in 0..25 {
+        client.write_all(&piece)?;
+    }
+    Ok(())
+}
+
 // How a link ends after the stop whose other end goes on to send, and after how many milliseconds.
 fn end_of_sender(threads: &impl Threads, rt: HostRuntime) -> Result<(ReadEnd, u128), Fail> {
     let Pair {
@@ -176,6 +185,7 @@ fn end_of_sender(threads: &impl Threads, rt: HostRuntime) -> Result<(ReadEnd, u1
         mut link,
         shared,
     } = Pair::new(rt, Patience::for_lines(0), 200)?;
+    send_ahead(&client)?;
     let begun = Instant::now(&rt)?;
     shared.hang_up.give(rt.monotonic()?);
     let reading = move || {
