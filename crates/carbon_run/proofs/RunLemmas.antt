@@ -276,14 +276,14 @@ came_earlier d told start earlier earlier' streams answer later came = record {
 }
 
 -- what the disk of a shard told, it tells once it is handed back
-told_back : {D : Type 0} {d : Ghosts D} (o : Option (Shard D d)) → option_and_then d.image (option_map (λ shard. shard.disk) o) ≡ option_and_then (λ shard. d.image shard.disk) o
+told_back : {D : Type 0} {d : Ghosts D} (o : Option (Shard D d)) → option_and_then d.image (option_map (λ shard. shard.files.disk) o) ≡ option_and_then (λ shard. d.image shard.files.disk) o
 told_back None = refl
 told_back (Some shard) = refl
 
-pub back_same : {D : Type 0} {d : Ghosts D} (shards : List (Shard D d)) (k : ℕ) → told_of d.image (map (λ shard. shard.disk) shards) k ≡ told_at shards k
-back_same {d = d} shards k = rw (slice_get-map (λ shard. shard.disk) shards k) (told_back (slice_get shards k))
+pub back_same : {D : Type 0} {d : Ghosts D} (shards : List (Shard D d)) (k : ℕ) → told_of d.image (map (λ shard. shard.files.disk) shards) k ≡ told_at shards k
+back_same {d = d} shards k = rw (slice_get-map (λ shard. shard.files.disk) shards k) (told_back (slice_get shards k))
 
-pub length_back : {D : Type 0} {d : Ghosts D} (shards : List (Shard D d)) → length (map (λ shard. shard.disk) shards) ≡ length shards
+pub length_back : {D : Type 0} {d : Ghosts D} (shards : List (Shard D d)) → length (map (λ shard. shard.files.disk) shards) ≡ length shards
 length_back [] = refl
 length_back (shard ∷ shards) = ap suc (length_back shards)
 

@@ -70,7 +70,7 @@ pub record LacksPort {D : Type 0} {E : Type 0} {d : Ghosts D} (net_faults : E �
   pub cause : Rose (net_faults net) (net_faults net')
   pub tells : TellsAlone 9 no_port_line answer.status streams.written streams.written'
   pub history : answer.history ≡ []
-  pub disks : answer.disks ≡ map (λ shard. shard.disk) shards
+  pub disks : answer.disks ≡ map (λ shard. shard.files.disk) shards
   pub input : streams.left' ≡ streams.left
 
 -- once the ports are bound, memory runs out, or they are served

@@ -11,7 +11,7 @@ use Rattle.carbon_run.specs.Texts.{no_memory_line}
 pub record LacksMemory {D : Type 0} {d : Ghosts D} (shards : List (Shard D d)) (streams : Streams) (answer : Answer D) : Type 0 where
   pub tells : TellsAlone 8 no_memory_line answer.status streams.written streams.written'
   pub history : answer.history ≡ []
-  pub disks : answer.disks ≡ map (λ shard. shard.disk) shards
+  pub disks : answer.disks ≡ map (λ shard. shard.files.disk) shards
   pub input : streams.left' ≡ streams.left
 
 -- So it does, or the script runs.

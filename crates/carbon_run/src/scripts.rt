@@ -24,7 +24,7 @@ use sample_text::SampleSource;
 use shard_core::{Shard, StartFault};
 use shard_set::{Refusal, Setup, Started, hand_back, start_all};
 use shared_history::{Pass, make};
-use shared_store::{Closed, Named, Parts, Store};
+use shared_store::{Closed, Named, Parts, Store, make_pairs};
 use std::alloc::Global;
 use std::marker::Brand;
 use std::sync::Wait;
@@ -84,9 +84,13 @@ fn run_shards<R: Wait, D: Disk + Drop, S: Source, K: Sink>(
     let Started { shards, room } = started;
     match make(alloc, CLASSES, 1) {
         Ok((order, tails, passes)) => {
+            let Ok(pairs) = make_pairs(alloc) else {
+                return report_no_memory(shards, room, out);
+            };
             let parts = Parts {
                 order,
                 tails,
+                pairs,
                 shards,
             };
             run_parts::<Brand, R, D, S, K>(rt, alloc, parts, passes, room, front, input, out)
@@ -106,7 +110,7 @@ fn run_parts<N: Named, R: Wait, D: Disk + Drop, S: Source, K: Sink>(
     input: &mut S,
     out: &mut K,
 ) -> Report<D>
-    requires fresh { IsFresh N.table N.passes N.told N.start N.faults parts }
+    requires fresh { IsFresh N.table N.passes N.halves N.told N.start N.faults parts }
     requires one { (N.passes ≡ 1) × (vec_len passes ≡ 1) }
     requires new { AreNewPasses N.table passes.items }
     requires room { (vec_len room ≡ 0) × (16 ≤ vec_capacity room) }
@@ -226,7 +230,7 @@ pub(crate) fn report_no_memory<D: Disk, K: Sink>(
         (K.written out.new) }
     ensures writes { CountsWrites K.Sink out.old out.new (result.status ≡ 7) }
     ensures history { result.history ≡ [] }
-    ensures disks { result.disks.items ≡ map (λ shard. shard.disk) shards.items }
+    ensures disks { result.disks.items ≡ map (λ shard. shard.files.disk) shards.items }
 {
     let status = tell_no_memory(out);
     Report::without_command(status, hand_back(shards, room))

@@ -22,7 +22,7 @@ use outside_io::{Clock, Disk, Net, NetFailed, Sink};
 use shard_core::Shard;
 use shard_set::{Setup, Started, hand_back, start_all};
 use shared_history::make;
-use shared_store::{Closed, DrainEnd, Named, Parts, Store, Tally};
+use shared_store::{Closed, DrainEnd, Named, Parts, Store, Tally, make_pairs};
 use std::alloc::Global;
 use std::marker::Brand;
 use std::sync::Wait;
@@ -143,9 +143,13 @@ where
     let Ok(crew) = Crew::new(alloc, passes, options.receivers, options.answer_bytes) else {
         return report_no_memory(shards, room, out);
     };
+    let Ok(pairs) = make_pairs(alloc) else {
+        return report_no_memory(shards, room, out);
+    };
     let parts = Parts {
         order,
         tails,
+        pairs,
         shards,
     };
     serve_parts::<Brand, R, D, K, C, E>(rt, alloc, parts, crew, room, out, clock, net)
@@ -171,7 +175,7 @@ fn serve_parts<
 ) -> Report<D>
 where
     E::L: Drop + Send,
-    requires fresh { IsFresh N.table N.passes N.told N.start N.faults parts }
+    requires fresh { IsFresh N.table N.passes N.halves N.told N.start N.faults parts }
     requires crew { IsNewCrew N.table N.passes crew }
     requires room { (vec_len room ≡ 0) × (16 ≤ vec_capacity room) }
     ensures serves { ServesShards N.told N.start N.faults parts.shards.items
@@ -247,7 +251,7 @@ fn report_no_port<D: Disk, K: Sink>(shards: Vec<Shard<D>>, room: Vec<D>, out: &m
     ensures told { TellsAlone 9 no_port_line result.status (K.written out.old) (K.written out.new) }
     ensures writes { CountsWrites K.Sink out.old out.new (result.status ≡ 7) }
     ensures history { result.history ≡ [] }
-    ensures disks { result.disks.items ≡ map (λ shard. shard.disk) shards.items }
+    ensures disks { result.disks.items ≡ map (λ shard. shard.files.disk) shards.items }
 {
     let status = tell_no_port(out);
     Report::without_command(status, hand_back(shards, room))

@@ -15,7 +15,7 @@ use point_cache::Put;
 use schema_rules::Rules;
 use shard_set::{Setup, Started, start_all};
 use shared_history::{Pass, make};
-use shared_store::{Named, Parts, Store, has_room};
+use shared_store::{Named, Parts, Store, has_room, make_pairs};
 use std::alloc::{AllocError, Global};
 use std::marker::Brand;
 use std::process::Abort;
@@ -280,7 +280,7 @@ fn serve_parts<N: Named, R: Wait + Abort>(
     lines: &[&[u8]],
     cases: &[Case<'_>],
 ) -> Result<Vec<MemDisk>, Fail>
-    requires fresh { IsFresh N.table N.passes N.told N.start N.faults parts }
+    requires fresh { IsFresh N.table N.passes N.halves N.told N.start N.faults parts }
     requires one { vec_len passes ≡ 1 }
     requires passes { N.passes ≡ 1 }
     requires new { AreNewPasses N.table passes.items }
@@ -307,6 +307,7 @@ fn serve_shards<R: Wait + Abort>(
             let parts = Parts {
                 order,
                 tails,
+                pairs: make_pairs(alloc)?,
                 shards,
             };
             serve_parts::<Brand, R>(rt, alloc, parts, passes, lines, cases)

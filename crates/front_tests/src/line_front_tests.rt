@@ -14,7 +14,7 @@ use outside_io::{FixedClock, MemDisk, MemLink, MemSink, MemSource};
 use schema_rules::Rules;
 use shard_set::{Setup, Started, start_all};
 use shared_history::{Pass, make};
-use shared_store::{Named, Parts, Store, Tally};
+use shared_store::{Named, Parts, Store, Tally, make_pairs};
 use std::alloc::{AllocError, Global};
 use std::marker::Brand;
 use std::process::Abort;
@@ -103,7 +103,7 @@ fn run_store<N: Named, R: Wait>(
     passes: Vec<Pass>,
     links: Vec<MemLink>,
 ) -> Result<Came, Fail>
-    requires fresh { IsFresh N.table N.passes N.told N.start N.faults parts }
+    requires fresh { IsFresh N.table N.passes N.halves N.told N.start N.faults parts }
     requires new { AreNewPasses N.table passes.items }
 {
     let mut passes = passes;
@@ -125,6 +125,7 @@ fn run<R: Wait>(rt: &R, alloc: Global, limit: u64, links: Vec<MemLink>) -> Resul
     let parts = Parts {
         order,
         tails,
+        pairs: make_pairs(alloc)?,
         shards,
     };
     run_store::<Brand, R>(rt, alloc, parts, passes, links)

@@ -7,7 +7,6 @@ use Rattle.metric_path.specs.Class.{class_of}
 use Rattle.metric_path.specs.Path.{path_fault}
 use Rattle.metric_path.specs.declared.path.PathFault.{PathFault}
 use Rattle.drain_order.specs.Picking.{Picking}
-use Rattle.ring_format.specs.Layout.{LayoutValue}
 use Rattle.schema_rules.specs.LayoutBy.{layout_by}
 use Rattle.metric_index.specs.Index.{entry_of}
 use Rattle.metric_table.specs.declared.known.Known.{Known}
@@ -21,12 +20,11 @@ use Rattle.carbon_model.specs.State.{Kept, State}
 use Rattle.shard_core.specs.Opened.{IsOpened, Opens as OpensTable}
 use Rattle.shard_core.specs.Plans.{PlansTo}
 use Rattle.shard_core.specs.Puts.{TakesPoint}
-use Rattle.shard_core.specs.Shard.{Holds, HoldsKept, Inside, Stays, patch_on}
+use Rattle.shard_core.specs.Shard.{Holds, HoldsKept, Inside, Stays}
 use Rattle.shard_core.specs.Started.{KeepsLaidOut, StartedFrom}
 use Rattle.shard_core.specs.Steps.{Makes, MakesAll, Plans, Puts, Step, Writes, entries_of, entries_of_all, plan_entries, put_entries, write_entries}
-use Rattle.shard_core.specs.Table.{Table, drains_in, kept_layout}
+use Rattle.shard_core.specs.Table.{Table}
 use Rattle.shard_core.specs.View.{inside_of}
-use Rattle.shard_core.specs.Writes.{WritesTo}
 use Rattle.shard_core.specs.declared.planned.Planned.{Planned}
 use Rattle.shard_core.specs.declared.planned.Planned.TheVariants as planned
 use Rattle.shard_core.specs.declared.planned.Wrote.{Wrote}
@@ -90,11 +88,11 @@ inside_holds class settings told s shard opens here rules nothing waiting empty 
 }
 
 pub started_holds : {D : Type 0} {d : Ghosts D} (class : ℕ) (settings : Settings) (told : ℕ → Option Image) (s : State) (disk : D) (shard : Shard D d)
-    → StartedFrom class settings disk shard → Opens settings told s → d.image disk ≡ told class → KeepsLaidOut class (told class) shard.table s.kept
+    → StartedFrom class settings disk shard → Opens settings told s → d.image disk ≡ told class → KeepsLaidOut class (told class) shard.desk.table s.kept
     → Holds (told class) (inside_of shard) s
 started_holds {D} {d} class settings told s disk shard started opens tells laid =
     inside_holds class settings told s (inside_of shard) opens started.here started.rules started.nothing started.waiting started.empty (started.same ∙ tells)
-    (subst (λ (known : Option Image). OpensTable class known shard.table) tells started.opens) started.opened laid
+    (subst (λ (known : Option Image). OpensTable class known shard.desk.table) tells started.opens) started.opened laid
 
 -- ---- the calls
 

@@ -15,3 +15,5 @@ pub mod ReadLemmas
 pub mod PickLemmas
 pub mod KeptLemmas
 pub mod LawLemmas
+pub mod HalvesLemmas
+pub mod SteppingLemmas

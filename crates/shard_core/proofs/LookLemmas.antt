@@ -325,11 +325,11 @@ abbrev HasMoments : Looked → Type 0
 HasMoments looked = All (λ p. is_moment p.0 ≡ true) looked.pending
 
 -- whatever was found, a look has what a read needs of it
-pub readable_looks : (shard : Inside) (now from until : ℕ) (found : List FoundMetric) (looked : List Looked) → AreOfClass shard.class shard.cache.metrics
-    → looked ≡ looked_in shard.cache.metrics now from until (map seen found) → All IsSoundLook looked → All IsReadableLook looked
-readable_looks shard now from until found looked metrics is sound =
+pub readable_looks : (class : ℕ) (metrics : Metrics) (now from until : ℕ) (found : List FoundMetric) (looked : List Looked) → AreOfClass class metrics → looked ≡ looked_in metrics now from until (map seen found)
+    → All IsSoundLook looked → All IsReadableLook looked
+readable_looks class metrics now from until found looked own is sound =
     let moments : All HasMoments looked = subst (λ (ls : List Looked). All HasMoments ls) (sym is)
-    (looked_each HasMoments (λ m. Unit {0}) shard.cache.metrics now from until (map seen found) (λ k d within. tt) (λ m any. points_have_moments shard.class shard.cache.metrics m.0 metrics)) in
+    (looked_each HasMoments (λ m. Unit {0}) metrics now from until (map seen found) (λ k d within. tt) (λ m any. points_have_moments class metrics m.0 own)) in
     λ k d within.
     let fit = sound k d within in record { window = fit.0; rising = fit.1; moments = moments k d within }
 

@@ -159,7 +159,7 @@ write_shelf_holds class table patch (run ∷ runs) (Some before) (Some after) it
 abbrev pub IsNamed : Option DrainValue → List ℕ → Type 0
 IsNamed shelf name = Some name ≡ option_map (λ drain. file_name_of drain.patch.path) shelf
 
-its_name : (drain : DrainValue) (name : List ℕ) → IsNamed (Some drain) name → name ≡ file_name_of drain.patch.path
+pub its_name : (drain : DrainValue) (name : List ℕ) → IsNamed (Some drain) name → name ≡ file_name_of drain.patch.path
 its_name drain name named = ap (λ (o : Option (List ℕ)). unwrap_or o name) named
 
 -- a drain has a run left

@@ -1,7 +1,9 @@
 pub mod Table
 pub mod Shard
+pub mod Halves
 pub mod Puts
 pub mod Plans
+pub mod Stepping
 pub mod Writes
 pub mod Looks
 pub mod Reads

@@ -1,5 +1,5 @@
 -- What a plan makes of a shard.
-use Rattle.std.specs.Prelude.{◌≡◌, ◌≢◌, ◌↔◌, ◌<◌, ◌-◌, ◌^◌, ℕ, ℤ, List, [], All, length, not, slice_get, Option, None, Some, IfSome, IsSome, IsSomeAnd}
+use Rattle.std.specs.Prelude.{◌≡◌, ◌≢◌, ◌↔◌, ◌<◌, ◌-◌, ◌^◌, true, ℕ, ℤ, List, [], All, length, not, slice_get, Option, None, Some, IfSome, IsSome, IsSomeAnd}
 use Rattle.std.specs.Map.{remove_entry}
 use Rattle.std.specs.Str.{bytes_eq}
 use Rattle.outside_io.specs.Image.{Image}
@@ -7,10 +7,12 @@ use Rattle.metric_path.specs.Class.{class_of}
 use Rattle.metric_path.specs.FileName.{file_name_of}
 use Rattle.ring_format.specs.Layout.{layout_fault}
 use Rattle.ring_format.specs.Patch.{PatchValue}
-use Rattle.ring_archive.specs.Ring.{ReadsAs, Rings, UnderPatch}
+use Rattle.fixed_num.specs.Moment.{is_moment}
+use Rattle.ring_archive.specs.Ring.{IsRingFile, OnFile, ReadsAs, Rings, UnderPatch}
 use Rattle.archive_update.specs.Batch.{batch, archive_for}
 use Rattle.metric_index.specs.Index.{entry_of}
 use Rattle.metric_table.specs.declared.known.Known.{Known}
+use Rattle.point_cache.specs.Points.{IsRising}
 use Rattle.point_cache.specs.Pending.{Cache, points_of}
 use Rattle.drain_order.specs.Pick.{pick, queue_after}
 use Rattle.drain_order.specs.Picking.{Follows, Picking, settled_with}
@@ -18,8 +20,9 @@ use Rattle.write_shelf.specs.Runs.{runs_of}
 use Rattle.write_shelf.specs.Shelf.{DrainValue}
 use Rattle.carbon_model.specs.State.{State, picked}
 use Rattle.carbon_model.specs.Replay.{drained}
+use Rattle.shard_core.specs.Halves.{AreHalves, DeskInside, FilesInside, both}
 use Rattle.shard_core.specs.Shard.{Holds, Inside, Stays}
-use Rattle.shard_core.specs.Table.{kept_layout}
+use Rattle.shard_core.specs.Table.{Table, kept_layout}
 use Rattle.shard_core.specs.declared.planned.Planned.{Planned}
 use Rattle.shard_core.specs.declared.planned.Planned.TheVariants.{Took, Busy, Idle, DiskFault, NoMemory}
 
@@ -81,6 +84,27 @@ pub record IsPicked (picker : Picking) (cache : Cache) (place : ℕ) : Type 0 wh
   pub settled : picker.settled ≡ Some (queue_after picker.strategy picker.queue cache.metrics)
   pub rest : (path : List ℕ) → slice_get cache.places place ≡ Some path
       → Follows (settled_with picker (queue_after picker.strategy picker.queue cache.metrics)) (remove_entry (bytes_eq path) cache.metrics)
+
+-- nothing of a desk changed but which pick waits to be settled
+pub record OnlyPicks (old new : DeskInside) : Type 0 where
+  pub others : new ≡ record old { picker = new.picker }
+  pub queue : new.picker.queue ≡ old.picker.queue
+  pub strategy : new.picker.strategy ≡ old.picker.strategy
+  pub stays : (files : FilesInside) → Stays (both old files) (both new files)
+  pub halves : (files : FilesInside) → AreHalves old files → AreHalves new files
+
+-- this is known of a metric, which was not drained too often
+pub record IsDrainable (table : Table) (path : List ℕ) (known : Known) : Type 0 where
+  pub there : entry_of table path ≡ Some known
+  pub few : known.drains < 2 ^ 64 - 1
+  pub lawful : layout_fault known.layout.archives known.layout.factor ≡ None
+
+-- All that the making of a patch needs of a metric of which this is known: points in rising time, of
+-- legal moments, and its ring file where something is kept of it.
+pub record MayPlan (known : Known) (image : Option Image) (path : List ℕ) (points : List (ℕ × ℤ)) : Type 0 where
+  pub rising : IsRising points
+  pub moments : All (λ p. is_moment p.0 ≡ true) points
+  pub file : known.is_kept ≡ true → OnFile image (file_name_of path) (IsRingFile known.layout)
 
 -- The patch makes the batch of these points of a metric of which this is known, over whatever its
 -- file reads as. It is fresh where nothing is kept of the metric.

@@ -14,16 +14,16 @@ use Rattle.shard_core.specs.declared.shard.Shard.{Shard}
 -- the shard of a class started from this disk, with what is fixed for the run
 pub record StartedFrom {D : Type 0} {d : Ghosts D} (class : ℕ) (settings : Settings) (disk : D)
     (shard : Shard D d) : Type 0 where
-  pub here : shard.class ≡ class
-  pub rules : (path : List ℕ) → layout_by shard.rules path ≡ settings.rules path
-  pub nothing : shard.cache ≡ record { limit = settings.limit; metrics = []; places = [] }
-  pub waiting : shard.picker
+  pub here : shard.desk.class ≡ class
+  pub rules : (path : List ℕ) → layout_by shard.desk.rules path ≡ settings.rules path
+  pub nothing : shard.desk.cache ≡ record { limit = settings.limit; metrics = []; places = [] }
+  pub waiting : shard.desk.picker
       ≡ record { strategy = settings.strategy; queue = []; arrived = []; settled = None }
-  pub empty : shard.shelf ≡ None
-  pub same : d.image shard.disk ≡ d.image disk
-  pub opens : Opens class (d.image disk) shard.table
-  pub opened : IsOpened class shard.table
-  pub later : d.faults disk ≤ d.faults shard.disk
+  pub empty : shard.files.shelf ≡ None
+  pub same : d.image shard.files.disk ≡ d.image disk
+  pub opens : Opens class (d.image disk) shard.desk.table
+  pub opened : IsOpened class shard.desk.table
+  pub later : d.faults disk ≤ d.faults shard.files.disk
 
 -- Where a disk does not tell its image, what is kept of the paths of its class has the layouts that
 -- the shard read of their files. Where it does, this follows.
@@ -37,10 +37,10 @@ KeepsLaidOut class (Some image) table kept = Unit {0}
 -- So many calls of its disk have failed.
 pub record IsReadyShard {D : Type 0} {d : Ghosts D} (told : ℕ → Option Image) (start : State)
     (earlier : ℕ → ℕ) (place : ℕ) (shard : Shard D d) : Type 0 where
-  pub class : shard.class ≡ place
-  pub empty : shard.shelf ≡ None
+  pub class : shard.desk.class ≡ place
+  pub empty : shard.files.shelf ≡ None
   pub holds : Holds (told place) (inside_of shard) start
-  pub faults : earlier place ≡ d.faults shard.disk
+  pub faults : earlier place ≡ d.faults shard.files.disk
 
 -- each shard does, at its place
 abbrev pub AreReadyShards : {D : Type 0} {d : Ghosts D} → (ℕ → Option Image) → State → (ℕ → ℕ)

@@ -22,7 +22,7 @@ pub fn a_started_shard_stands_for_an_opening<D: Disk>()
     ensures { (class : ℕ) (settings : Settings) (told : ℕ → Option Image) (s : State)
         (disk : D) (shard : Shard D D.Disk)
         → StartedFrom class settings disk shard → Opens settings told s
-        → D.image disk ≡ told class → KeepsLaidOut class (told class) shard.table s.kept
+        → D.image disk ≡ told class → KeepsLaidOut class (told class) shard.desk.table s.kept
         → StandsFor (told class) shard s }
 {}
 

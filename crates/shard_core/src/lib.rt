@@ -2,20 +2,26 @@
 //! between them the drain that is being written, run by run.
 #![tactic(auto)]
 
+mod desk;
 mod fault;
+mod files;
 mod laws;
 mod look_count;
 mod looked;
 mod looking;
+mod next_metric;
 mod planned;
 mod planning;
 mod putting;
 mod reading;
 mod shard;
 mod starting;
+mod stepping;
 mod writing;
 
+pub use desk::Desk;
 pub use fault::StartFault;
+pub use files::Files;
 pub use laws::{
     a_shard_replays_its_answers, a_started_shard_stands_for_an_opening,
     what_was_looked_at_may_be_read_later,
@@ -23,5 +29,7 @@ pub use laws::{
 pub use look_count::count_found;
 pub use looked::{LookCount, LookFault, Looked};
 pub use metric_table::{FoundMetric, Verdicts};
-pub use planned::{Planned, Wrote};
-pub use shard::Shard;
+pub use next_metric::NextMetric;
+pub use planned::{Begun, Planned, Wrote};
+pub use planning::NextDrain;
+pub use shard::{Apart, Shard};

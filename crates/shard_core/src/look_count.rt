@@ -7,21 +7,20 @@ ghost use Rattle.series_fetch.specs.Window.{IsWindow};
 ghost use Rattle.shard_core.specs.Looks.{CountsFor, CountsFound, CountsLooks, FindsFor, IsFoundIn, bucket_count, series_of};
 ghost use Rattle.shard_core.specs.Shard.{Inside};
 
+use crate::desk::Desk;
 use crate::looked::LookCount;
-use crate::shard::Shard;
 use metric_table::{FoundMetric, Verdicts};
-use outside_io::Disk;
 use ring_format::Layout;
 use series_fetch::{Window, window_of};
 use std::alloc::AllocError;
 
-impl<D: Disk> Shard<D> {
+impl Desk {
     ghost use Rattle.std.specs.Prelude.{◌≤◌, IfOk};
     ghost use Rattle.metric_index.specs.Found.{IsFitted};
+    ghost use Rattle.shard_core.specs.Halves.{FilesInside, both, desk_of};
     ghost use Rattle.shard_core.specs.Looks.{CountsLooks};
-    ghost use Rattle.shard_core.specs.View.{inside_of};
 
-    /// How many metrics, and how many values of them, [`Shard::look`] would find of the same
+    /// How many metrics, and how many values of them, [`Desk::look`] would find of the same
     /// question. No path and no point is copied. A count above 2^64 - 1 is answered as want of
     /// memory.
     pub fn count_looks(
@@ -33,8 +32,9 @@ impl<D: Disk> Shard<D> {
     ) -> Result<LookCount, AllocError>
         requires order { from ≤ until }
         requires now { now ≤ 4_000_000_000 }
-        ensures { IfOk result
-            (CountsLooks (inside_of self.now) (IsFitted glob.now) now from until) }
+        ensures { IfOk result (λ count. (files : FilesInside)
+            → CountsLooks (both (desk_of self.now) files) (IsFitted glob.now) now from until
+            count) }
     {
         let found = self.find(glob)?;
         match count_found(&found, from, until, now) {
@@ -44,7 +44,7 @@ impl<D: Disk> Shard<D> {
     }
 }
 
-/// How many of the metrics that [`Shard::find`] found a look would find for a question from a
+/// How many of the metrics that [`Desk::find`] found a look would find for a question from a
 /// moment until another, both in seconds since the Unix epoch, and how many values of them: those
 /// of which the question has buckets at the moment `now`. None where a count is above 2^64 - 1.
 pub fn count_found(found: &[FoundMetric<'_>], from: u64, until: u64, now: u64) -> Option<LookCount>

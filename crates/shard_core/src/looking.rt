@@ -1,21 +1,20 @@
 //! Looking at metrics.
+use crate::desk::Desk;
 use crate::looked::Looked;
-use crate::shard::Shard;
 use metric_table::{FoundMetric, Verdicts};
-use outside_io::Disk;
 use point_cache::Points;
 use series_fetch::{Window, window_of};
 use std::alloc::AllocError;
 
-impl<D: Disk> Shard<D> {
+impl Desk {
     ghost use Rattle.std.specs.Prelude.{◌≡◌, ◌≤◌, All, IfOk, map};
     ghost use Rattle.path_glob.specs.Faults.{Said};
     ghost use Rattle.metric_index.specs.Found.{IsFitted};
     ghost use Rattle.metric_table.specs.Table.{seen};
     ghost use Rattle.series_fetch.specs.Window.{IsWindow};
     ghost use Rattle.point_cache.specs.Points.{IsRising};
+    ghost use Rattle.shard_core.specs.Halves.{FilesInside, both, desk_of};
     ghost use Rattle.shard_core.specs.Looks.{IsFoundIn, IsReadableLook, IsSoundLook, LooksAt, LooksAtFound, MayRead, looked_as, looked_in};
-    ghost use Rattle.shard_core.specs.View.{inside_of};
 
     /// The metrics that a glob fits, at the moment `now`, for a question from a moment until
     /// another, all in seconds since the Unix epoch: in byte order of their paths, and without
@@ -29,28 +28,28 @@ impl<D: Disk> Shard<D> {
     ) -> Result<Vec<Looked>, AllocError>
         requires order { from ≤ until }
         requires now { now ≤ 4_000_000_000 }
-        ensures looks { IfOk result
-            (λ looked. LooksAt (inside_of self.now) (IsFitted glob.now) now from until
+        ensures looks { IfOk result (λ looked. (files : FilesInside)
+            → LooksAt (both (desk_of self.now) files) (IsFitted glob.now) now from until
             looked.items) }
-        ensures readable { IfOk result
-            (λ looked. All (MayRead (inside_of self.now)) looked.items) }
+        ensures readable { IfOk result (λ looked. (files : FilesInside)
+            → All (MayRead (both (desk_of self.now) files)) looked.items) }
     {
         let found = self.find(glob)?;
         self.look_at(&found, from, until, now)
     }
 
     /// The known metrics that a glob fits, in byte order of their paths. What is found can be
-    /// counted by [`count_found`](crate::count_found) and looked at by [`Shard::look_at`].
+    /// counted by [`count_found`](crate::count_found) and looked at by [`Desk::look_at`].
     pub fn find(&self, glob: &Verdicts<'_>) -> Result<Vec<FoundMetric<'_>>, AllocError>
-        ensures { IfOk result
-            (λ found. IsFoundIn (inside_of self.now) (IsFitted glob.now) found.items) }
+        ensures { IfOk result (λ found. (files : FilesInside)
+            → IsFoundIn (both (desk_of self.now) files) (IsFitted glob.now) found.items) }
     {
         // Each path is legal, and they rise.
         let _ = self.table.len();
         self.table.find(self.alloc, glob)
     }
 
-    /// What [`Shard::look`] tells of metrics that were found, for a question from a moment until
+    /// What [`Desk::look`] tells of metrics that were found, for a question from a moment until
     /// another at the moment `now`: those of which the question has buckets, in the order in which
     /// they were found. The disk is not read.
     pub fn look_at(
@@ -62,11 +61,11 @@ impl<D: Disk> Shard<D> {
     ) -> Result<Vec<Looked>, AllocError>
         requires order { from ≤ until }
         requires now { now ≤ 4_000_000_000 }
-        ensures looks { IfOk result
-            (λ looked. LooksAtFound (inside_of self.now) found.now now from until looked.items) }
-        ensures readable { IfOk result (λ looked. (glob : Said)
-            → IsFoundIn (inside_of self.now) (IsFitted glob) found.now
-            → All (MayRead (inside_of self.now)) looked.items) }
+        ensures looks { IfOk result (λ looked. (files : FilesInside)
+            → LooksAtFound (both (desk_of self.now) files) found.now now from until looked.items) }
+        ensures readable { IfOk result (λ looked. (files : FilesInside) (glob : Said)
+            → IsFoundIn (both (desk_of self.now) files) (IsFitted glob) found.now
+            → All (MayRead (both (desk_of self.now) files)) looked.items) }
         ensures sound { IfOk result (λ looked. All IsReadableLook looked.items) }
     {
         self.look_at_each(found, from, until, now)

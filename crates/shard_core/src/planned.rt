@@ -16,6 +16,17 @@ pub enum Planned {
     NoMemory,
 }
 
+/// How a drain began, or not, whose patch was made before.
+#[derive(Drop)]
+pub enum Begun {
+    /// This metric's points left the cache, and are to be written.
+    Took(MetricPath),
+    /// Another metric goes next, or it is not as it was. All is as before.
+    Changed,
+    /// There was no memory. All is as before.
+    NoMemory,
+}
+
 /// How the write of a run ended.
 #[derive(Clone, Copy, Debug, PartialEq, Eq)]
 pub enum Wrote {

@@ -4,34 +4,31 @@ ghost use Rattle.metric_index.specs.Index.{Sets};
 ghost use Rattle.metric_table.specs.Table.{undrained};
 ghost use Rattle.schema_rules.specs.LayoutBy.{layout_by};
 
-use crate::shard::Shard;
+use crate::desk::Desk;
 use metric_line::Datum;
 use metric_path::MetricPath;
 use metric_table::MetricTable;
-use outside_io::Disk;
 use point_cache::Put;
 use schema_rules::Rules;
 use std::alloc::{AllocError, Global};
 
-impl<D: Disk> Shard<D> {
+impl Desk {
     ghost use Rattle.std.specs.Prelude.{◌≡◌, None, Some, IsSome, is_some, position};
     ghost use Rattle.std.specs.Str.{bytes_eq};
     ghost use Rattle.metric_path.specs.Class.{class_of};
     ghost use Rattle.metric_index.specs.Index.{entry_of};
     ghost use Rattle.point_cache.specs.Pending.{HasRoom, place_of};
-    ghost use Rattle.shard_core.specs.Puts.{TakesPoint};
-    ghost use Rattle.shard_core.specs.Shard.{KeepsLayouts};
-    ghost use Rattle.shard_core.specs.View.{OnlyPuts, inside_of};
+    ghost use Rattle.shard_core.specs.Halves.{desk_of};
+    ghost use Rattle.shard_core.specs.Puts.{DeskTakes, OnlyTakes};
 
     /// Puts a point of a metric line, whose path is of this class. The layout of a metric is
     /// settled at its first stored point: it is that of what is kept of it, or else what the rules
-    /// give it. The disk stays as it is.
+    /// give it.
     pub fn put(&mut self, datum: &Datum) -> Put
         requires { class_of datum.now.path ≡ self.old.class }
-        ensures put { TakesPoint (inside_of self.old) (inside_of self.new)
+        ensures put { DeskTakes (desk_of self.old) (desk_of self.new)
             datum.now.path datum.now.time datum.now.value result }
-        ensures layouts { KeepsLayouts (inside_of self.old) (inside_of self.new) }
-        ensures others { OnlyPuts self.old self.new }
+        ensures others { OnlyTakes (desk_of self.old) (desk_of self.new) }
     {
         if let Some(place) = self.cache.place_of(&datum.path) {
             return self.put_pending(place, datum);
@@ -49,10 +46,9 @@ impl<D: Disk> Shard<D> {
         requires here { class_of datum.now.path ≡ self.old.class }
         requires place { position (bytes_eq datum.now.path) self.old.cache.places ≡ Some place }
         requires pending { IsSome (place_of self.old.cache.metrics datum.now.path) }
-        ensures put { TakesPoint (inside_of self.old) (inside_of self.new)
+        ensures put { DeskTakes (desk_of self.old) (desk_of self.new)
             datum.now.path datum.now.time datum.now.value result }
-        ensures layouts { KeepsLayouts (inside_of self.old) (inside_of self.new) }
-        ensures others { OnlyPuts self.old self.new }
+        ensures others { OnlyTakes (desk_of self.old) (desk_of self.new) }
     {
         // Each has points, and a path is legal.
         let _ = self.cache.metrics();
@@ -72,10 +68,9 @@ impl<D: Disk> Shard<D> {
     fn put_listed(&mut self, datum: &Datum) -> Put
         requires here { class_of datum.now.path ≡ self.old.class }
         requires known { HasRoom self.old.cache → IsSome (entry_of self.old.table datum.now.path) }
-        ensures put { TakesPoint (inside_of self.old) (inside_of self.new)
+        ensures put { DeskTakes (desk_of self.old) (desk_of self.new)
             datum.now.path datum.now.time datum.now.value result }
-        ensures layouts { KeepsLayouts (inside_of self.old) (inside_of self.new) }
-        ensures others { OnlyPuts self.old self.new }
+        ensures others { OnlyTakes (desk_of self.old) (desk_of self.new) }
     {
         let _ = datum.path.text();
         self.cache.put(&datum.path, datum.time, datum.value)
@@ -87,10 +82,9 @@ impl<D: Disk> Shard<D> {
         requires here { class_of datum.now.path ≡ self.old.class }
         requires room { HasRoom self.old.cache }
         requires new { entry_of self.old.table datum.now.path ≡ None }
-        ensures put { TakesPoint (inside_of self.old) (inside_of self.new)
+        ensures put { DeskTakes (desk_of self.old) (desk_of self.new)
             datum.now.path datum.now.time datum.now.value result }
-        ensures layouts { KeepsLayouts (inside_of self.old) (inside_of self.new) }
-        ensures others { OnlyPuts self.old self.new }
+        ensures others { OnlyTakes (desk_of self.old) (desk_of self.new) }
     {
         let _ = datum.path.text();
         match list_metric(self.alloc, &mut self.table, &self.rules, &datum.path) {

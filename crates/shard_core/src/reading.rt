@@ -8,8 +8,9 @@ ghost use Rattle.series_fetch.specs.Shown.{shown};
 ghost use Rattle.series_fetch.specs.Window.{IsWindow};
 ghost use Rattle.shard_core.specs.Reads.{ShowsPending, patch_for};
 
-use crate::looked::{LookFault, Looked};
-use crate::shard::Shard;
+use crate::desk::Desk;
+use crate::files::Files;
+use crate::looked::Looked;
 use carbon_model::Values;
 use fixed_num::Milli;
 use metric_path::MetricPath;
@@ -20,55 +21,74 @@ use series_fetch::fetch;
 use std::alloc::Global;
 use write_shelf::Shelf;
 
-impl<D: Disk> Shard<D> {
-    ghost use Rattle.std.specs.Prelude.{◌≡◌, None, IfOk, IsErrOf, IsSomeAnd};
-    ghost use Rattle.outside_io.specs.Frames.{ReadsOnly};
+impl Desk {
+    ghost use Rattle.std.specs.Prelude.{◌≡◌, ◌≢◌, IfErr, IfOk, IsSomeAnd};
     ghost use Rattle.metric_index.specs.Index.{entry_of};
-    ghost use Rattle.shard_core.specs.Looks.{MayRead};
-    ghost use Rattle.shard_core.specs.Reads.{ReadsTo, Shows};
-    ghost use Rattle.shard_core.specs.Table.{kept_layout};
-    ghost use Rattle.shard_core.specs.View.{inside_of};
+    ghost use Rattle.shard_core.specs.Reads.{IsKept};
+    ghost use Rattle.shard_core.specs.Table.{drains_in};
 
-    /// The values of the buckets that a look found, of the points that were pending then over what
-    /// is kept of the metric: those of its file, read through the patch that is being written where
-    /// that is the metric's. A metric of which nothing is kept reads no disk. One that was drained
-    /// since the look has moved.
-    pub fn read(&mut self, looked: &Looked) -> Result<Values, LookFault>
-        requires { MayRead (inside_of self.old) looked.now }
-        ensures reads { ReadsTo (inside_of self.old) looked.now result }
-        ensures same { inside_of self.new ≡ inside_of self.old }
-        ensures unread { kept_layout self.old.table looked.now.path ≡ None
-            → self.new.disk ≡ self.old.disk }
-        ensures frame { ReadsOnly D.Disk self.old.disk self.new.disk
-            (IsErrOf result LookFault.DiskFault) }
+    /// Whether something is kept of a metric that was looked at. At `Err` it was drained since, and
+    /// so often in all.
+    pub fn recall(&self, looked: &Looked) -> Result<bool, u64>
+        requires { IsSomeAnd (entry_of self.now.table looked.now.path)
+            (λ known. known.layout ≡ looked.now.layout) }
+        ensures same { IfOk result
+            (λ is_kept. drains_in self.now.table looked.now.path ≡ looked.now.drains) }
+        ensures kept { IfOk result (IsKept self.now.table looked.now.path) }
+        ensures moved { IfErr result
+            (λ drains. (drains_in self.now.table looked.now.path ≡ drains)
+            × (drains ≢ looked.now.drains)) }
     {
         let Some(known) = self.table.get(&looked.path) else {
             unreachable!()
         };
         if known.drains != looked.drains {
-            return Err(LookFault::Moved(known.drains));
+            return Err(known.drains);
         }
-        match self.fetch_looked(looked, known.is_kept) {
+        Ok(known.is_kept)
+    }
+}
+
+impl<D: Disk> Files<D> {
+    ghost use Rattle.std.specs.Prelude.{◌≡◌, None, IfOk, IsErrOf};
+    ghost use Rattle.outside_io.specs.Frames.{ReadsOnly};
+    ghost use Rattle.shard_core.specs.Halves.{DeskInside, both, files_of};
+    ghost use Rattle.shard_core.specs.Reads.{MayBeFetched, MayFetch, Shows};
+    ghost use Rattle.shard_core.specs.Table.{kept_layout};
+
+    /// The values of a metric that was looked at, of which the desk says whether something is kept:
+    /// the looked points over what is kept, which is its file, read through the patch that is being
+    /// written where that is the metric's. A metric of which nothing is kept reads no disk.
+    pub fn fetch_looked(&mut self, looked: &Looked, is_kept: bool) -> Result<Values, RingFault>
+        requires { MayBeFetched (files_of self.old) looked.now is_kept }
+        ensures shows { IfOk result (λ values. (desk : DeskInside)
+            → MayFetch desk (files_of self.old) looked.now is_kept
+            → Shows (both desk (files_of self.old)) looked.now values) }
+        ensures unread { (desk : DeskInside) → MayFetch desk (files_of self.old) looked.now is_kept
+            → kept_layout desk.table looked.now.path ≡ None → self.new.disk ≡ self.old.disk }
+        ensures same { files_of self.new ≡ files_of self.old }
+        ensures frame { ReadsOnly D.Disk self.old.disk self.new.disk
+            (IsErrOf result RingFault.DiskFault) }
+    {
+        match self.fetch_values(looked, is_kept) {
             Ok(values) => Ok(Values::new(values)),
-            Err(RingFault::DiskFault) => Err(LookFault::DiskFault),
-            Err(RingFault::NoMemory) => Err(LookFault::NoMemory),
+            Err(fault) => Err(fault),
         }
     }
 
-    // The values of a metric that was looked at, of which something is kept or not.
-    fn fetch_looked(
+    // The same as a list.
+    fn fetch_values(
         &mut self,
         looked: &Looked,
         is_kept: bool,
     ) -> Result<Vec<Option<Milli>>, RingFault>
-        requires may { MayRead (inside_of self.old) looked.now }
-        requires kept { IsSomeAnd (entry_of self.old.table looked.now.path)
-            (λ known. known.is_kept ≡ is_kept) }
-        ensures shows { IfOk result
-            (λ values. Shows (inside_of self.old) looked.now values.items) }
-        ensures unread { kept_layout self.old.table looked.now.path ≡ None
-            → self.new.disk ≡ self.old.disk }
-        ensures same { inside_of self.new ≡ inside_of self.old }
+        requires { MayBeFetched (files_of self.old) looked.now is_kept }
+        ensures shows { IfOk result (λ values. (desk : DeskInside)
+            → MayFetch desk (files_of self.old) looked.now is_kept
+            → Shows (both desk (files_of self.old)) looked.now values.items) }
+        ensures unread { (desk : DeskInside) → MayFetch desk (files_of self.old) looked.now is_kept
+            → kept_layout desk.table looked.now.path ≡ None → self.new.disk ≡ self.old.disk }
+        ensures same { files_of self.new ≡ files_of self.old }
         ensures frame { ReadsOnly D.Disk self.old.disk self.new.disk
             (IsErrOf result RingFault.DiskFault) }
     {

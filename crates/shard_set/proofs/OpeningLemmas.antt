@@ -53,7 +53,7 @@ sound_below : {D : Type 0} {d : Ghosts D} (settings : Settings) (k : ℕ) (o : O
     → IfSome p (λ disk. IfSome (d.image disk) (IsSoundDisk k))
 sound_below settings k None p there started = absurd (there refl)
 sound_below settings k (Some s) None there started = absurd started
-sound_below {d = d} settings k (Some s) (Some disk) there started = sound_image k (d.image disk) s.table started.opens
+sound_below {d = d} settings k (Some s) (Some disk) there started = sound_image k (d.image disk) s.desk.table started.opens
 
 -- a fact of a disk's image, of what is told of its class
 told_at : {D : Type 0} (image : D → Option Image) (o : Option D) (P : Image → Type 0) → IfSome o (λ disk. IfSome (image disk) P) → IfSome (option_and_then image o) P
@@ -62,23 +62,23 @@ told_at image (Some disk) P holds = holds
 
 -- ---- a refusal
 
-same_there : {D : Type 0} {d : Ghosts D} (settings : Settings) (k : ℕ) (o : Option (Shard D d)) (p : Option D) → IfSome o (λ s. IsSomeAnd p (λ disk. StartedFrom k settings disk s)) → IfSome o (λ s. IsSomeAnd p (λ disk. d.image s.disk ≡ d.image disk))
+same_there : {D : Type 0} {d : Ghosts D} (settings : Settings) (k : ℕ) (o : Option (Shard D d)) (p : Option D) → IfSome o (λ s. IsSomeAnd p (λ disk. StartedFrom k settings disk s)) → IfSome o (λ s. IsSomeAnd p (λ disk. d.image s.files.disk ≡ d.image disk))
 same_there settings k None p started = tt
 same_there settings k (Some s) None started = absurd started
 same_there settings k (Some s) (Some disk) started = started.same
 
-same_images : {D : Type 0} {d : Ghosts D} (disks given : List D) (shards : List (Shard D d)) → ((k : ℕ) → IfSome (slice_get shards k) (λ s. IsSomeAnd (slice_get disks k) (λ disk. d.image s.disk ≡ d.image disk)))
-    → map d.image given ≡ map d.image (drop (length shards) disks) → map d.image (map (λ s. s.disk) shards ++ given) ≡ map d.image disks
+same_images : {D : Type 0} {d : Ghosts D} (disks given : List D) (shards : List (Shard D d)) → ((k : ℕ) → IfSome (slice_get shards k) (λ s. IsSomeAnd (slice_get disks k) (λ disk. d.image s.files.disk ≡ d.image disk)))
+    → map d.image given ≡ map d.image (drop (length shards) disks) → map d.image (map (λ s. s.files.disk) shards ++ given) ≡ map d.image disks
 same_images disks given [] same e = e
 same_images [] given (s ∷ shards) same e = absurd (same 0)
 same_images (x ∷ disks) given (s ∷ shards) same e = cc (same 0, same_images disks given shards (λ k. same (suc k)) e)
 
-behind_disks : {D : Type 0} {d : Ghosts D} (shards : List (Shard D d)) (disk : D) (rest : List D) → slice_get (map (λ s. s.disk) shards ++ disk ∷ rest) (length shards) ≡ Some disk
+behind_disks : {D : Type 0} {d : Ghosts D} (shards : List (Shard D d)) (disk : D) (rest : List D) → slice_get (map (λ s. s.files.disk) shards ++ disk ∷ rest) (length shards) ≡ Some disk
 behind_disks [] disk rest = refl
 behind_disks (s ∷ shards) disk rest = behind_disks shards disk rest
 
 refused_at : {D : Type 0} {d : Ghosts D} (settings : Settings) (refusal : Refusal) (disks left left' : List D) (shards shards' : List (Shard D d)) → AreStarted settings disks shards → left ≡ drop (length shards) disks → RefusesNext refusal.fault left shards shards' left'
-    → length shards ≡ refusal.class → HandsBack d disks (map (λ s. s.disk) shards ++ left') refusal
+    → length shards ≡ refusal.class → HandsBack d disks (map (λ s. s.files.disk) shards ++ left') refusal
 refused_at {d = d} settings refusal disks left left' shards shards' started rest next count =
     let first = first_left (length shards) disks next.rest next.disk (sym next.taken ∙ rest) in record {
       same = same_images disks left' shards (λ k. same_there settings k (slice_get shards k) (slice_get disks k) (started k))
@@ -89,9 +89,9 @@ refused_at {d = d} settings refusal disks left left' shards shards' started rest
     }
 
 pub handed_back : {D : Type 0} {d : Ghosts D} (settings : Settings) (refusal : Refusal) (disks left left' back : List D) (shards shards' : List (Shard D d)) → AreStarted settings disks shards → left ≡ drop (length shards) disks
-    → RefusesNext refusal.fault left shards shards' left' → back ≡ map (λ s. s.disk) shards' ++ left' → length shards ≡ refusal.class → HandsBack d disks back refusal
+    → RefusesNext refusal.fault left shards shards' left' → back ≡ map (λ s. s.files.disk) shards' ++ left' → length shards ≡ refusal.class → HandsBack d disks back refusal
 handed_back {d = d} settings refusal disks left left' back shards shards' started rest next given count =
-    subst (λ xs. HandsBack d disks xs refusal) (sym (given ∙ ap (λ xs. map (λ s. s.disk) xs ++ left') next.none))
+    subst (λ xs. HandsBack d disks xs refusal) (sym (given ∙ ap (λ xs. map (λ s. s.files.disk) xs ++ left') next.none))
     (refused_at settings refusal disks left left' shards shards' started rest next count)
 
 told_alike : {D : Type 0} (image : D → Option Image) (o p : Option D) → option_map image o ≡ option_map image p → option_and_then image o ≡ option_and_then image p
@@ -117,14 +117,14 @@ refuses_all {d = d} disks back refusal all few hands = record {
 -- ---- all shards
 
 fewer : {D : Type 0} {d : Ghosts D} (settings : Settings) (k : ℕ) (o : Option (Shard D d)) (p : Option D) → (o ≡ None → p ≡ None) → IfSome o (λ s. IsSomeAnd p (λ disk. StartedFrom k settings disk s))
-    → option_map_or d.faults p 0 ≤ option_map_or (λ s. d.faults s.disk) o 0
+    → option_map_or d.faults p 0 ≤ option_map_or (λ s. d.faults s.files.disk) o 0
 fewer settings k None None none started = omega arith
 fewer settings k None (Some disk) none started = absurd (none-some disk (sym (none refl)))
 fewer settings k (Some s) None none started = absurd started
 fewer settings k (Some s) (Some disk) none started = started.later
 
 still_tells : {D : Type 0} {d : Ghosts D} (settings : Settings) (k : ℕ) (o : Option (Shard D d)) (p : Option D) → (o ≡ None → p ≡ None) → IfSome o (λ s. IsSomeAnd p (λ disk. StartedFrom k settings disk s))
-    → option_and_then (λ s. d.image s.disk) o ≡ option_and_then d.image p
+    → option_and_then (λ s. d.image s.files.disk) o ≡ option_and_then d.image p
 still_tells settings k None None none started = refl
 still_tells settings k None (Some disk) none started = absurd (none-some disk (sym (none refl)))
 still_tells settings k (Some s) None none started = absurd started

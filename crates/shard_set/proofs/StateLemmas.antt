@@ -51,7 +51,7 @@ kept_shown : {D : Type 0} {d : Ghosts D} (settings : Settings) (k : ℕ) (o : Op
     → IfSome (option_and_then d.image p) (λ image. of_legal (path_fault path) (option_and_then (λ s. kept_by s path) o) ≡ kept_at image path)
 kept_shown settings k None p path there started = absurd (there refl)
 kept_shown settings k (Some s) None path there started = absurd started
-kept_shown {d = d} settings k (Some s) (Some disk) path there started = shown_by (d.image disk) (d.image s.disk) s.table path started.same
+kept_shown {d = d} settings k (Some s) (Some disk) path there started = shown_by (d.image disk) (d.image s.files.disk) s.desk.table path started.same
 
 layouts_kept : (o : Option LayoutValue) → option_map (λ (k : Kept). k.layout) (option_map (λ (layout : LayoutValue). record { layout = layout; rings = no_rings }) o) ≡ o
 layouts_kept None = refl
@@ -105,12 +105,12 @@ opens_run {d = d} settings told disks shards all started tells =
     }
 
 ready_at : {D : Type 0} {d : Ghosts D} (settings : Settings) (told : ℕ → Option Image) (s : State) (earlier : ℕ → ℕ) (k : ℕ) (shard : Shard D d) (p : Option D) → told k ≡ option_and_then d.image p → IsSomeAnd p (λ disk. StartedFrom k settings disk shard)
-    → Opens settings told s → ((path : List ℕ) → IsOfClass k path → s.kept path ≡ kept_by shard path) → earlier k ≡ d.faults shard.disk → IsReadyShard told s earlier k shard
+    → Opens settings told s → ((path : List ℕ) → IsOfClass k path → s.kept path ≡ kept_by shard path) → earlier k ≡ d.faults shard.files.disk → IsReadyShard told s earlier k shard
 ready_at settings told s earlier k shard None tells started opens kept faults = absurd started
 ready_at {d = d} settings told s earlier k shard (Some disk) tells started opens kept faults = record {
   class = started.here;
   empty = started.empty;
-  holds = started_holds k settings told s disk shard started opens (sym tells) (laid_out k (told k) (d.image shard.disk) shard.table s.kept (started.same ∙ sym tells) kept);
+  holds = started_holds k settings told s disk shard started opens (sym tells) (laid_out k (told k) (d.image shard.files.disk) shard.desk.table s.kept (started.same ∙ sym tells) kept);
   faults = faults;
 }
 
@@ -120,4 +120,4 @@ all_ready {d = d} settings told disks shards all started tells k shard there =
     ready_at settings told (opening_of shards) (faults_at shards) k shard (slice_get disks k) (tells k)
     (subst (λ o. IfSome o (λ s. IsSomeAnd (slice_get disks k) (λ disk. StartedFrom k settings disk s))) there (started k))
     (opens_run settings told disks shards all started tells) (λ path one. kept_here shards k shard path there one)
-    (ap (λ o. option_map_or (λ s. d.faults s.disk) o 0) there)
+    (ap (λ o. option_map_or (λ s. d.faults s.files.disk) o 0) there)

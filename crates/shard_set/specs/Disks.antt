@@ -11,7 +11,7 @@ told_of image disks k = option_and_then image (slice_get disks k)
 
 -- the same of the disk over which the shard of the class is
 abbrev pub told_at : {D : Type 0} {d : Ghosts D} → List (Shard D d) → ℕ → Option Image
-told_at {D} {d} shards k = option_and_then (λ shard. d.image shard.disk) (slice_get shards k)
+told_at {D} {d} shards k = option_and_then (λ shard. d.image shard.files.disk) (slice_get shards k)
 
 -- the count of failed calls of the disk of a class
 abbrev pub disk_faults : {D : Type 0} → (D → ℕ) → List D → ℕ → ℕ
@@ -19,4 +19,4 @@ disk_faults faults disks k = option_map_or faults (slice_get disks k) 0
 
 -- the same of the disk over which the shard of the class is
 abbrev pub faults_at : {D : Type 0} {d : Ghosts D} → List (Shard D d) → ℕ → ℕ
-faults_at {D} {d} shards k = option_map_or (λ shard. d.faults shard.disk) (slice_get shards k) 0
+faults_at {D} {d} shards k = option_map_or (λ shard. d.faults shard.files.disk) (slice_get shards k) 0

@@ -19,7 +19,7 @@ kept_from None table path =
     option_map (λ layout. record { layout = layout; rings = no_rings }) (kept_layout table path)
 
 abbrev pub kept_by : {D : Type 0} {d : Ghosts D} → Shard D d → List ℕ → Option Kept
-kept_by {D} {d} shard path = kept_from (d.image shard.disk) shard.table path
+kept_by {D} {d} shard path = kept_from (d.image shard.files.disk) shard.desk.table path
 
 -- What is fixed for the run: all shards have the same, and so the first has it.
 abbrev pub settings_in : {D : Type 0} {d : Ghosts D} → List (Shard D d) → Settings
@@ -29,9 +29,9 @@ settings_in [] = record {
   strategy = Naive;
 }
 settings_in (shard ∷ shards) = record {
-  rules = layout_by shard.rules;
-  limit = shard.cache.limit;
-  strategy = shard.picker.strategy;
+  rules = layout_by shard.desk.rules;
+  limit = shard.desk.cache.limit;
+  strategy = shard.desk.picker.strategy;
 }
 
 -- The state in which a run begins over these shards: nothing is pending and nothing was drained. Of

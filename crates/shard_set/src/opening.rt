@@ -41,7 +41,7 @@ pub fn start_all<D: Disk>(
 pub fn hand_back<D: Disk>(shards: Vec<Shard<D>>, room: Vec<D>) -> Vec<D>
     requires empty { vec_len room ≡ 0 }
     requires room { vec_len shards ≤ vec_capacity room }
-    ensures { result.items ≡ map (λ shard. shard.disk) shards.items }
+    ensures { result.items ≡ map (λ shard. shard.files.disk) shards.items }
 {
     put_before(shards, room)
 }
@@ -133,7 +133,7 @@ fn start_one<D: Disk>(
 // Puts the disks of the shards before the others, in a list that has room for all.
 fn put_before<D: Disk>(shards: Vec<Shard<D>>, disks: Vec<D>) -> Vec<D>
     requires { vec_len shards + vec_len disks ≤ vec_capacity disks }
-    ensures { result.items ≡ map (λ shard. shard.disk) shards.items ++ disks.items }
+    ensures { result.items ≡ map (λ shard. shard.files.disk) shards.items ++ disks.items }
 {
     let mut shards = shards;
     let mut disks = disks;

@@ -21,8 +21,9 @@ use Rattle.shared_store.specs.declared.ask_fault.AskFault.TheVariants.{DiskFault
 use Rattle.shared_store.specs.declared.try_end.TryEnd.{TryEnd}
 use Rattle.shared_store.specs.declared.try_end.TryEnd.TheVariants.{Moved, Ended}
 use Rattle.std.specs.declared.sync.MutexGuard.{MutexGuard}
-use Rattle.shared_store.specs.Desks.{DeskValue}
-use Rattle.shared_store.specs.Asking.{AnswersTry, AreDesksOf, Counts, EndsAs, HasNotMoved, IsHeld, IsLookAt, IsNoMove, IsSeriesAt, IsSeriesOf, IsShortLook, IsWithin, KeepsDesks, OnlyLooks, Pairwise, ReadsAll, ReadsAt, ReadsOne, ReadsSet, ReadsWell, ShowsAt, Stops, all_series}
+use Rattle.shared_store.specs.Held.{AreFilesOf, IsHeld, KeepsFilesHeld}
+use Rattle.shared_store.specs.Locks.{FilesValue}
+use Rattle.shared_store.specs.Asking.{AnswersTry, Counts, EndsAs, HasNotMoved, IsLookAt, IsNoMove, IsSeriesAt, IsSeriesOf, IsShortLook, IsWithin, OnlyLooks, Pairwise, ReadsAll, ReadsAt, ReadsOne, ReadsSet, ReadsWell, ShowsAt, Stops, all_series}
 use Rattle.shared_store.proofs.AskFoundLemmas.{FoundOf, are_rows, few_found, found_within, has_rows, pairwise_more, path_in}
 use Rattle.shared_store.proofs.AskPassLemmas.{fault_behind, only_both}
 
@@ -156,13 +157,13 @@ held_still : (n m : ℕ) → n ≡ m → (m ≡ 0) ⊎ (m ≡ 16) → (n ≡ 0) 
 held_still n m e (inl none) = inl (e ∙ none)
 held_still n m e (inr all) = inr (e ∙ all)
 
-pub is_still_held : (old mid : PassValue) (before now : List (MutexGuard DeskValue)) → OnlyLooks old mid → IsHeld old.seen before → KeepsDesks old.seen before now → IsHeld mid.seen now
+pub is_still_held : (old mid : PassValue) (before now : List (MutexGuard FilesValue)) → OnlyLooks old mid → IsHeld old.seen before → KeepsFilesHeld old.seen before now → IsHeld mid.seen now
 is_still_held old mid before now only held keeps =
     subst (λ (l : List Entry). IsHeld l now) (sym only.seen) (keeps.0, held_still (length now) (length before) keeps.1 held.1)
 
-pub keeps_both : (old mid : PassValue) (first before now : List (MutexGuard DeskValue)) → OnlyLooks old mid → KeepsDesks old.seen first before → KeepsDesks mid.seen before now
-    → KeepsDesks old.seen first now
-keeps_both old mid first before now only p q = (subst (λ (l : List Entry). AreDesksOf l now) only.seen q.0, q.1 ∙ p.1)
+pub keeps_both : (old mid : PassValue) (first before now : List (MutexGuard FilesValue)) → OnlyLooks old mid → KeepsFilesHeld old.seen first before → KeepsFilesHeld mid.seen before now
+    → KeepsFilesHeld old.seen first now
+keeps_both old mid first before now only p q = (subst (λ (l : List Entry). AreFilesOf l now) only.seen q.0, q.1 ∙ p.1)
 
 -- ---- the answer of a try
 

@@ -198,38 +198,6 @@ module _ (table : TableId) (told : ℕ → Option Image) (start : State) (faults
       (subst (λ (n : ℕ). capped (faults old.class + n) ≤ later) (sym (one_fault tail.list e refl))
       (cap_one old.class (count_by is_fault tail.list) failed later keeps.faults rose))
 
-  -- ---- a put
-
-  pub put_may : (shard new : Inside) (failed : ℕ) (tail : TailValue) (pass : PassValue) (path : List ℕ) (time : ℕ) (value : ℤ) (put : Put)
-      → KeepsClass table told start faults shard failed tail → HasRoom pass → class_of path ≡ tail.class → TakesPoint shard new path time value put
-      → IfSome (put_entry pass.number path time value put) (MayTell start pass tail)
-  put_may shard new failed tail pass path time value put.Stored keeps room here takes = record {
-    may = record { about = eq-eqb (class_of path) tail.class here; room = omega (arith, room); settled = λ is. absurd (false≢true is) };
-    legal = (takes (told shard.class) (replay start tail.list) keeps.holds pass.number).0;
-  }
-  put_may shard new failed tail pass path time value put.Replaced keeps room here takes = record {
-    may = record { about = eq-eqb (class_of path) tail.class here; room = omega (arith, room); settled = λ is. absurd (false≢true is) };
-    legal = (takes (told shard.class) (replay start tail.list) keeps.holds pass.number).0;
-  }
-  put_may shard new failed tail pass path time value put.Full keeps room here takes = record {
-    may = record { about = eq-eqb (class_of path) tail.class here; room = omega (arith, room); settled = λ is. absurd (false≢true is) };
-    legal = (takes (told shard.class) (replay start tail.list) keeps.holds pass.number).0;
-  }
-  put_may shard new failed tail pass path time value put.NoMemory keeps room here takes = tt
-
-  pub keeps_put : (old new : Inside) (failed later pass : ℕ) (tail : TailValue) (path : List ℕ) (time : ℕ) (value : ℤ) (put : Put)
-      → KeepsClass table told start faults old failed tail → TakesPoint old new path time value put
-      → new.class ≡ old.class → new.shelf ≡ old.shelf → failed ≤ later
-      → KeepsClass table told start faults new later (tail_told tail (put_entry pass path time value put))
-  keeps_put old new failed later pass tail path time value put.Stored keeps takes class shelf more =
-      keeps_quiet old new failed later tail (entry.Put pass path time value ends.Stored) keeps class shelf refl refl (takes (told old.class) (replay start tail.list) keeps.holds pass).1 more
-  keeps_put old new failed later pass tail path time value put.Replaced keeps takes class shelf more =
-      keeps_quiet old new failed later tail (entry.Put pass path time value ends.Replaced) keeps class shelf refl refl (takes (told old.class) (replay start tail.list) keeps.holds pass).1 more
-  keeps_put old new failed later pass tail path time value put.Full keeps takes class shelf more =
-      keeps_quiet old new failed later tail (entry.Put pass path time value ends.Full) keeps class shelf refl refl (takes (told old.class) (replay start tail.list) keeps.holds pass).1 more
-  keeps_put old new failed later pass tail path time value put.NoMemory keeps takes class shelf more =
-      keeps_still old new failed later tail keeps class shelf (takes (told old.class) (replay start tail.list) keeps.holds pass).1 more
-
   -- ---- a plan
 
   plan_fault_may : (pass : PassValue) (tail : TailValue) → HasRoom pass → MayTell start pass tail (entry.Fault pass.number tail.class)

@@ -2,9 +2,10 @@ mod DeskLemmas
 mod ClassLemmas
 mod DrainLemmas
 mod FreshLemmas
+mod HeldLemmas
 mod LookLemmas
-mod PutLemmas
-mod StartLemmas
+mod DeskPutLemmas
+pub mod StartLemmas
 mod CloseLemmas
 mod AskPassLemmas
 mod AskStateLemmas
@@ -13,10 +14,11 @@ mod AskCountLemmas
 mod AskChainLemmas
 mod AskReadLemmas
 mod AskSeriesLemmas
-pub mod EmptyLemmas
 mod NoteLemmas
 mod NameLemmas
 mod PieceLemmas
 mod RoomLemmas
 pub mod StoreCross
 mod FindLemmas
+mod FilesLemmas
+mod BothLemmas

@@ -8,13 +8,19 @@ use Rattle.carbon_history.specs.declared.entry.Entry.{Entry}
 use Rattle.carbon_history.specs.Entries.{drains}
 use Rattle.carbon_model.specs.State.{State}
 use Rattle.carbon_model.specs.Replay.{replay}
-use Rattle.shard_core.specs.Shard.{Holds}
+use Rattle.class_halves.specs.Parts.{HalfValue, half_with, stand_of}
+use Rattle.class_halves.specs.Views.{no_stand, stand}
+use Rattle.shard_core.specs.Halves.{AreHalves as AreHalvesOfShard, DeskInside, FilesInside, both}
+use Rattle.shard_core.specs.Shard.{Holds, Inside}
+use Rattle.shard_core.specs.Started.{IsReadyShard}
 use Rattle.shard_core.specs.View.{inside_of}
 use Rattle.shard_core.specs.declared.shard.Shard.{Shard}
 use Rattle.write_shelf.specs.Shelf.{DrainValue}
-use Rattle.shared_history.specs.Parts.{TailValue}
+use Rattle.shared_history.specs.Parts.{IsNewTail, TailValue}
 use Rattle.shared_store.specs.Desks.{KeepsClass, LastDrains, runs_ahead}
-use Rattle.shared_store.specs.Starts.{AreFreshClasses, IsFresh, IsFreshClass}
+use Rattle.shared_store.specs.Locks.{KeepsDesk, KeepsFiles}
+use Rattle.shared_store.specs.Starts.{AreFreshClasses, AreHalves, IsFresh, IsFreshClass, halves_at}
+use Rattle.shared_store.proofs.BothLemmas.{desk_keeps, files_keep}
 use Rattle.shared_store.specs.declared.start.Parts.{Parts}
 use Rattle.shared_store.specs.Tallies.{capped, is_fault}
 
@@ -30,9 +36,10 @@ runs_none runs ahead all none empty = omega (arith, none, empty)
 faults_none : (earlier count failed : ℕ) → count ≡ 0 → earlier ≡ failed → capped (earlier + count) ≤ failed
 faults_none earlier count failed none is = omega (arith, none, is)
 
-pub keeps_fresh : {D : Type 0} {d : Ghosts D} (table : TableId) (told : ℕ → Option Image) (start : State) (earlier : ℕ → ℕ) (tail : TailValue) (shard : Shard D d)
-    → IsFreshClass {d = d} table told start earlier tail shard → KeepsClass table told start earlier (inside_of shard) (d.faults shard.disk) tail
-keeps_fresh {D} {d} table told start earlier tail shard fresh =
+-- what both locks keep, before they are apart
+both_fresh : {D : Type 0} {d : Ghosts D} (table : TableId) (half_of : ℕ → TableId) (told : ℕ → Option Image) (start : State) (earlier : ℕ → ℕ) (tail : TailValue) (pair : TableId) (shard : Shard D d)
+    → IsFreshClass {d = d} table half_of told start earlier tail pair shard → KeepsClass table told start earlier (inside_of shard) (d.faults shard.files.disk) tail
+both_fresh {D} {d} table half_of told start earlier tail pair shard fresh =
     let t = fresh.new in
     let s = fresh.fresh in
     let owed = owed_none tail.settled (drains tail.list) t.settled (ap drains t.list) in record {
@@ -44,10 +51,39 @@ keeps_fresh {D} {d} table told start earlier tail shard fresh =
       settled = ((λ none. no_drains tail.settled tail.list t.list t.settled), (λ all. s.empty));
       owed = record { low = owed.0; high = owed.1 };
       last = subst (λ (o : Option DrainValue). IfSome o (λ drain. LastDrains drain.patch.path tail.list)) (sym s.empty) tt;
-      runs = runs_none tail.runs (runs_ahead shard.shelf) (drains tail.list) t.runs (ap runs_ahead s.empty);
-      faults = subst (λ (k : ℕ). capped (earlier k + count_by is_fault tail.list) ≤ d.faults shard.disk) (sym s.class)
-          (faults_none (earlier fresh.place) (count_by is_fault tail.list) (d.faults shard.disk) (ap (count_by is_fault) t.list) s.faults);
+      runs = runs_none tail.runs (runs_ahead shard.files.shelf) (drains tail.list) t.runs (ap runs_ahead s.empty);
+      faults = subst (λ (k : ℕ). capped (earlier k + count_by is_fault tail.list) ≤ d.faults shard.files.disk) (sym s.class)
+          (faults_none (earlier fresh.place) (count_by is_fault tail.list) (d.faults shard.files.disk) (ap (count_by is_fault) t.list) s.faults);
     }
+
+-- a half that knows of no entry knows of all of a new tail
+half_new : (tail : TailValue) (half : HalfValue) → tail.list ≡ [] → tail.settled ≡ 0 → tail.runs ≡ 0 → half.stand ≡ no_stand → half_with half (stand_of tail) ≡ half
+half_new tail half list settled runs none =
+    let is : stand_of tail ≡ half.stand = (λ i. stand (list i) (settled i) (runs i)) ∙ sym none in
+    λ i. half_with half (is i)
+
+module _ {D : Type 0} {d : Ghosts D} (table : TableId) (half_of : ℕ → TableId) (told : ℕ → Option Image) (start : State) (earlier : ℕ → ℕ) (tail : TailValue) (pair : TableId) (shard : Shard D d)
+    (fresh : IsFreshClass {d = d} table half_of told start earlier tail pair shard) (desk : DeskInside) (files : FilesInside) (half : HalfValue) (is : both desk files ≡ inside_of shard)
+    (tied : half.table ≡ pair) (none : half.stand ≡ no_stand) where
+  class_of_desk : desk.class ≡ fresh.place
+  class_of_desk = ap (λ (x : Inside). x.class) is ∙ fresh.fresh.class
+
+  keeps_both : KeepsClass table told start earlier (both desk files) (d.faults shard.files.disk) tail
+  keeps_both = subst (λ (x : Inside). KeepsClass table told start earlier x (d.faults shard.files.disk) tail) (sym is) (both_fresh {d = d} table half_of told start earlier tail pair shard fresh)
+
+  half_of_class : half.table ≡ half_of desk.class
+  half_of_class = tied ∙ (fresh.half ∙ ap half_of (sym class_of_desk))
+
+  pub fresh_desk : KeepsDesk table half_of start desk half tail
+  fresh_desk =
+      subst (λ (h : HalfValue). KeepsDesk table half_of start desk h tail) (half_new tail half fresh.new.list fresh.new.settled fresh.new.runs none)
+      (desk_keeps table half_of told start earlier desk files (d.faults shard.files.disk) half tail half_of_class keeps_both)
+
+  pub fresh_files : (failed : ℕ) → failed ≡ d.faults shard.files.disk → AreHalvesOfShard desk files → KeepsFiles half_of told start earlier files failed half
+  fresh_files failed same are =
+      subst (λ (h : HalfValue). KeepsFiles half_of told start earlier files failed h) (half_new tail half fresh.new.list fresh.new.settled fresh.new.runs none)
+      (files_keep table half_of told start earlier desk files failed half tail are (half_of_class ∙ ap half_of (sym are.one))
+      (subst (λ (n : ℕ). KeepsClass table told start earlier (both desk files) n tail) (sym same) keeps_both))
 
 -- ---- the last of them
 
@@ -63,49 +99,60 @@ get_last (y ∷ xs) x = get_last xs x
 less_one : {A : Type 0} (xs ys : List A) (x : A) (n : ℕ) → ys ≡ xs ++ x ∷ [] → length ys ≡ n + 1 → length xs ≡ n
 less_one xs ys x n is count = omega (arith, count, ap length is, length-append xs (x ∷ []))
 
-module _ {D : Type 0} {d : Ghosts D} (table : TableId) (told : ℕ → Option Image) (start : State) (earlier : ℕ → ℕ) (n : ℕ)
-    (tails tails' : List TailValue) (tail : TailValue) (shards shards' : List (Shard D d)) (shard : Shard D d) where
-  pub fresh_last : AreFreshClasses {d = d} table told start earlier (n + 1) tails' shards' → n < 16 → tails' ≡ tails ++ tail ∷ [] → shards' ≡ shards ++ shard ∷ []
-      → IsFreshClass {d = d} table told start earlier tail shard
-  fresh_last fresh few tails_are shards_are = record {
-    place = n;
-    within = few;
-    new = fresh.new_tails n tail (ap (λ (l : List TailValue). slice_get l n) tails_are
-        ∙ (ap (λ (k : ℕ). slice_get (tails ++ tail ∷ []) k) (sym (less_one tails tails' tail n tails_are fresh.tail_count)) ∙ get_last tails tail));
-    fresh = fresh.fresh_shards n shard (ap (λ (l : List (Shard D d)). slice_get l n) shards_are
-        ∙ (ap (λ (k : ℕ). slice_get (shards ++ shard ∷ []) k) (sym (less_one shards shards' shard n shards_are fresh.shard_count)) ∙ get_last shards shard));
+-- of n + 1 the last one, and all but that
+last_is : {A : Type 0} (P : ℕ → A → Type 0) (xs ys : List A) (x : A) (n : ℕ) → ys ≡ xs ++ x ∷ [] → length ys ≡ n + 1
+    → ((k : ℕ) (y : A) → slice_get ys k ≡ Some y → P k y) → P n x
+last_is {A} P xs ys x n is count each =
+    each n x (ap (λ (l : List A). slice_get l n) is ∙ (ap (λ (k : ℕ). slice_get (xs ++ x ∷ []) k) (sym (less_one xs ys x n is count)) ∙ get_last xs x))
+
+rest_are : {A : Type 0} (P : ℕ → A → Type 0) (xs ys : List A) (x : A) → ys ≡ xs ++ x ∷ [] → ((k : ℕ) (y : A) → slice_get ys k ≡ Some y → P k y)
+    → (k : ℕ) (y : A) → slice_get xs k ≡ Some y → P k y
+rest_are {A} P xs ys x is each k y e = each k y (ap (λ (l : List A). slice_get l k) is ∙ get_more xs (x ∷ []) k y e)
+
+module _ {D : Type 0} {d : Ghosts D} (table : TableId) (half_of : ℕ → TableId) (told : ℕ → Option Image) (start : State) (earlier : ℕ → ℕ) (k : ℕ)
+    (tails tails' : List TailValue) (tail : TailValue) (pairs pairs' : List TableId) (pair : TableId) (shards shards' : List (Shard D d)) (shard : Shard D d)
+    (fresh : AreFreshClasses {d = d} table half_of told start earlier (16 - k) tails' pairs' shards') (few : k < 16)
+    (tails_are : tails' ≡ tails ++ tail ∷ []) (pairs_are : pairs' ≡ pairs ++ pair ∷ []) (shards_are : shards' ≡ shards ++ shard ∷ []) where
+  one_before : AreFreshClasses {d = d} table half_of told start earlier ((15 - k) + 1) tails' pairs' shards'
+  one_before = subst (λ (n : ℕ). AreFreshClasses {d = d} table half_of told start earlier n tails' pairs' shards') (omega (arith, few)) fresh
+
+  pub fresh_here : IsFreshClass {d = d} table half_of told start earlier tail pair shard
+  fresh_here = record {
+    place = 15 - k;
+    within = omega (arith, few);
+    new = last_is (IsNewTail table) tails tails' tail (15 - k) tails_are one_before.tail_count one_before.new_tails;
+    half = last_is (λ n t. t ≡ half_of n) pairs pairs' pair (15 - k) pairs_are one_before.pair_count one_before.halves;
+    fresh = last_is (λ n s. IsReadyShard {d = d} told start earlier n s) shards shards' shard (15 - k) shards_are one_before.shard_count one_before.fresh_shards;
   }
 
-  pub fresh_rest : AreFreshClasses {d = d} table told start earlier (n + 1) tails' shards' → tails' ≡ tails ++ tail ∷ [] → shards' ≡ shards ++ shard ∷ []
-      → AreFreshClasses {d = d} table told start earlier n tails shards
-  fresh_rest fresh tails_are shards_are = record {
-    tail_count = less_one tails tails' tail n tails_are fresh.tail_count;
-    new_tails = λ k t e. fresh.new_tails k t (ap (λ (l : List TailValue). slice_get l k) tails_are ∙ get_more tails (tail ∷ []) k t e);
-    shard_count = less_one shards shards' shard n shards_are fresh.shard_count;
-    fresh_shards = λ k s e. fresh.fresh_shards k s (ap (λ (l : List (Shard D d)). slice_get l k) shards_are ∙ get_more shards (shard ∷ []) k s e);
-  }
+  pub fresh_left : AreFreshClasses {d = d} table half_of told start earlier (16 - (k + 1)) tails pairs shards
+  fresh_left =
+      subst (λ (n : ℕ). AreFreshClasses {d = d} table half_of told start earlier n tails pairs shards) (omega (arith, few))
+      (record {
+        tail_count = less_one tails tails' tail (15 - k) tails_are one_before.tail_count;
+        new_tails = rest_are (IsNewTail table) tails tails' tail tails_are one_before.new_tails;
+        pair_count = less_one pairs pairs' pair (15 - k) pairs_are one_before.pair_count;
+        halves = rest_are (λ n t. t ≡ half_of n) pairs pairs' pair pairs_are one_before.halves;
+        shard_count = less_one shards shards' shard (15 - k) shards_are one_before.shard_count;
+        fresh_shards = rest_are (λ n s. IsReadyShard {d = d} told start earlier n s) shards shards' shard shards_are one_before.fresh_shards;
+      })
 
-module _ {D : Type 0} {d : Ghosts D} (table : TableId) (told : ℕ → Option Image) (start : State) (earlier : ℕ → ℕ) (k : ℕ)
-    (tails tails' : List TailValue) (tail : TailValue) (shards shards' : List (Shard D d)) (shard : Shard D d) where
-  one_before : k < 16 → AreFreshClasses {d = d} table told start earlier (16 - k) tails' shards' → AreFreshClasses {d = d} table told start earlier ((15 - k) + 1) tails' shards'
-  one_before few fresh = subst (λ (n : ℕ). AreFreshClasses {d = d} table told start earlier n tails' shards') (omega (arith, few)) fresh
-
-  pub fresh_here : AreFreshClasses {d = d} table told start earlier (16 - k) tails' shards' → k < 16 → tails' ≡ tails ++ tail ∷ [] → shards' ≡ shards ++ shard ∷ []
-      → IsFreshClass {d = d} table told start earlier tail shard
-  fresh_here fresh few tails_are shards_are =
-      fresh_last table told start earlier (15 - k) tails tails' tail shards shards' shard (one_before few fresh) (omega (arith, few)) tails_are shards_are
-
-  pub fresh_left : AreFreshClasses {d = d} table told start earlier (16 - k) tails' shards' → k < 16 → tails' ≡ tails ++ tail ∷ [] → shards' ≡ shards ++ shard ∷ []
-      → AreFreshClasses {d = d} table told start earlier (16 - (k + 1)) tails shards
-  fresh_left fresh few tails_are shards_are =
-      subst (λ (n : ℕ). AreFreshClasses {d = d} table told start earlier n tails shards) (omega (arith, few))
-      (fresh_rest table told start earlier (15 - k) tails tails' tail shards shards' shard (one_before few fresh) tails_are shards_are)
-
-pub classes_of : {D : Type 0} {d : Ghosts D} (table : TableId) (passes : ℕ) (told : ℕ → Option Image) (start : State) (earlier : ℕ → ℕ) (parts : Parts D d)
-    → IsFresh {d = d} table passes told start earlier parts → AreFreshClasses {d = d} table told start earlier 16 parts.tails.items parts.shards.items
-classes_of table passes told start earlier parts fresh = record {
+pub classes_of : {D : Type 0} {d : Ghosts D} (table : TableId) (passes : ℕ) (half_of : ℕ → TableId) (told : ℕ → Option Image) (start : State) (earlier : ℕ → ℕ) (parts : Parts D d)
+    → IsFresh {d = d} table passes half_of told start earlier parts → AreFreshClasses {d = d} table half_of told start earlier 16 parts.tails.items parts.pairs.items parts.shards.items
+classes_of table passes half_of told start earlier parts fresh = record {
   tail_count = fresh.sixteen_tails;
   new_tails = fresh.new_tails;
+  pair_count = fresh.sixteen_pairs;
+  halves = fresh.pairs;
   shard_count = fresh.sixteen_shards;
   fresh_shards = fresh.fresh_shards;
 }
+
+-- the tables of these pairs are those that are picked for them
+pub picked : (pairs : List TableId) → AreHalves (halves_at pairs) pairs
+picked [] k table e = absurd cc
+picked (x ∷ xs) zero table e = sym (some_is x table e)
+  where
+    some_is : (a b : TableId) → Some a ≡ Some b → a ≡ b
+    some_is a b same = cc
+picked (x ∷ xs) (suc k) table e = picked xs k table e

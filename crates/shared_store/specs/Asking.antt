@@ -137,15 +137,6 @@ AreDesks desks =
 abbrev pub AreAllDesksOf : List Entry → List (MutexGuard DeskValue) → Type 0
 AreAllDesksOf list desks = AreDesksOf list desks × (length desks ≡ 16)
 
--- the locks of all classes are held, or none
-abbrev pub IsHeld : List Entry → List (MutexGuard DeskValue) → Type 0
-IsHeld list desks = AreDesksOf list desks × ((length desks ≡ 0) ⊎ (length desks ≡ 16))
-
--- as many desks, with the same entries
-abbrev pub KeepsDesks : List Entry → List (MutexGuard DeskValue) → List (MutexGuard DeskValue)
-    → Type 0
-KeepsDesks list old new = AreDesksOf list new × (length new ≡ length old)
-
 -- ---- counts
 
 -- how many buckets a look is about

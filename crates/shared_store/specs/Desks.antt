@@ -1,5 +1,5 @@
 -- What the lock of a class keeps.
-use Rattle.std.specs.Prelude.{Bool, ◌≡◌, ◌↔◌, ◌<◌, ◌≤◌, ◌+◌, ◌*◌, ℕ, List, ◌∷◌, ◌++◌, length, Option, None, IfSome, count_by}
+use Rattle.std.specs.Prelude.{◌≡◌, ◌↔◌, ◌<◌, ◌≤◌, ◌+◌, ◌*◌, ℕ, List, ◌∷◌, ◌++◌, length, Option, None, IfSome, count_by}
 use Rattle.std.specs.Option.{option_map_or}
 use Rattle.atomic_table.specs.Seated.{TableId}
 use Rattle.outside_io.specs.Image.{Image}
@@ -41,9 +41,7 @@ pub record KeepsClass (table : TableId) (told : ℕ → Option Image) (start : S
   pub runs : tail.runs + runs_ahead shard.shelf ≤ 5000000 * drains tail.list
   pub faults : capped (earlier shard.class + count_by is_fault tail.list) ≤ failed
 
--- what contracts see of it
+-- what contracts see of a desk: its class, and the entries about it
 pub record DeskValue : Type 0 where
   pub class : ℕ
   pub list : List Entry
-  -- whether a drain is being written
-  pub shelved : Bool

@@ -10,7 +10,8 @@ pub mod Drains
 pub mod Asks
 pub mod Asking
 pub mod Counting
-pub mod Empty
 pub mod Naming
 pub mod Pieces
 pub mod Finds
+pub mod Locks
+pub mod Held

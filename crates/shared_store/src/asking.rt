@@ -1,10 +1,12 @@
 //! Questions.
 ghost use Rattle.std.specs.Prelude.{◌≡◌, ◌<◌, ◌≤◌, List, vec_len};
 ghost use Rattle.carbon_history.specs.declared.entry.Entry.{Entry};
-ghost use Rattle.shared_store.specs.Asking.{AreDesksOf, IsHeld};
+ghost use Rattle.shared_store.specs.Asking.{AreDesks, AreDesksOf};
+ghost use Rattle.shared_store.specs.Held.{AreHeld, IsHeld};
 
 use crate::ask_fault::AskFault;
 use crate::class_desk::ClassDesk;
+use crate::class_files::ClassFiles;
 use crate::counting::count_all;
 use crate::finding::{look_all, put_in_order};
 use crate::finds::find_all;
@@ -21,13 +23,14 @@ use std::alloc::{AllocError, Global};
 use std::sync::{MutexGuard, Wait};
 
 impl<D: Disk, N: Named> Store<D, N> {
-    ghost use Rattle.std.specs.Prelude.{◌≡◌, ◌≤◌, ◌+◌, ◌^◌, All, IfOk, length, vec_len, []};
+    ghost use Rattle.std.specs.Prelude.{◌≡◌, ◌<◌, ◌≤◌, ◌+◌, ◌^◌, All, IfOk, length, vec_len, []};
     ghost use Rattle.render_need.specs.Rows.{AreRows};
     ghost use Rattle.render_need.specs.Ends.{AreEnds};
     ghost use Rattle.shared_history.specs.Events.{MayAsk, ask_by};
     ghost use Rattle.shared_history.specs.Parts.{own_entries};
     ghost use Rattle.shared_store.specs.Asking.{AnswersTry, AreAllDesksOf, AreDesks, AreDesksOf, EntersBehind, EntersTries, IsNoMove, MarksAll, TriesTo};
     ghost use Rattle.shared_store.specs.Asks.{Asks};
+    ghost use Rattle.shared_store.specs.Held.{AreFiles, AreHeld, IsHeld};
     ghost use Rattle.shared_store.specs.Passes.{Enters, HasRoom, LooksOn};
 
     // The locks of all classes, taken in order.
@@ -35,7 +38,7 @@ impl<D: Disk, N: Named> Store<D, N> {
         &'a self,
         rt: &impl Wait,
         alloc: Global,
-    ) -> Result<Vec<MutexGuard<'a, ClassDesk<D, N>>>, AllocError>
+    ) -> Result<Vec<MutexGuard<'a, ClassDesk<N>>>, AllocError>
         ensures sixteen { IfOk result (λ desks. vec_len desks ≡ 16) }
         ensures desks { IfOk result (λ desks. AreDesks desks.items) }
     {
@@ -46,8 +49,40 @@ impl<D: Disk, N: Named> Store<D, N> {
         Ok(desks)
     }
 
+    // The locks of the files of all classes, taken in order, where they are held through the reads of a
+    // try: at the third one, and else none.
+    fn hold_files<'a>(
+        &'a self,
+        rt: &impl Wait,
+        alloc: Global,
+        attempt: u32,
+    ) -> Result<Vec<MutexGuard<'a, ClassFiles<D, N>>>, AllocError>
+        ensures held { IfOk result (λ held. AreHeld held.items) }
+        ensures all { 3 ≤ attempt → IfOk result (λ held. 0 < vec_len held) }
+    {
+        if attempt < 3 {
+            return Ok(Vec::new(alloc));
+        }
+        self.lock_all_files(rt, alloc)
+    }
+
+    fn lock_all_files<'a>(
+        &'a self,
+        rt: &impl Wait,
+        alloc: Global,
+    ) -> Result<Vec<MutexGuard<'a, ClassFiles<D, N>>>, AllocError>
+        ensures sixteen { IfOk result (λ held. vec_len held ≡ 16) }
+        ensures files { IfOk result (λ held. AreFiles held.items) }
+    {
+        let mut held = Vec::with_capacity(alloc, 16)?;
+        for class in 0..16 {
+            held.push(self.lock_files(rt, class))?;
+        }
+        Ok(held)
+    }
+
     // The entries of all classes are those that the history has about them.
-    fn agree_all(desks: &mut Vec<MutexGuard<'_, ClassDesk<D, N>>>, order: &mut OrderDesk<N>)
+    fn agree_all(desks: &mut Vec<MutexGuard<'_, ClassDesk<N>>>, order: &mut OrderDesk<N>)
         requires sixteen { vec_len desks.old ≡ 16 }
         requires desks { AreDesks desks.old.items }
         ensures desks { AreDesksOf order.old desks.new.items }
@@ -62,7 +97,7 @@ impl<D: Disk, N: Named> Store<D, N> {
 
     #[tactic(auto, using(crate::proofs::AskPassLemmas::only_itself))]
     // The pass looks at all classes.
-    fn mark_all(desks: &mut Vec<MutexGuard<'_, ClassDesk<D, N>>>, pass: &mut Pass)
+    fn mark_all(desks: &mut Vec<MutexGuard<'_, ClassDesk<N>>>, pass: &mut Pass)
         requires sixteen { vec_len desks.old ≡ 16 }
         requires desks { AreDesksOf pass.old.seen desks.old.items }
         requires one { pass.old.table ≡ N.table }
@@ -80,7 +115,7 @@ impl<D: Disk, N: Named> Store<D, N> {
     fn enter_behind(
         &self,
         rt: &impl Wait,
-        desks: &mut Vec<MutexGuard<'_, ClassDesk<D, N>>>,
+        desks: &mut Vec<MutexGuard<'_, ClassDesk<N>>>,
         pass: &mut Pass,
         attempt: u32,
         now: u32,
@@ -105,7 +140,7 @@ impl<D: Disk, N: Named> Store<D, N> {
     pub(crate) fn enter_try(
         &self,
         rt: &impl Wait,
-        desks: &mut Vec<MutexGuard<'_, ClassDesk<D, N>>>,
+        desks: &mut Vec<MutexGuard<'_, ClassDesk<N>>>,
         pass: &mut Pass,
         attempt: u32,
         now: u32,
@@ -123,26 +158,27 @@ impl<D: Disk, N: Named> Store<D, N> {
     }
 
     #[tactic(auto, using(crate::proofs::AskPassLemmas::only_itself))]
-    // What was found when a try was entered. It is counted before it is copied. All locks are given
-    // back before it is put in order and read, but at a third try.
+    // What was found when a try was entered. It is counted before it is copied. The locks of the desks are
+    // given back before it is put in order and read; those of the files are held where this is a third try.
     fn answer(
         &self,
         rt: &impl Wait,
         alloc: Global,
-        desks: Vec<MutexGuard<'_, ClassDesk<D, N>>>,
+        held: Vec<MutexGuard<'_, ClassFiles<D, N>>>,
+        desks: Vec<MutexGuard<'_, ClassDesk<N>>>,
         pass: &mut Pass,
         needs: &[Wanted<'_>],
         now: u32,
-        attempt: u32,
     ) -> Result<SeriesRows, TryEnd>
         requires desks { AreAllDesksOf pass.old.seen desks.items }
+        requires held { IsHeld pass.old.seen held.items }
         requires one { pass.old.table ≡ N.table }
         requires room { length (own_entries pass.old) + 1 ≤ 2 ^ 48 }
         requires needs { All AreEnds needs.now }
         requires now { now ≤ 4_000_000_000 }
         ensures answers { AnswersTry N.start N.told N.passes now needs.now result pass.old pass.new }
         ensures rows { IfOk result AreRows }
-        ensures still { 3 ≤ attempt → IsNoMove result }
+        ensures still { 0 < vec_len held.entry → IsNoMove result }
     {
         let finds = find_all(alloc, desks.as_slice(), needs)?;
         match count_all(finds.as_slice(), now) {
@@ -151,7 +187,8 @@ impl<D: Disk, N: Named> Store<D, N> {
         }
         let found = look_all(alloc, finds.as_slice(), now)?;
         drop(finds);
-        let mut held = held_in(alloc, desks, attempt);
+        drop(desks);
+        let mut held = held;
         let found = put_in_order(alloc, found)?;
         self.read_all(rt, alloc, &mut held, pass, found.as_slice())
     }
@@ -176,12 +213,17 @@ impl<D: Disk, N: Named> Store<D, N> {
         ensures rows { IfOk result AreRows }
         ensures looks { LooksOn pass.old pass.new }
     {
+        let Ok(mut held) = self.hold_files(rt, alloc, attempt) else {
+            self.order.lock(rt).see_all(pass);
+            return Err(TryEnd::Ended(AskFault::NoMemory));
+        };
         let Ok(mut desks) = self.lock_all(rt, alloc) else {
             self.order.lock(rt).see_all(pass);
             return Err(TryEnd::Ended(AskFault::NoMemory));
         };
         self.enter_try(rt, &mut desks, pass, attempt, now);
-        self.answer(rt, alloc, desks, pass, needs, now, attempt)
+        meet_all(&mut held, &mut desks);
+        self.answer(rt, alloc, held, desks, pass, needs, now)
     }
 
     // The tries of a question.
@@ -258,18 +300,23 @@ impl<D: Disk, N: Named> Store<D, N> {
     }
 }
 
-// The locks that are held through the reads of a try: all at a third one, and else none.
-fn held_in<'a, D: Disk, N: Named>(
-    alloc: Global,
-    desks: Vec<MutexGuard<'a, ClassDesk<D, N>>>,
-    attempt: u32,
-) -> Vec<MutexGuard<'a, ClassDesk<D, N>>>
-    requires sixteen { vec_len desks ≡ 16 }
-    ensures held { (list : List Entry) → AreDesksOf list desks.entry.items → IsHeld list result.items }
-    ensures all { 3 ≤ attempt → 0 < vec_len result }
+// Where the locks of the files of all classes are held with those of the desks: since they last were, the desks did
+// no more than desks do alone.
+fn meet_all<D: Disk, N: Named>(
+    held: &mut Vec<MutexGuard<'_, ClassFiles<D, N>>>,
+    desks: &mut Vec<MutexGuard<'_, ClassDesk<N>>>,
+)
+    requires sixteen { vec_len desks.old ≡ 16 }
+    requires desks { AreDesks desks.old.items }
+    requires held { AreHeld held.old.items }
+    ensures desks { (list : List Entry) → AreDesksOf list desks.old.items → AreDesksOf list desks.new.items }
+    ensures count { vec_len desks.new ≡ 16 }
+    ensures held { (list : List Entry) → AreDesksOf list desks.old.items → IsHeld list held.new.items }
+    ensures many { vec_len held.new ≡ vec_len held.old }
 {
-    if attempt < 3 {
-        return Vec::new(alloc);
+    for i in 0..held.len() {
+        let files = &mut held[i];
+        let desk = &mut desks[i];
+        files.meet(desk);
     }
-    desks
 }

@@ -3,23 +3,18 @@ use crate::class_desk::ClassDesk;
 use crate::named::Named;
 use crate::order_desk::OrderDesk;
 use crate::wanted::Wanted;
-use carbon_model::Values;
-use outside_io::Disk;
-use shard_core::{FoundMetric, LookFault, Looked};
-use shared_history::{Event, Pass, agree, enter_ask, mark, see};
+use shard_core::{FoundMetric, Looked};
+use shared_history::{Pass, agree, enter_ask, mark, see};
 use std::alloc::AllocError;
-use std::sync::{Mutex, Wait};
 
-impl<D: Disk, N: Named> ClassDesk<D, N> {
-    ghost use Rattle.std.specs.Prelude.{◌≡◌, ◌≤◌, ◌+◌, ◌^◌, All, IfOk, length};
-    ghost use Rattle.metric_path.specs.Class.{class_of};
+impl<N: Named> ClassDesk<N> {
+    ghost use Rattle.std.specs.Prelude.{◌≡◌, ◌≤◌, All, IfOk};
     ghost use Rattle.metric_index.specs.Found.{IsFitted};
     ghost use Rattle.path_glob.specs.Faults.{Said};
     ghost use Rattle.carbon_history.specs.Entries.{about_class};
     ghost use Rattle.carbon_model.specs.Replay.{replay};
     ghost use Rattle.shard_core.specs.Looks.{FindsFor, Looks};
-    ghost use Rattle.shared_history.specs.Parts.{own_entries};
-    ghost use Rattle.shared_store.specs.Asking.{HasNotMoved, IsLookAt, IsReadable, MarksClass, ReadsAt, ReadsWell};
+    ghost use Rattle.shared_store.specs.Asking.{IsReadable, MarksClass};
 
     /// The entries of the class are those that the history has about it. Nothing changes.
     pub(crate) fn agree(&mut self, order: &mut OrderDesk<N>)
@@ -44,7 +39,7 @@ impl<D: Disk, N: Named> ClassDesk<D, N> {
         ensures { IfOk result (λ found. FindsFor self.now.class (replay N.start self.now.list)
             (IsFitted wanted.now.glob) found.items) }
     {
-        self.shard.find(wanted.glob(self.class()))
+        self.desk.find(wanted.glob(self.class()))
     }
 
     /// What there is to say of those of these metrics of which a question has buckets, which its glob found, in byte
@@ -64,39 +59,7 @@ impl<D: Disk, N: Named> ClassDesk<D, N> {
             looked.items) }
         ensures readable { IfOk result (λ looked. All IsReadable looked.items) }
     {
-        self.shard.look_at(found, from, until, u64::from(now))
-    }
-
-    /// Reads a metric of the class that was looked at when the pass had seen what it sees now. A
-    /// disk that fails is entered.
-    pub(crate) fn read(
-        &mut self,
-        rt: &impl Wait,
-        order: &Mutex<OrderDesk<N>>,
-        pass: &mut Pass,
-        looked: &Looked,
-    ) -> Result<Values, LookFault>
-        requires here { class_of looked.now.path ≡ self.old.class }
-        requires one { pass.old.table ≡ N.table }
-        requires room { length (own_entries pass.old) + 1 ≤ 2 ^ 48 }
-        requires look { IsLookAt (replay N.start pass.old.seen) looked.now }
-        ensures reads { ReadsAt N.start N.told N.passes looked.now result pass.old pass.new }
-        ensures still { self.old.list ≡ about_class self.old.class pass.old.seen
-            → HasNotMoved result }
-        ensures list { ReadsWell result → self.new.list ≡ self.old.list }
-        ensures class { self.new.class ≡ self.old.class }
-    {
-        mark(&mut self.tail, pass);
-        match self.shard.read(looked) {
-            Ok(values) => return Ok(values),
-            Err(LookFault::Moved(drains)) => return Err(LookFault::Moved(drains)),
-            Err(LookFault::NoMemory) => return Err(LookFault::NoMemory),
-            Err(LookFault::DiskFault) => {}
-        }
-        order
-            .lock(rt)
-            .tell(pass, &mut self.tail, Some(Event::Fault));
-        Err(LookFault::DiskFault)
+        self.desk.look_at(found, from, until, u64::from(now))
     }
 }
 

@@ -1,48 +1,46 @@
-//! What the lock of a class keeps.
-use crate::events::{plan_event, put_event, write_event};
+//! What the lock of a class's desk keeps.
+ghost use Rattle.std.specs.Prelude.{◌≡◌, ◌<◌, length};
+ghost use Rattle.std.specs.Sync.Mutex.{mutex_guard_value};
+
+use crate::events::put_event;
 use crate::named::Named;
 use crate::order_desk::OrderDesk;
-use crate::runs::{count_run, settle_begun};
-use crate::step::Step;
+use class_halves::DeskHalf;
 use metric_line::Datum;
-use outside_io::Disk;
 use point_cache::Put;
-use shard_core::{Planned, Shard, Wrote};
-use shared_history::{Pass, Tail, mark};
+use shard_core::Desk;
+use shared_history::{Pass, Tail};
 use std::marker::{Model, PhantomData};
-use std::sync::{Mutex, Wait};
+use std::sync::{Mutex, MutexGuard, Wait};
 
-/// The shard of a class, and the entries about it.
+/// The desk of a class, with its pending points, and the entries about the class. No disk is called while
+/// its lock is held.
 #[derive(Drop)]
-pub(crate) struct ClassDesk<D: Disk, N: Named> {
-    pub(crate) shard: Shard<D>,
+pub(crate) struct ClassDesk<N: Named> {
+    pub(crate) desk: Desk,
     pub(crate) tail: Tail,
+    pub(crate) half: DeskHalf,
     pub(crate) of: PhantomData<N>,
 }
 
-impl<D: Disk, N: Named> Model for ClassDesk<D, N> {
-    ghost use Rattle.std.specs.Prelude.{is_some};
-    ghost use Rattle.shard_core.specs.View.{inside_of};
-    ghost use Rattle.shared_store.specs.Desks.{DeskValue, KeepsClass};
+impl<N: Named> Model for ClassDesk<N> {
+    ghost use Rattle.shard_core.specs.Halves.{desk_of};
+    ghost use Rattle.shared_store.specs.Desks.{DeskValue};
+    ghost use Rattle.shared_store.specs.Locks.{KeepsDesk};
 
     ghost Value = { DeskValue };
 
-    ghost view = { λ d. record {
-      class = d.tail.class;
-      list = d.tail.list;
-      shelved = is_some d.shard.shelf;
-    } };
+    ghost view = { λ d. record { class = d.tail.class; list = d.tail.list } };
 
-    ghost invariant = { λ d. KeepsClass N.table N.told N.start N.faults (inside_of d.shard)
-        (D.faults d.shard.disk) d.tail };
+    ghost invariant = { λ d. KeepsDesk N.table N.halves N.start (desk_of d.desk) d.half d.tail };
 }
 
-impl<D: Disk, N: Named> ClassDesk<D, N> {
-    ghost use Rattle.std.specs.Prelude.{◌≡◌, ℕ, false, true};
+impl<N: Named> ClassDesk<N> {
+    ghost use Rattle.std.specs.Prelude.{◌≡◌, ℕ};
     ghost use Rattle.metric_path.specs.Class.{class_of};
     ghost use Rattle.carbon_history.specs.Entries.{listed};
-    ghost use Rattle.shared_store.specs.Passes.{Enters, HasRoom, LooksAgain, SameLooks};
-    ghost use Rattle.shared_store.specs.Steps.{AfterPlan, AfterPut, AfterWrite, StepsTo, plan_entry, put_entry, write_entry};
+    ghost use Rattle.shared_store.specs.Passes.{Enters, HasRoom, SameLooks};
+    ghost use Rattle.shared_store.specs.Steps.{AfterPut, put_entry};
 
     /// The class.
     pub(crate) fn class(&self) -> u32
@@ -69,122 +67,51 @@ impl<D: Disk, N: Named> ClassDesk<D, N> {
         ensures looks { SameLooks pass.old pass.new }
         ensures class { self.new.class ≡ self.old.class }
     {
-        let put = self.shard.put(datum);
+        let put = self.desk.put(datum);
         let event = put_event(put, datum);
         order.lock(rt).tell(pass, &mut self.tail, event);
         put
     }
 
-    /// Begins the drain of the metric that goes next. The disk is read before the order is locked.
-    pub(crate) fn plan(
+    /// Puts a point of the class, where the lock of the order is held.
+    pub(crate) fn put_under(
         &mut self,
-        rt: &impl Wait,
-        order: &Mutex<OrderDesk<N>>,
+        order: &mut OrderDesk<N>,
         pass: &mut Pass,
-        now: u32,
-    ) -> Planned
+        datum: &Datum,
+    ) -> Put
+        requires here { class_of datum.now.path ≡ self.old.class }
         requires one { pass.old.table ≡ N.table }
         requires room { HasRoom pass.old }
         ensures enters { Enters N.start N.passes
-            (listed (plan_entry pass.old.number self.old.class now result)) pass.old pass.new }
-        ensures after { AfterPlan N.start self.old.class now result pass.old pass.new }
-        ensures busy { result ≡ Planned.Busy → self.old.shelved ≡ true }
-        ensures looks { LooksAgain self.old.class pass.old pass.new }
+            (listed (put_entry pass.old.number datum.now.path datum.now.time datum.now.value result))
+            pass.old pass.new }
+        ensures after { AfterPut N.start datum.now.path datum.now.time datum.now.value result pass.new }
+        ensures looks { SameLooks pass.old pass.new }
         ensures class { self.new.class ≡ self.old.class }
     {
-        let planned = self.shard.plan(now);
-        let event = plan_event(&planned, now);
-        order.lock(rt).tell(pass, &mut self.tail, event);
-        settle_begun(&mut self.tail, &planned, self.shard.shelved());
-        mark(&mut self.tail, pass);
-        planned
+        let put = self.desk.put(datum);
+        let event = put_event(put, datum);
+        order.tell(pass, &mut self.tail, event);
+        put
     }
+}
 
-    /// Writes the next run of the drain that is being written. The disk is written before the order
-    /// is locked. The pass looks before and after, so that it sees its own run.
-    pub(crate) fn write(
-        &mut self,
-        rt: &impl Wait,
-        order: &Mutex<OrderDesk<N>>,
-        pass: &mut Pass,
-    ) -> Wrote
-        requires one { pass.old.table ≡ N.table }
-        requires room { HasRoom pass.old }
-        ensures enters { Enters N.start N.passes
-            (listed (write_entry pass.old.number self.old.class result)) pass.old pass.new }
-        ensures after { AfterWrite self.old.class result pass.old pass.new }
-        ensures nothing { result ≡ Wrote.Nothing → self.old.shelved ≡ false }
-        ensures looks { LooksAgain self.old.class pass.old pass.new }
-        ensures class { self.new.class ≡ self.old.class }
-    {
-        mark(&mut self.tail, pass);
-        let wrote = self.shard.write_next();
-        count_run(&mut self.tail, wrote);
-        order
-            .lock(rt)
-            .tell(pass, &mut self.tail, write_event(wrote));
-        mark(&mut self.tail, pass);
-        wrote
-    }
-
-    /// Writes the next run of the drain that is being written, or else begins one.
-    pub(crate) fn step(
-        &mut self,
-        rt: &impl Wait,
-        order: &Mutex<OrderDesk<N>>,
-        pass: &mut Pass,
-        now: u32,
-    ) -> Step
-        requires one { pass.old.table ≡ N.table }
-        requires room { HasRoom pass.old }
-        ensures steps { StepsTo N.start N.passes self.old.class now result pass.old pass.new }
-        ensures looks { LooksAgain self.old.class pass.old pass.new }
-        ensures class { self.new.class ≡ self.old.class }
-    {
-        if self.shard.shelved() {
-            self.step_write(rt, order, pass)
-        } else {
-            self.step_plan(rt, order, pass, now)
+/// The lock of the desk of a class. A lock at another place than that of its class, which no store has, would be
+/// waited for without end.
+pub(crate) fn lock_desk<'a, N: Named>(
+    rt: &impl Wait,
+    desks: &'a [Mutex<ClassDesk<N>>],
+    class: u32,
+) -> MutexGuard<'a, ClassDesk<N>>
+    requires { class < length desks.now }
+    ensures { (mutex_guard_value result).class ≡ class }
+{
+    for _ in rt.forever() {
+        let desk = desks[class as usize].lock(rt);
+        if desk.class() == class {
+            return desk;
         }
     }
-
-    fn step_write(&mut self, rt: &impl Wait, order: &Mutex<OrderDesk<N>>, pass: &mut Pass) -> Step
-        requires shelved { self.old.shelved ≡ true }
-        requires one { pass.old.table ≡ N.table }
-        requires room { HasRoom pass.old }
-        ensures steps { (now : ℕ)
-            → StepsTo N.start N.passes self.old.class now result pass.old pass.new }
-        ensures looks { LooksAgain self.old.class pass.old pass.new }
-        ensures class { self.new.class ≡ self.old.class }
-    {
-        match self.write(rt, order, pass) {
-            Wrote::Run => Step::Wrote,
-            Wrote::Finished => Step::Finished,
-            Wrote::Nothing => unreachable!(),
-            Wrote::DiskFault => Step::DiskFault,
-        }
-    }
-
-    fn step_plan(
-        &mut self,
-        rt: &impl Wait,
-        order: &Mutex<OrderDesk<N>>,
-        pass: &mut Pass,
-        now: u32,
-    ) -> Step
-        requires shelved { self.old.shelved ≡ false }
-        requires one { pass.old.table ≡ N.table }
-        requires room { HasRoom pass.old }
-        ensures steps { StepsTo N.start N.passes self.old.class now result pass.old pass.new }
-        ensures looks { LooksAgain self.old.class pass.old pass.new }
-        ensures class { self.new.class ≡ self.old.class }
-    {
-        match self.plan(rt, order, pass, now) {
-            Planned::Took(_) => Step::Took,
-            Planned::Busy => unreachable!(),
-            Planned::Idle => Step::Idle,
-            Planned::DiskFault => Step::DiskFault,
-            Planned::NoMemory => Step::NoMemory,
-        }
-    }
+    unreachable!()
 }

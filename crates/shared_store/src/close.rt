@@ -4,11 +4,13 @@ ghost use Rattle.shared_history.specs.Parts.{PassesOfTable};
 ghost use Rattle.shared_store.specs.Closes.{AllLook, EndsBelow, EndsClass};
 
 use crate::class_desk::ClassDesk;
+use crate::class_files::ClassFiles;
 use crate::named::Named;
 use crate::order_desk::OrderDesk;
 use crate::room::Room;
 use crate::store::Store;
 use crate::tally::Tally;
+use class_halves::meet;
 use metric_path::CLASSES;
 use outside_io::Disk;
 use shared_history::{History, Pass, Tail, close, mark};
@@ -50,13 +52,9 @@ fn look_all(tail: &mut Tail, passes: &mut [Pass])
     }
 }
 
-// What the lock of a class kept. A lock at another place than that of its class, which no store
-// has, would be waited for without end.
-fn take_desk<D: Disk, N: Named>(
-    rt: &impl Wait,
-    desk: Mutex<ClassDesk<D, N>>,
-    class: u32,
-) -> ClassDesk<D, N>
+// What the lock of a desk kept. A lock at another place than that of its class, which no store has, would be
+// waited for without end.
+fn take_desk<N: Named>(rt: &impl Wait, desk: Mutex<ClassDesk<N>>, class: u32) -> ClassDesk<N>
     ensures { result.class ≡ class }
 {
     let desk = desk.into_inner();
@@ -67,9 +65,27 @@ fn take_desk<D: Disk, N: Named>(
     unreachable!()
 }
 
+// What the lock of the files kept.
+fn take_files<D: Disk, N: Named>(
+    rt: &impl Wait,
+    files: Mutex<ClassFiles<D, N>>,
+    class: u32,
+) -> ClassFiles<D, N>
+    ensures { result.class ≡ class }
+{
+    let files = files.into_inner();
+    if files.class() == class {
+        return files;
+    }
+    for _ in rt.forever() {}
+    unreachable!()
+}
+
+// What both locks of a class kept.
 fn end_class<D: Disk, N: Named>(
     rt: &impl Wait,
-    desk: Mutex<ClassDesk<D, N>>,
+    desk: Mutex<ClassDesk<N>>,
+    files: Mutex<ClassFiles<D, N>>,
     class: u32,
     passes: &mut [Pass],
 ) -> ClassEnd<D>
@@ -78,38 +94,59 @@ fn end_class<D: Disk, N: Named>(
     ensures look { AllLook result.tail passes.old passes.new }
 {
     let ClassDesk {
-        shard,
+        desk: _,
         mut tail,
+        half: mut desk_half,
         of: _,
     } = take_desk(rt, desk, class);
+    let ClassFiles {
+        files,
+        half: mut files_half,
+        of: _,
+    } = take_files(rt, files, class);
+    meet(&mut desk_half, &mut files_half);
     look_all(&mut tail, passes);
     ClassEnd {
-        disk: shard.finish(),
+        disk: files.finish(),
         tail,
     }
 }
 
+// The locks of all classes, in order.
+#[derive(Drop)]
+struct Kept<D: Disk, N: Named> {
+    desks: Vec<Mutex<ClassDesk<N>>>,
+    files: Vec<Mutex<ClassFiles<D, N>>>,
+}
+
 fn end_classes<D: Disk + Drop, N: Named>(
     rt: &impl Wait,
-    desks: Vec<Mutex<ClassDesk<D, N>>>,
+    kept: Kept<D, N>,
     ends: Ends<D>,
     passes: &mut [Pass],
 ) -> Ends<D>
-    requires sixteen { vec_len desks ≡ 16 }
+    requires sixteen { (vec_len kept.desks ≡ 16) × (vec_len kept.files ≡ 16) }
     requires none { (vec_len ends.disks ≡ 0) × (vec_len ends.tails ≡ 0) }
     requires room { (16 ≤ vec_capacity ends.disks) × (16 ≤ vec_capacity ends.tails) }
     requires one { PassesOfTable N.table passes.old }
     ensures { EndsBelow D.Disk N.table N.told N.start N.faults 16
         result.disks.items result.tails.items passes.old passes.new }
 {
-    let mut desks = desks;
+    let Kept {
+        mut desks,
+        mut files,
+    } = kept;
     let mut ends = ends;
     desks.reverse();
+    files.reverse();
     for class in 0..CLASSES {
         let Some(desk) = desks.pop() else {
             unreachable!()
         };
-        let end = end_class(rt, desk, class, passes);
+        let Some(files) = files.pop() else {
+            unreachable!()
+        };
+        let end = end_class(rt, desk, files, class, passes);
         ends.put(end);
     }
     ends
@@ -152,13 +189,14 @@ impl<D: Disk + Drop, N: Named> Store<D, N> {
         let mut passes = passes;
         let Store {
             order,
-            classes,
+            desks,
+            files,
             room,
         } = self;
         let Room { disks, tails } = room.into_inner();
         let Ends { disks, tails } = end_classes(
             rt,
-            classes,
+            Kept { desks, files },
             Ends { disks, tails },
             passes.as_mut_slice(),
         );

@@ -10,7 +10,6 @@ ghost use Rattle.shared_store.specs.Finds.{AreFindsOf, needs_in};
 use crate::ask_fault::AskFault;
 use crate::finds::NeedFinds;
 use crate::named::Named;
-use outside_io::Disk;
 use shard_core::LookCount;
 use std::alloc::AllocError;
 
@@ -28,8 +27,8 @@ const NONE: LookCount = LookCount {
 
 /// Whether a question may have what its needs find. A count above 2^64 - 1 is answered as want of
 /// memory.
-pub(crate) fn count_all<D: Disk, N: Named>(
-    finds: &[NeedFinds<'_, D, N>],
+pub(crate) fn count_all<N: Named>(
+    finds: &[NeedFinds<'_, N>],
     now: u32,
 ) -> Result<(), AskFault>
     requires needs { All AreEnds (needs_in finds.now) }
@@ -50,8 +49,8 @@ pub(crate) fn count_all<D: Disk, N: Named>(
 }
 
 // How much all needs find.
-fn count_needs<D: Disk, N: Named>(
-    finds: &[NeedFinds<'_, D, N>],
+fn count_needs<N: Named>(
+    finds: &[NeedFinds<'_, N>],
     now: u32,
 ) -> Result<LookCount, AllocError>
     requires needs { All AreEnds (needs_in finds.now) }
@@ -67,8 +66,8 @@ fn count_needs<D: Disk, N: Named>(
 }
 
 // How much one need finds in all classes.
-fn count_need<D: Disk, N: Named>(
-    finds: &NeedFinds<'_, D, N>,
+fn count_need<N: Named>(
+    finds: &NeedFinds<'_, N>,
     now: u32,
 ) -> Result<LookCount, AllocError>
     requires ends { AreEnds finds.now.need }

@@ -14,7 +14,7 @@ use shard_core::{Planned, Wrote};
 use shared_history::Pass;
 use std::sync::{Mutex, Wait};
 
-impl<D: Disk, N: Named> ClassDesk<D, N> {
+impl<N: Named> ClassDesk<N> {
     ghost use Rattle.std.specs.Prelude.{◌≡◌, [], length};
     ghost use Rattle.carbon_model.specs.Replay.{replay};
     ghost use Rattle.shared_store.specs.Passes.{Enters, SameLooks};
@@ -32,7 +32,7 @@ impl<D: Disk, N: Named> ClassDesk<D, N> {
         ensures looks { SameLooks pass.old pass.new }
     {
         order.lock(rt).see(pass, &mut self.tail);
-        self.shard.cached_metrics()
+        self.desk.cached_metrics()
     }
 }
 

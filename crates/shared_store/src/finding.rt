@@ -9,13 +9,12 @@ ghost use Rattle.shared_store.specs.Finds.{AreFindsOf, needs_in};
 use crate::finds::NeedFinds;
 use crate::found_set::FoundSet;
 use crate::named::Named;
-use outside_io::Disk;
 use std::alloc::{AllocError, Global};
 
 /// Looks at all that each need finds.
-pub(crate) fn look_all<D: Disk, N: Named>(
+pub(crate) fn look_all<N: Named>(
     alloc: Global,
-    finds: &[NeedFinds<'_, D, N>],
+    finds: &[NeedFinds<'_, N>],
     now: u32,
 ) -> Result<Vec<FoundSet>, AllocError>
     requires needs { All AreEnds (needs_in finds.now) }
@@ -31,9 +30,9 @@ pub(crate) fn look_all<D: Disk, N: Named>(
 }
 
 // Looks at the metrics of all classes that one need finds.
-fn look<D: Disk, N: Named>(
+fn look<N: Named>(
     alloc: Global,
-    finds: &NeedFinds<'_, D, N>,
+    finds: &NeedFinds<'_, N>,
     now: u32,
 ) -> Result<FoundSet, AllocError>
     requires ends { AreEnds finds.now.need }

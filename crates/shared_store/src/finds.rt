@@ -7,7 +7,6 @@ ghost use Rattle.shared_store.specs.Finds.{AreFindsOf, needs_in};
 use crate::class_desk::ClassDesk;
 use crate::named::Named;
 use crate::wanted::Wanted;
-use outside_io::Disk;
 use render_need::Need;
 use shard_core::{FoundMetric, LookCount, Looked, count_found};
 use std::alloc::{AllocError, Global};
@@ -21,13 +20,13 @@ const MOST_FOUND: u64 = 1_000_000;
 /// The known metrics of a class that the glob of a need fits, in byte order of their paths, while the lock of the
 /// class is held. Nothing of them is copied.
 #[derive(Drop)]
-pub(crate) struct ClassFinds<'a, D: Disk, N: Named> {
-    desk: &'a ClassDesk<D, N>,
+pub(crate) struct ClassFinds<'a, N: Named> {
+    desk: &'a ClassDesk<N>,
     need: &'a Need,
     found: Vec<FoundMetric<'a>>,
 }
 
-impl<'a, D: Disk, N: Named> Model for ClassFinds<'a, D, N> {
+impl<'a, N: Named> Model for ClassFinds<'a, N> {
     ghost use Rattle.metric_index.specs.Found.{IsFitted};
     ghost use Rattle.carbon_model.specs.Replay.{replay};
     ghost use Rattle.shard_core.specs.Looks.{FindsFor};
@@ -41,7 +40,7 @@ impl<'a, D: Disk, N: Named> Model for ClassFinds<'a, D, N> {
         (IsFitted f.need.now.glob) f.found.items };
 }
 
-impl<'a, D: Disk, N: Named> ClassFinds<'a, D, N> {
+impl<'a, N: Named> ClassFinds<'a, N> {
     ghost use Rattle.std.specs.Prelude.{◌≡◌, ◌≤◌, All, IfOk};
     ghost use Rattle.metric_index.specs.Found.{IsFitted};
     ghost use Rattle.carbon_model.specs.Replay.{replay};
@@ -52,10 +51,10 @@ impl<'a, D: Disk, N: Named> ClassFinds<'a, D, N> {
     /// What a need finds in the class of a desk, where that is no more than may be kept, of which it
     /// then takes its part. Else that is want of memory.
     fn find(
-        desk: &'a ClassDesk<D, N>,
+        desk: &'a ClassDesk<N>,
         wanted: &'a Wanted<'_>,
         left: &mut u64,
-    ) -> Result<ClassFinds<'a, D, N>, AllocError>
+    ) -> Result<ClassFinds<'a, N>, AllocError>
         ensures { IfOk result (λ finds. finds ≡ record { desk = desk.now; need = wanted.now }) }
     {
         let found = desk.find(wanted)?;
@@ -101,12 +100,12 @@ impl<'a, D: Disk, N: Named> ClassFinds<'a, D, N> {
 
 /// What a need finds in all classes, in their order.
 #[derive(Drop)]
-pub(crate) struct NeedFinds<'a, D: Disk, N: Named> {
+pub(crate) struct NeedFinds<'a, N: Named> {
     need: &'a Need,
-    classes: Vec<ClassFinds<'a, D, N>>,
+    classes: Vec<ClassFinds<'a, N>>,
 }
 
-impl<'a, D: Disk, N: Named> Model for NeedFinds<'a, D, N> {
+impl<'a, N: Named> Model for NeedFinds<'a, N> {
     ghost use Rattle.std.specs.Prelude.{◌≡◌, All};
     ghost use Rattle.shared_store.specs.Finds.{NeedFindsValue};
 
@@ -117,11 +116,11 @@ impl<'a, D: Disk, N: Named> Model for NeedFinds<'a, D, N> {
     ghost invariant = { λ f. All (λ c. c.need ≡ f.need.now) f.classes.items };
 }
 
-impl<'a, D: Disk, N: Named> NeedFinds<'a, D, N> {
+impl<'a, N: Named> NeedFinds<'a, N> {
     ghost use Rattle.std.specs.Prelude.{◌≡◌, All};
 
     /// What is found in each class, by this need.
-    pub(crate) fn classes(&self) -> &[ClassFinds<'a, D, N>]
+    pub(crate) fn classes(&self) -> &[ClassFinds<'a, N>]
         ensures classes { result.now ≡ self.now.classes }
         ensures need { All (λ c. c.need ≡ self.now.need) result.now }
     {
@@ -130,11 +129,11 @@ impl<'a, D: Disk, N: Named> NeedFinds<'a, D, N> {
 }
 
 /// What each need finds, where the locks of all classes are held.
-pub(crate) fn find_all<'a, D: Disk, N: Named>(
+pub(crate) fn find_all<'a, N: Named>(
     alloc: Global,
-    desks: &'a [MutexGuard<'_, ClassDesk<D, N>>],
+    desks: &'a [MutexGuard<'_, ClassDesk<N>>],
     needs: &'a [Wanted<'_>],
-) -> Result<Vec<NeedFinds<'a, D, N>>, AllocError>
+) -> Result<Vec<NeedFinds<'a, N>>, AllocError>
     requires sixteen { length desks.now ≡ 16 }
     requires desks { AreDesks desks.now }
     ensures needs { IfOk result (λ finds. needs_in finds.items ≡ needs.now) }
@@ -150,12 +149,12 @@ pub(crate) fn find_all<'a, D: Disk, N: Named>(
 }
 
 // What one need finds.
-fn find<'a, D: Disk, N: Named>(
+fn find<'a, N: Named>(
     alloc: Global,
-    desks: &'a [MutexGuard<'_, ClassDesk<D, N>>],
+    desks: &'a [MutexGuard<'_, ClassDesk<N>>],
     wanted: &'a Wanted<'_>,
     left: &mut u64,
-) -> Result<NeedFinds<'a, D, N>, AllocError>
+) -> Result<NeedFinds<'a, N>, AllocError>
     requires sixteen { length desks.now ≡ 16 }
     requires desks { AreDesks desks.now }
     ensures need { IfOk result (λ finds. finds.need ≡ wanted.now) }

@@ -15,7 +15,7 @@ const MOST_WORK_LOCKED: u64 = 400_000;
 /// was done beforehand.
 const SHORT_PATTERN: u64 = 32;
 
-impl<D: Disk, N: Named> ClassDesk<D, N> {
+impl<N: Named> ClassDesk<N> {
     // How much work a look at the class is for those of these needs whose patterns are not short, or more than `most`.
     fn work_of(&self, needs: &[Need], most: u64) -> Result<u64, AllocError> {
         let mut work = 0_u64;
@@ -25,7 +25,7 @@ impl<D: Disk, N: Named> ClassDesk<D, N> {
                 continue;
             }
             let names = (most / bytes).saturating_add(1) as usize;
-            let names = self.shard.width(&need.glob, names)?;
+            let names = self.desk.width(&need.glob, names)?;
             work = work.saturating_add(bytes.saturating_mul(names as u64));
             if work > most {
                 return Ok(work);

@@ -16,7 +16,7 @@ pub fn a_started_shard_is_fresh<D: Disk>()
     ensures { (class : ℕ) (settings : Settings) (told : ℕ → Option Image) (s : State)
         (earlier : ℕ → ℕ) (disk : D) (shard : Shard D D.Disk)
         → StartedFrom class settings disk shard → Opens settings told s
-        → D.image disk ≡ told class → KeepsLaidOut class (told class) shard.table s.kept
-        → earlier class ≡ D.faults shard.disk
+        → D.image disk ≡ told class → KeepsLaidOut class (told class) shard.desk.table s.kept
+        → earlier class ≡ D.faults shard.files.disk
         → IsReadyShard told s earlier class shard }
 {}

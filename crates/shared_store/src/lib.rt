@@ -1,5 +1,6 @@
-//! The store: a shard and the entries of each class behind a lock of its own, and one history
-//! behind another. Many threads put, plan, write and ask, and each of them sees one history.
+//! The store: the desk of each class, with its pending points and entries, behind one lock, its files
+//! behind another, and one history behind a third. Many threads put, plan, write and ask, and each of
+//! them sees one history.
 #![tactic(auto)]
 
 mod ask_fault;
@@ -7,6 +8,9 @@ mod asking;
 mod call_room;
 mod class_asking;
 mod class_desk;
+mod class_draining;
+mod class_files;
+mod class_reading;
 mod close;
 mod counting;
 mod drain_end;
@@ -40,7 +44,7 @@ pub use drain_end::DrainEnd;
 pub use laws::a_started_shard_is_fresh;
 pub use named::Named;
 pub use put_counts::PutCounts;
-pub use start::Parts;
+pub use start::{Parts, make_pairs};
 pub use step::Step;
 pub use store::Store;
 pub use tally::Tally;

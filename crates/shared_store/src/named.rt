@@ -1,7 +1,7 @@
 //! Which store it is.
 use std::marker::Brand;
 
-/// Which store it is, in contracts alone: what its two kinds of locks keep is tied by this.
+/// Which store it is, in contracts alone: what its kinds of locks keep is tied by this.
 pub trait Named {
     ghost use Rattle.std.specs.Prelude.{ℕ, Option};
     ghost use Rattle.atomic_table.specs.Seated.{TableId};
@@ -12,6 +12,9 @@ pub trait Named {
     ghost table: { TableId };
 
     ghost passes: { ℕ };
+
+    // The table of what the two locks of each class agree on.
+    ghost halves: { ℕ → TableId };
 
     // What the disk of each class told at the opening, the state then, and how often each disk had
     // failed.
@@ -38,6 +41,16 @@ impl Named for Brand {
     } };
 
     ghost passes = { 0 };
+
+    ghost halves = { λ class. record {
+      words = 0;
+      slots = 0;
+      views_name = 0;
+      atom = 0;
+      block = 0;
+      offset = 0;
+      slot_names = [];
+    } };
 
     ghost told = { λ class. None };
 

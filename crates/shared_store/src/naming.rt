@@ -14,7 +14,7 @@ use shared_history::Pass;
 use std::alloc::{AllocError, Global};
 use std::sync::{MutexGuard, Wait};
 
-impl<D: Disk, N: Named> ClassDesk<D, N> {
+impl<N: Named> ClassDesk<N> {
     ghost use Rattle.std.specs.Prelude.{IfOk};
     ghost use Rattle.carbon_model.specs.Found.{Finds};
     ghost use Rattle.carbon_model.specs.Replay.{replay};
@@ -26,14 +26,14 @@ impl<D: Disk, N: Named> ClassDesk<D, N> {
         ensures { IfOk result (λ names. Finds (replay N.start self.now.list)
             (IsOfClass self.now.class) names.items) }
     {
-        self.shard.names()
+        self.desk.names()
     }
 }
 
 // The names of all classes, where their locks are held.
-fn names_of<D: Disk, N: Named>(
+fn names_of<N: Named>(
     alloc: Global,
-    desks: &[MutexGuard<'_, ClassDesk<D, N>>],
+    desks: &[MutexGuard<'_, ClassDesk<N>>],
 ) -> Result<Vec<MetricPath>, AllocError>
     requires sixteen { length desks.now ≡ 16 }
     requires desks { AreDesks desks.now }

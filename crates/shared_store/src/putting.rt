@@ -7,7 +7,6 @@ ghost use Rattle.shared_store.specs.Pieces.{HasRoomFor, HoldsClass, HoldsClasses
 ghost use Rattle.shared_store.specs.Steps.{AfterPut, put_entry};
 
 use crate::class_desk::ClassDesk;
-use crate::events::put_event;
 use crate::named::Named;
 use crate::order_desk::OrderDesk;
 use crate::put_counts::PutCounts;
@@ -19,37 +18,6 @@ use shared_history::Pass;
 use std::alloc::{AllocError, Global};
 use std::sync::{MutexGuard, Wait};
 
-impl<D: Disk, N: Named> ClassDesk<D, N> {
-    ghost use Rattle.std.specs.Prelude.{◌≡◌};
-    ghost use Rattle.metric_path.specs.Class.{class_of};
-    ghost use Rattle.carbon_history.specs.Entries.{listed};
-    ghost use Rattle.shared_store.specs.Passes.{Enters, HasRoom, SameLooks};
-    ghost use Rattle.shared_store.specs.Steps.{AfterPut, put_entry};
-
-    /// Puts a point of the class, where the lock of the order is held.
-    pub(crate) fn put_under(
-        &mut self,
-        order: &mut OrderDesk<N>,
-        pass: &mut Pass,
-        datum: &Datum,
-    ) -> Put
-        requires here { class_of datum.now.path ≡ self.old.class }
-        requires one { pass.old.table ≡ N.table }
-        requires room { HasRoom pass.old }
-        ensures enters { Enters N.start N.passes
-            (listed (put_entry pass.old.number datum.now.path datum.now.time datum.now.value result))
-            pass.old pass.new }
-        ensures after { AfterPut N.start datum.now.path datum.now.time datum.now.value result pass.new }
-        ensures looks { SameLooks pass.old pass.new }
-        ensures class { self.new.class ≡ self.old.class }
-    {
-        let put = self.shard.put(datum);
-        let event = put_event(put, datum);
-        order.tell(pass, &mut self.tail, event);
-        put
-    }
-}
-
 // The classes of points, for which their paths are hashed.
 fn classes_of(alloc: Global, points: &[Datum]) -> Result<Vec<u32>, AllocError>
     ensures { IfOk result (λ classes. classes.items ≡ classes_in points.now) }
@@ -58,8 +26,8 @@ fn classes_of(alloc: Global, points: &[Datum]) -> Result<Vec<u32>, AllocError>
 }
 
 // Puts a point of a class, where its lock and that of the order are held.
-fn put_here<D: Disk, N: Named>(
-    desk: &mut Option<MutexGuard<'_, ClassDesk<D, N>>>,
+fn put_here<N: Named>(
+    desk: &mut Option<MutexGuard<'_, ClassDesk<N>>>,
     order: &mut OrderDesk<N>,
     pass: &mut Pass,
     datum: &Datum,
@@ -79,8 +47,8 @@ fn put_here<D: Disk, N: Named>(
 }
 
 // Puts a point of a class, whose lock is held in the class's place.
-fn put_held<D: Disk, N: Named>(
-    desks: &mut Vec<Option<MutexGuard<'_, ClassDesk<D, N>>>>,
+fn put_held<N: Named>(
+    desks: &mut Vec<Option<MutexGuard<'_, ClassDesk<N>>>>,
     order: &mut OrderDesk<N>,
     pass: &mut Pass,
     datum: &Datum,
@@ -102,8 +70,8 @@ fn put_held<D: Disk, N: Named>(
 }
 
 // Puts points of these classes in order, up to the first for which there is no memory.
-fn put_each<D: Disk, N: Named>(
-    desks: &mut Vec<Option<MutexGuard<'_, ClassDesk<D, N>>>>,
+fn put_each<N: Named>(
+    desks: &mut Vec<Option<MutexGuard<'_, ClassDesk<N>>>>,
     order: &mut OrderDesk<N>,
     pass: &mut Pass,
     points: &[Datum],
@@ -139,7 +107,7 @@ impl<D: Disk, N: Named> Store<D, N> {
         rt: &impl Wait,
         classes: &[u32],
         class: u32,
-    ) -> Option<MutexGuard<'a, ClassDesk<D, N>>>
+    ) -> Option<MutexGuard<'a, ClassDesk<N>>>
         requires { class < 16 }
         ensures { is_among class classes.now ≡ true → IsDesk class result }
     {
@@ -155,7 +123,7 @@ impl<D: Disk, N: Named> Store<D, N> {
         rt: &impl Wait,
         alloc: Global,
         classes: &[u32],
-    ) -> Result<Vec<Option<MutexGuard<'a, ClassDesk<D, N>>>>, AllocError>
+    ) -> Result<Vec<Option<MutexGuard<'a, ClassDesk<N>>>>, AllocError>
         ensures sixteen { IfOk result (λ desks. vec_len desks ≡ 16) }
         ensures held { IfOk result (λ desks. HoldsClasses classes.now desks.items) }
     {

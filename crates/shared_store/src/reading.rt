@@ -6,7 +6,7 @@ ghost use Rattle.found_rows.specs.Rows.{most_points};
 ghost use Rattle.shared_store.specs.Asking.{EndsAs, IsSeriesOf, buckets_of};
 
 use crate::ask_fault::AskFault;
-use crate::class_desk::ClassDesk;
+use crate::class_files::ClassFiles;
 use crate::found_set::FoundSet;
 use crate::named::Named;
 use crate::store::Store;
@@ -53,9 +53,10 @@ impl<D: Disk, N: Named> Store<D, N> {
     ghost use Rattle.std.specs.Prelude.{◌≡◌, ◌<◌, ◌≤◌, ◌+◌, ◌^◌, All, IfOk, length, vec_len};
     ghost use Rattle.carbon_model.specs.Replay.{replay};
     ghost use Rattle.shared_history.specs.Parts.{own_entries};
-    ghost use Rattle.shared_store.specs.Asking.{AreDesksOf, IsHeld, IsLookAt, IsNoMove, IsShortLook, KeepsDesks, ReadsAll, ReadsOne, ReadsSet};
+    ghost use Rattle.shared_store.specs.Asking.{IsLookAt, IsNoMove, IsShortLook, ReadsAll, ReadsOne, ReadsSet};
+    ghost use Rattle.shared_store.specs.Held.{AreFilesOf, IsHeld, KeepsFilesHeld};
 
-    // Reads a metric under the lock of its class alone.
+    // Reads a metric under the lock of the files of its class alone.
     fn read_free(&self, rt: &impl Wait, pass: &mut Pass, looked: &Looked) -> Result<Values, TryEnd>
         requires one { pass.old.table ≡ N.table }
         requires room { length (own_entries pass.old) + 1 ≤ 2 ^ 48 }
@@ -63,32 +64,32 @@ impl<D: Disk, N: Named> Store<D, N> {
         ensures { ReadsOne N.start N.told N.passes looked.now result pass.old pass.new }
     {
         let class = looked.path.class();
-        let read = self
-            .lock_class(rt, class)
-            .read(rt, &self.order, pass, looked);
+        let read =
+            self.lock_files(rt, class)
+                .read(rt, self.desks.as_slice(), &self.order, pass, looked);
         end_of(read, class)
     }
 
-    // Reads a metric where the locks of all classes are held: none has moved.
+    // Reads a metric where the locks of the files of all classes are held since the look: none has moved.
     fn read_held(
         &self,
         rt: &impl Wait,
-        held: &mut Vec<MutexGuard<'_, ClassDesk<D, N>>>,
+        held: &mut Vec<MutexGuard<'_, ClassFiles<D, N>>>,
         pass: &mut Pass,
         looked: &Looked,
     ) -> Result<Values, TryEnd>
         requires one { pass.old.table ≡ N.table }
         requires room { length (own_entries pass.old) + 1 ≤ 2 ^ 48 }
         requires look { IsLookAt (replay N.start pass.old.seen) looked.now }
-        requires held { AreDesksOf pass.old.seen held.old.items }
+        requires held { AreFilesOf pass.old.seen held.old.items }
         requires sixteen { vec_len held.old ≡ 16 }
         ensures reads { ReadsOne N.start N.told N.passes looked.now result pass.old pass.new }
         ensures still { IsNoMove result }
-        ensures held { IfOk result (λ values. KeepsDesks pass.old.seen held.old.items held.new.items) }
+        ensures held { IfOk result (λ values. KeepsFilesHeld pass.old.seen held.old.items held.new.items) }
     {
         let class = looked.path.class();
-        let desk = &mut held[class as usize];
-        let read = desk.read(rt, &self.order, pass, looked);
+        let files = &mut held[class as usize];
+        let read = files.read(rt, self.desks.as_slice(), &self.order, pass, looked);
         end_of(read, class)
     }
 
@@ -96,7 +97,7 @@ impl<D: Disk, N: Named> Store<D, N> {
     fn read_one(
         &self,
         rt: &impl Wait,
-        held: &mut Vec<MutexGuard<'_, ClassDesk<D, N>>>,
+        held: &mut Vec<MutexGuard<'_, ClassFiles<D, N>>>,
         pass: &mut Pass,
         looked: &Looked,
     ) -> Result<Values, TryEnd>
@@ -106,7 +107,7 @@ impl<D: Disk, N: Named> Store<D, N> {
         requires held { IsHeld pass.old.seen held.old.items }
         ensures reads { ReadsOne N.start N.told N.passes looked.now result pass.old pass.new }
         ensures still { 0 < vec_len held.old → IsNoMove result }
-        ensures held { IfOk result (λ values. KeepsDesks pass.old.seen held.old.items held.new.items) }
+        ensures held { IfOk result (λ values. KeepsFilesHeld pass.old.seen held.old.items held.new.items) }
     {
         if held.is_empty() {
             return self.read_free(rt, pass, looked);
@@ -120,7 +121,7 @@ impl<D: Disk, N: Named> Store<D, N> {
         &self,
         rt: &impl Wait,
         alloc: Global,
-        held: &mut Vec<MutexGuard<'_, ClassDesk<D, N>>>,
+        held: &mut Vec<MutexGuard<'_, ClassFiles<D, N>>>,
         pass: &mut Pass,
         found: &[Looked],
     ) -> Result<SeriesSet, TryEnd>
@@ -130,7 +131,7 @@ impl<D: Disk, N: Named> Store<D, N> {
         requires held { IsHeld pass.old.seen held.old.items }
         ensures reads { ReadsSet N.start N.told N.passes found.now result pass.old pass.new }
         ensures still { 0 < vec_len held.old → IsNoMove result }
-        ensures held { IfOk result (λ set. KeepsDesks pass.old.seen held.old.items held.new.items) }
+        ensures held { IfOk result (λ set. KeepsFilesHeld pass.old.seen held.old.items held.new.items) }
     {
         let mut set = SeriesSet::new(alloc);
         for looked in found {
@@ -146,7 +147,7 @@ impl<D: Disk, N: Named> Store<D, N> {
         &self,
         rt: &impl Wait,
         alloc: Global,
-        held: &mut Vec<MutexGuard<'_, ClassDesk<D, N>>>,
+        held: &mut Vec<MutexGuard<'_, ClassFiles<D, N>>>,
         pass: &mut Pass,
         sets: &[FoundSet],
     ) -> Result<SeriesRows, TryEnd>

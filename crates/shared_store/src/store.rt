@@ -1,7 +1,8 @@
 //! The store.
 ghost use Rattle.std.specs.Prelude.{◌≡◌, vec_len};
 
-use crate::class_desk::ClassDesk;
+use crate::class_desk::{ClassDesk, lock_desk};
+use crate::class_files::ClassFiles;
 use crate::named::Named;
 use crate::order_desk::OrderDesk;
 use crate::room::Room;
@@ -14,17 +15,20 @@ use shard_core::{Planned, Wrote};
 use shared_history::Pass;
 use std::sync::{Mutex, MutexGuard, Wait};
 
-/// The shards of all classes, each behind a lock of its own, and their one history behind another.
-/// Locks are taken in rising class, that of the order last, and no disk is called while the order
-/// is locked.
+/// The desk and the files of each class, each behind a lock of its own, and their one history behind
+/// another. Locks are taken in this order: those of files in rising class, those of desks in rising
+/// class, and that of the history. No disk is called while that of a desk or of the history is held,
+/// but for the ring file that a plan reads.
 #[derive(Drop)]
 pub struct Store<D: Disk, N: Named> {
     pub(crate) order: Mutex<OrderDesk<N>>,
-    pub(crate) classes: Vec<Mutex<ClassDesk<D, N>>>,
+    pub(crate) desks: Vec<Mutex<ClassDesk<N>>>,
+    pub(crate) files: Vec<Mutex<ClassFiles<D, N>>>,
     // It is behind a lock, though only a close opens it: so threads share a store of disks that
     // they may not share.
     pub(crate) room: Mutex<Room<D>>,
-    ghost all: { vec_len classes ≡ 16 },
+    ghost all_desks: { vec_len desks ≡ 16 },
+    ghost all_files: { vec_len files ≡ 16 },
 }
 
 impl<D: Disk, N: Named> Store<D, N> {
@@ -35,19 +39,32 @@ impl<D: Disk, N: Named> Store<D, N> {
     ghost use Rattle.shared_store.specs.Steps.{AfterPlan, AfterPut, AfterWrite, StepsTo, plan_entry, put_entry, write_entry};
     ghost use Rattle.shared_store.specs.Tallies.{tally_of};
 
-    // The lock of a class.
+    // The lock of the desk of a class.
     pub(crate) fn lock_class<'a>(
         &'a self,
         rt: &impl Wait,
         class: u32,
-    ) -> MutexGuard<'a, ClassDesk<D, N>>
+    ) -> MutexGuard<'a, ClassDesk<N>>
+        requires { class < 16 }
+        ensures { (mutex_guard_value result).class ≡ class }
+    {
+        lock_desk(rt, self.desks.as_slice(), class)
+    }
+
+    // The lock of the files of a class. A lock at another place than that of its class, which no store
+    // has, would be waited for without end.
+    pub(crate) fn lock_files<'a>(
+        &'a self,
+        rt: &impl Wait,
+        class: u32,
+    ) -> MutexGuard<'a, ClassFiles<D, N>>
         requires { class < 16 }
         ensures { (mutex_guard_value result).class ≡ class }
     {
         for _ in rt.forever() {
-            let desk = self.classes[class as usize].lock(rt);
-            if desk.class() == class {
-                return desk;
+            let files = self.files[class as usize].lock(rt);
+            if files.class() == class {
+                return files;
             }
         }
         unreachable!()
@@ -79,8 +96,8 @@ impl<D: Disk, N: Named> Store<D, N> {
         ensures after { AfterPlan N.start class now result pass.old pass.new }
         ensures looks { LooksAgain class pass.old pass.new }
     {
-        let mut desk = self.lock_class(rt, class);
-        desk.plan(rt, &self.order, pass, now)
+        let mut files = self.lock_files(rt, class);
+        files.plan_held(rt, self.desks.as_slice(), &self.order, pass, now)
     }
 
     /// Writes the next run of the drain of a class that is being written: one entry where the disk
@@ -94,8 +111,8 @@ impl<D: Disk, N: Named> Store<D, N> {
         ensures after { AfterWrite class result pass.old pass.new }
         ensures looks { LooksAgain class pass.old pass.new }
     {
-        let mut desk = self.lock_class(rt, class);
-        desk.write(rt, &self.order, pass)
+        let mut files = self.lock_files(rt, class);
+        files.write(rt, self.desks.as_slice(), &self.order, pass)
     }
 
     /// One step of draining a class at the moment `now`: the next run of the drain that is being
@@ -107,8 +124,8 @@ impl<D: Disk, N: Named> Store<D, N> {
         ensures steps { StepsTo N.start N.passes class now result pass.old pass.new }
         ensures looks { LooksAgain class pass.old pass.new }
     {
-        let mut desk = self.lock_class(rt, class);
-        desk.step(rt, &self.order, pass, now)
+        let mut files = self.lock_files(rt, class);
+        files.step(rt, self.desks.as_slice(), &self.order, pass, now)
     }
 
     /// The counts of all entries of the history so far, which the pass sees.

@@ -532,7 +532,7 @@ fn start_store<D: Disk + Drop, N: Named>(
     alloc: Global,
     parts: Parts<D>,
 ) -> Result<Store<D, N>, Fail>
-    requires { IsFresh N.table N.passes N.told N.start N.faults parts }
+    requires { IsFresh N.table N.passes N.halves N.told N.start N.faults parts }
 {
     match Store::<D, N>::start(alloc, parts) {
         Ok(store) => Ok(store),
@@ -559,7 +559,7 @@ fn run_store<D: Disk + Drop + Send, N: Named + Send + Sync, R: Threads + Wait + 
     jobs: Vec<Job>,
     turns: Turns,
 ) -> Result<Ran<D>, Fail>
-    requires fresh { IsFresh N.table N.passes N.told N.start N.faults parts }
+    requires fresh { IsFresh N.table N.passes N.halves N.told N.start N.faults parts }
     requires one { PassesOfTable N.table passes.items }
 {
     let mut workers = workers_of::<N>(alloc, passes, jobs)?;
@@ -618,6 +618,7 @@ pub(crate) fn run<D: Disk + Drop + Send, R: Threads + Wait + Clock + Sync>(
     let parts = Parts {
         order,
         tails,
+        pairs: make_pairs(alloc)?,
         shards,
     };
     run_store::<D, Brand, R>(rt, alloc, parts, passes, jobs, scene.turns)

@@ -14,7 +14,7 @@ pub returns-in-Err-clause-runs : goal.returns-in-Err-clause-runs
 returns-in-Err-clause-runs g c = inl (record {
   tells = c.report_no_memory.ensures.told;
   history = c.report_no_memory.ensures.history;
-  disks = c.report_no_memory.ensures.disks ∙ ap (λ parts. map (λ shard. shard.disk) parts.shards.items) c.in-Err.ensures.refused;
+  disks = c.report_no_memory.ensures.disks ∙ ap (λ parts. map (λ shard. shard.files.disk) parts.shards.items) c.in-Err.ensures.refused;
   input = refl;
 })
 

@@ -1,4 +1,5 @@
 use Rattle.std.proofs.Common.{◌≡◌, ◌∙◌, inl, length, refl, ap, arith}
+use Rattle.shared_store.proofs.StartLemmas.{picked}
 use Rattle.shard_set.specs.Disks.{faults_at, told_at}
 use Rattle.shard_set.specs.OpeningState.{opening_of}
 use Rattle.carbon_run.proofs.RunLemmas.{fresh_from, length_back}
@@ -12,6 +13,8 @@ run_parts-requires g c =
         new = c.in-Ok.ensures.order;
         sixteen_tails = omega (arith, c.in-Ok.ensures.tails.0, c.in-Ok.tails.ok.0);
         new_tails = c.in-Ok.ensures.tails.1;
+        sixteen_pairs = omega (arith, c.in-Ok-pairs.ensures, c.in-Ok-pairs.pairs.ok.0);
+        pairs = picked c.in-Ok-pairs.pairs.items;
         sixteen_shards = c.args.started.all;
         fresh_shards = fresh_from (told_at shards) (opening_of shards) (faults_at shards) shards c.requires;
       };

@@ -1,4 +1,5 @@
 use Rattle.std.proofs.Common.{refl, arith}
+use Rattle.shared_store.proofs.StartLemmas.{picked}
 use Rattle.shard_set.specs.Disks.{faults_at, told_at}
 use Rattle.shard_set.specs.OpeningState.{opening_of}
 use Rattle.line_front.proofs.StoreLemmas.{fresh_from}
@@ -13,6 +14,8 @@ run_store-requires g c =
         new = c.in_ok-order.ensures.order;
         sixteen_tails = omega (arith, c.in_ok-order.ensures.tails.0, c.in_ok-order.tails.ok.0);
         new_tails = c.in_ok-order.ensures.tails.1;
+        sixteen_pairs = omega (arith, c.in_ok-make_pairs.ensures, c.in_ok-make_pairs.field-0.ok.0);
+        pairs = picked c.in_ok-make_pairs.field-0.items;
         sixteen_shards = started.all;
         fresh_shards = fresh_from (told_at shards) (opening_of shards) (faults_at shards) shards c.in_ok-shards.ensures;
       };

@@ -5,7 +5,8 @@ use Rattle.shared_store.proofs.close.end_classes.Goals as goal
 
 pub loop-class-init : goal.loop-class-init
 loop-class-init g c = record {
-  left = omega (arith, c.reverse.ensures.len, c.requires.sixteen);
+  left = omega (arith, c.reverse.ensures.len, c.requires.sixteen.0);
+  files = omega (arith, c.reverse-2.ensures.len, c.requires.sixteen.1);
   disk_room = c.requires.room.0;
   tail_room = c.requires.room.1;
   ends = ends_none g.D.Disk g.N.Named.table g.N.Named.told g.N.Named.start g.N.Named.faults c.args.ends.disks.items c.args.ends.tails.items c.args.passes.now
@@ -22,6 +23,7 @@ pub loop-class-preserved : goal.loop-class-preserved
 loop-class-preserved g c =
     let v = c.loop-class.invariant in record {
       left = omega (arith, v.left, c.in-Some.ensures.cases);
+      files = omega (arith, v.files, c.in-Some-pop.ensures.cases);
       disk_room = omega (arith, v.disk_room, c.put.ensures.disk_room);
       tail_room = omega (arith, v.tail_room, c.put.ensures.tail_room);
       ends = ends_more g.D.Disk g.N.Named.table g.N.Named.told g.N.Named.start g.N.Named.faults c.loop-class.class c.loop-class.ends.disks.items c.put.new.self.disks.items

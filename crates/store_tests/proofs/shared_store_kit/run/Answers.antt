@@ -1,4 +1,5 @@
 use Rattle.std.proofs.Common.{◌≡◌, ℕ, refl, sym, subst, arith}
+use Rattle.shared_store.proofs.StartLemmas.{picked}
 use Rattle.shared_history.specs.Parts.{IsNewOrder}
 use Rattle.store_tests.proofs.shared_store_kit.run.Goals as goal
 
@@ -9,6 +10,8 @@ run_store-requires-clause-fresh g c κs within =
       new = subst (λ (n : ℕ). IsNewOrder n 16 c.in_ok-order.order) (sym c.in_ok-order.ensures.passes.0) c.in_ok-order.ensures.order;
       sixteen_tails = omega (arith, c.in_ok-order.ensures.tails.0, c.in_ok-order.tails.ok.0);
       new_tails = c.in_ok-order.ensures.tails.1;
+      sixteen_pairs = omega (arith, c.in_ok-make_pairs.ensures, c.in_ok-make_pairs.field-0.ok.0);
+      pairs = picked c.in_ok-make_pairs.field-0.items;
       sixteen_shards = started.all;
       fresh_shards = c.in_ok-shards.ensures;
     }

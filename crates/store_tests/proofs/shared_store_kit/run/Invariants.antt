@@ -1,6 +1,7 @@
 use Rattle.std.proofs.Common.{vec_len}
 use Rattle.shard_set.specs.Disks.{faults_at, told_at}
 use Rattle.shard_set.specs.OpeningState.{opening_of}
+use Rattle.shared_store.specs.Starts.{halves_at}
 use Rattle.store_tests.proofs.shared_store_kit.run.Given as goal
 
 -- the store is that of the history, of these passes, and of what the shards stand for as they start
@@ -8,6 +9,7 @@ abbrev pub ghosts-run_store : goal.ghosts-run_store
 ghosts-run_store g a = record {
   table = a.parts.order.table;
   passes = vec_len a.passes;
+  halves = halves_at a.parts.pairs.items;
   told = told_at a.parts.shards.items;
   start = opening_of a.parts.shards.items;
   faults = faults_at a.parts.shards.items;

@@ -1,11 +1,6 @@
-use Rattle.std.proofs.Common.{List, subst, sym}
-use Rattle.metric_index.specs.Found.{IsFitted}
-use Rattle.metric_table.specs.declared.found_metric.FoundMetric.{FoundMetric}
-use Rattle.shard_core.specs.Looks.{IsFoundIn}
-use Rattle.shard_core.specs.View.{inside_of}
+use Rattle.shard_core.specs.Halves.{files_of}
+use Rattle.shard_core.proofs.ReadingLemmas.{if_ok_more}
 use Rattle.shard_core.proofs.shard.Shard.count_looks.Goals as goal
 
-pub returns-in-Some : goal.returns-in-Some
-returns-in-Some g c =
-    c.in-Some.ensures.shards (inside_of c.args.self.now) c.args.glob.now
-    (subst (λ (found : List FoundMetric). IsFoundIn (inside_of c.args.self.now) (IsFitted c.args.glob.now) found) (sym c.deref.ensures.value) c.in_ok-found.ensures)
+pub returns : goal.returns
+returns g c = if_ok_more c.count_looks.result _ _ c.count_looks.ensures (λ it is. is (files_of c.args.self.now.files))

@@ -51,9 +51,6 @@ read_all-requires-clause-looks g c =
     (found_of s c.args.now needs c.in_ok-found.found.items c.in_ok-found-2.found.items up c.in_ok-found-2.ensures) in
     all_short s c.args.now needs c.as_slice-4.result.now found (few_found s c.args.now needs c.as_slice-4.result.now few found).1
 
-pub read_all-requires-clause-held : goal.read_all-requires-clause-held
-read_all-requires-clause-held g c = c.held_in-held.ensures.held c.args.pass.now.seen c.requires.desks.0
-
 pub returns-clause-answers : goal.returns-clause-answers
 returns-clause-answers g c =
     let n = g.N.Named in
@@ -86,6 +83,3 @@ returns-clause-rows g c =
     (found_of s c.args.now needs c.in_ok-found.found.items c.in_ok-found-2.found.items up c.in_ok-found-2.ensures) in
     rows_reads n.start n.told n.passes c.as_slice-4.result.now c.args.pass.now c.read_all.new.pass c.read_all.result
     (few_found s c.args.now needs c.as_slice-4.result.now few found).0 c.read_all.ensures.reads
-
-pub returns-clause-still : goal.returns-clause-still
-returns-clause-still g c = λ third. c.read_all.ensures.still (c.held_in-held.ensures.all third)

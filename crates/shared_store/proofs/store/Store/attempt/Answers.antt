@@ -10,11 +10,15 @@ answer-requires-clause-room g c =
     let entry : Entry = ask_by c.args.pass.now c.args.attempt c.args.now in
     omega (arith, c.requires.room, ap length c.enter_try.ensures.enters.enters.once, length-append (own_entries c.args.pass.now) (entry ∷ []))
 
+pub answer-requires-clause-desks : goal.answer-requires-clause-desks
+answer-requires-clause-desks g c =
+    (c.meet_all.ensures.desks c.enter_try.new.pass.seen c.enter_try.ensures.desks, omega (arith, c.meet_all.ensures.count, c.meet_all.new.desks.ok.0))
+
 pub returns-clause-tries : goal.returns-clause-tries
 returns-clause-tries g c =
     let n = g.N.Named in
     try_answered n.start n.told n.passes c.args.now c.args.needs.now c.args.attempt c.answer.result c.args.pass.now c.enter_try.new.pass c.answer.new.pass
-    c.enter_try.ensures.enters c.answer.ensures.answers c.answer.ensures.still
+    c.enter_try.ensures.enters c.answer.ensures.answers (λ third. c.answer.ensures.still (omega (arith, c.meet_all.ensures.many, c.in-Ok.ensures.all third)))
 
 pub returns-clause-looks : goal.returns-clause-looks
 returns-clause-looks g c =

@@ -1,0 +1,81 @@
+-- What holds of the files of a class while their lock is held and the desk is given back.
+use Rattle.std.proofs.Common.{◌≡◌, ◌≢◌, ◌∙◌, ◌⊎◌, inl, inr, ℕ, ◌<◌, ◌≤◌, ◌+◌, List, [], ◌∷◌, ◌++◌, Option, refl, sym, ap, subst, arith}
+use Rattle.std.specs.Prelude.{count_by, filter}
+use Rattle.metric_path.specs.Class.{class_of}
+use Rattle.outside_io.specs.Image.{Image}
+use Rattle.atomic_table.specs.Seated.{TableId}
+use Rattle.carbon_history.specs.declared.entry.Entry.{Entry}
+use Rattle.carbon_history.specs.declared.entry.Entry.TheVariants.{Put, Drain, Ask, Fault}
+use Rattle.carbon_history.specs.declared.entry.PutEnd.TheVariants.{Stored, Replaced, Full}
+use Rattle.carbon_history.specs.Entries.{about_class}
+use Rattle.carbon_model.specs.State.{State}
+use Rattle.carbon_model.specs.Replay.{after, replay}
+use Rattle.carbon_model.proofs.HistoryLemmas.{replay-append}
+use Rattle.class_halves.specs.Parts.{HalfValue}
+use Rattle.shard_core.specs.Halves.{FilesInside}
+use Rattle.shared_store.specs.Locks.{KeepsFiles, OnlyPuts, is_late}
+use Rattle.shared_store.specs.Tallies.{capped, is_fault}
+use Rattle.shared_store.proofs.AskStateLemmas.{part_of}
+
+-- ---- the locks of all classes
+
+-- a place in the locks that are held is one in those of all desks
+pub desk_there : (held desks i : ℕ) → (held ≡ 0) ⊎ (held ≡ 16) → desks ≡ 16 → i < held → i < desks
+desk_there held desks i (inl none) all less = absurd (omega (arith, none, less))
+desk_there held desks i (inr some) all less = omega (arith, some, all, less)
+
+pub as_many : (now held : ℕ) → now ≡ held → (held ≡ 0) ⊎ (held ≡ 16) → (now ≡ 0) ⊎ (now ≡ 16)
+as_many now held same (inl none) = inl (same ∙ none)
+as_many now held same (inr all) = inr (same ∙ all)
+
+-- ---- no drain is entered
+
+-- puts drain nothing
+drains_stay : (s : State) (xs : List Entry) (path : List ℕ) → filter is_late xs ≡ [] → (replay s xs).drains path ≡ s.drains path
+drains_stay s [] path e = refl
+drains_stay s (Put n p t v Stored ∷ xs) path e = drains_stay (after s (Put n p t v Stored)) xs path e
+drains_stay s (Put n p t v Replaced ∷ xs) path e = drains_stay (after s (Put n p t v Replaced)) xs path e
+drains_stay s (Put n p t v Full ∷ xs) path e = drains_stay s xs path e
+drains_stay s (Drain n p now ∷ xs) path e = absurd cc
+drains_stay s (Ask n a t now ∷ xs) path e = drains_stay s xs path e
+drains_stay s (Fault n c ∷ xs) path e = absurd cc
+
+drains_since : (start : State) (then now : List Entry) (path : List ℕ) → OnlyPuts then now → (replay start now).drains path ≡ (replay start then).drains path
+drains_since start then now path only =
+    ap (λ (l : List Entry). (replay start l).drains path) only.list
+    ∙ (ap (λ (s : State). s.drains path) (replay-append start then only.more) ∙ drains_stay (replay start then) only.more path only.puts)
+
+-- of two moments since which only puts came, a metric was drained as often at both
+pub drains_held : (start : State) (then list seen : List Entry) (class : ℕ) (path : List ℕ) → class_of path ≡ class → OnlyPuts then list → OnlyPuts then (about_class class seen)
+    → (replay start list).drains path ≡ (replay start seen).drains path
+drains_held start then list seen class path here now was =
+    drains_since start then list path now
+    ∙ (sym (drains_since start then (about_class class seen) path was) ∙ sym ((part_of start seen class).drains path here))
+
+-- ---- the disk failed no less often
+
+module _ (half_of : ℕ → TableId) (told : ℕ → Option Image) (start : State) (earlier : ℕ → ℕ) where
+  later_on : (files : FilesInside) (failed later : ℕ) (half : HalfValue) → failed ≤ later → KeepsFiles half_of told start earlier files failed half
+      → KeepsFiles half_of told start earlier files later half
+  later_on files failed later half more f = record {
+    within = f.within;
+    tied = f.tied;
+    holds = f.holds;
+    settled = f.settled;
+    owed = f.owed;
+    last = f.last;
+    runs = f.runs;
+    faults = no_fewer (capped (earlier files.class + count_by is_fault half.stand.list)) failed later f.faults more;
+    before = f.before;
+    layouts = f.layouts;
+    halves = f.halves;
+  }
+    where
+      no_fewer : (a b c : ℕ) → a ≤ b → b ≤ c → a ≤ c
+      no_fewer a b c p q = omega (arith, p, q)
+
+  pub files_read : (old new : FilesInside) (failed later : ℕ) (half other : HalfValue) → new ≡ old → other ≡ half → failed ≤ later
+      → KeepsFiles half_of told start earlier old failed half → KeepsFiles half_of told start earlier new later other
+  files_read old new failed later half other same is more f =
+      subst (λ (x : FilesInside). KeepsFiles half_of told start earlier x later other) (sym same)
+      (subst (λ (h : HalfValue). KeepsFiles half_of told start earlier old later h) (sym is) (later_on old failed later half more f))
