@@ -131,15 +131,16 @@ impl<V: Drop> Index<V> {
         fitted(alloc, entries.range(&least..), glob, known)
     }
 
-    /// How many known paths a search for this glob has to look at, or `most` where there are more.
+    /// How many known paths a search for this glob looks at, which are those that begin with its literal front, or `most` where there are more. A
+    /// glob without a wildcard, which is one look-up, looks at none.
     pub fn width(&self, alloc: Global, glob: &Glob, most: usize) -> Result<usize, AllocError> {
         if is_literal(glob) {
             return Ok(0);
         }
-        if self.entries.len() <= most {
-            return Ok(self.entries.len());
-        }
         let front = glob.literal_front();
+        if front.is_empty() {
+            return Ok(self.entries.len().min(most));
+        }
         let Some(least) = least_path(alloc, front)? else {
             return Ok(0);
         };

@@ -129,7 +129,7 @@ impl MetricTable {
         metrics_of(alloc, &self.layouts, &hits)
     }
 
-    /// How many metrics a search for this glob has to look at, or `most` where there are more.
+    /// How many metrics a search for this glob looks at, as [`Index::width`] answers.
     pub fn width(&self, alloc: Global, glob: &Glob, most: usize) -> Result<usize, AllocError> {
         self.index.width(alloc, glob, most)
     }

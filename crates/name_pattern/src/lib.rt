@@ -3,8 +3,12 @@
 
 mod name_test;
 mod pattern;
+mod pattern_text;
 mod plain;
 mod substitution;
+#[cfg(test)]
+mod tests;
 
 pub use name_test::NameTest;
 pub use pattern::{Pattern, Search};
+pub use pattern_text::PatternText;

@@ -8,7 +8,7 @@ ghost use Rattle.regex_hir.specs.Text.{is_boundary};
 ghost use Rattle.name_pattern.specs.Patterns.{SearchesFor, is_found, is_readable};
 ghost use Rattle.name_pattern.specs.PlainTexts.{Asks};
 
-use crate::pattern::Pattern;
+use crate::pattern::{MOST_STATE_BYTES, Pattern};
 use crate::plain::Plain;
 use regex_compile::compile;
 use regex_hir::Hir;
@@ -17,9 +17,6 @@ use regex_syntax::{Config, Parsed, parse};
 use regex_vm::Backtracker;
 use std::alloc::{AllocError, Global};
 use std::marker::Model;
-
-// The most bytes of the states of a pattern, as for a pattern that is searched.
-const MOST_STATE_BYTES: usize = 10 << 20;
 
 // What a text is read as, the states by which it is walked, and the text that it asks for if it asks for no more.
 #[derive(Drop)]

@@ -1,12 +1,19 @@
 //! Patterns, which are searched in names.
-ghost use Rattle.std.specs.Prelude.{◌≡◌, Some, None, IfOk, string_bytes, if◌then◌else◌};
+ghost use Rattle.std.specs.Prelude.{◌≡◌, ◌+◌, ◌≤◌, Some, None, IfOk, IfErr, string_bytes, if◌then◌else◌};
+ghost use Rattle.regex.specs.Failures.{IsRightKind};
+ghost use Rattle.regex.specs.Sources.{IsRefusal};
+ghost use Rattle.regex.specs.Strings.{regex_source, regex_config, regex_size, IsReadFromSource};
+ghost use Rattle.regex_syntax.specs.Verdict.{default_config};
 ghost use Rattle.name_pattern.specs.Patterns.{is_found, is_readable};
 ghost use Rattle.name_pattern.specs.Substitution.{substituted};
 
 use crate::substitution::written;
-use regex::{Error, Matcher, Regex};
+use regex::{Error, Matcher, Regex, RegexBuilder};
 use std::alloc::{AllocError, Global};
 use std::marker::Model;
+
+/// The most bytes of the states of a pattern.
+pub(crate) const MOST_STATE_BYTES: usize = 10 << 20;
 
 /// A compiled regular expression. Contracts see its text.
 #[derive(Drop)]
@@ -33,7 +40,19 @@ impl Pattern {
         ensures { IfOk result
             (λ pattern. pattern ≡ (if is_readable text.now then Some text.now else None)) }
     {
-        match Regex::new(alloc, text) {
+        Pattern::of_size(alloc, text, MOST_STATE_BYTES)
+    }
+
+    /// The same, where its states may have so many bytes.
+    pub(crate) fn of_size(
+        alloc: Global,
+        text: &str,
+        most: usize,
+    ) -> Result<Option<Pattern>, AllocError>
+        ensures { IfOk result
+            (λ pattern. pattern ≡ (if is_readable text.now then Some text.now else None)) }
+    {
+        match compiled(alloc, text, most) {
             Ok(regex) => return Ok(Some(Pattern { regex })),
             Err(Error::Syntax(_)) => return Ok(None),
             Err(_) => return Err(AllocError),
@@ -50,6 +69,18 @@ impl Pattern {
             matcher,
         })
     }
+}
+
+// The pattern with this text, whose states have at most so many bytes.
+fn compiled(alloc: Global, text: &str, most: usize) -> Result<Regex, Error>
+    ensures source { IfOk result (λ regex. regex_source regex ≡ text.now) }
+    ensures config { IfOk result (λ regex. regex_config regex ≡ default_config) }
+    ensures read { IfOk result IsReadFromSource }
+    ensures by_grammar { IfErr result (IsRefusal default_config text.now) }
+    ensures kind { IfErr result (IsRightKind default_config text.now) }
+    ensures small { IfOk result (λ regex. regex_size regex ≤ most + 24) }
+{
+    RegexBuilder::new(text).size_limit(most).build(alloc)
 }
 
 /// A pattern that is ready to be searched in names. Whether it is found takes no memory that it could want.

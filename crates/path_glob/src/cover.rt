@@ -12,8 +12,8 @@ use crate::cut::{cut_at, next_braces, next_piece};
 use crate::places::{Node, Places};
 use crate::positions::Positions;
 
-// With pieces of so many bytes the places of a node's bytes are looked up once.
-const MANY_PIECES: usize = 64;
+/// With pieces of so many bytes the places of a node's bytes are looked up once.
+pub(crate) const MANY_PIECES: usize = 64;
 
 /// Whether the glob with this text fits the path with this one.
 pub(crate) fn text_fits(glob: &[u8], path: &[u8]) -> bool

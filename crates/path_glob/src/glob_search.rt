@@ -51,8 +51,9 @@ impl<'a> GlobSearch<'a> {
     /// Whether the glob fits a path, as [`Glob::matches`] answers. An error is want of memory, or the work that
     /// is spent; the search is as before, and may go on.
     ///
-    /// A node of the path that is tried takes as much work as the glob's node has bytes, and one where it is
-    /// remembered. No work is taken where the path begins otherwise than the glob up to its first wildcard.
+    /// Each node of the path that is looked at takes work, 4 at least: as much as its pattern has bytes where it is held against it, and more
+    /// where these are lists or few, or less where it is remembered. No work is taken where the path begins otherwise than the glob up to its
+    /// first wildcard.
     pub fn matches(&mut self, work: &mut Work, path: &MetricPath) -> Result<bool, AllocError>
         ensures fits { IfOk result (λ fits. IsTrue fits ↔ Fits self.old.nodes (nodes_of path.now)) }
         ensures same { self.new ≡ self.old }

@@ -128,7 +128,10 @@ impl Positions {
         ensures next { (j : ℕ) → j < length node.now
             → held result (j + 1) ≡ (held self j && covers_byte bytes.entry (get_or node.now j 0)) }
     {
-        self.among(node.covered(bytes)).next()
+        match bytes {
+            ByteSet::Any => return self.next(),
+            _ => return self.among(node.covered(bytes)).next(),
+        }
     }
 
     // Those one place on.

@@ -24,17 +24,19 @@ fn answered(alloc: Global, glob: &[u8], work: u64, path: &[u8], fits: bool) -> R
 
 #[test]
 fn a_search_answers_while_its_work_lasts(rt: HostRuntime) -> Result<(), Fail> {
-    let rows: [(&[u8], u64, &[u8], bool, u32); 10] = [
-        (b"servers.*.cpu", 10, b"servers.web.cpu", true, 0),
-        (b"servers.*.cpu", 11, b"servers.web.cpu", true, 1),
-        (b"servers.*.cpu", 33, b"servers.web.cpu", true, 3),
+    let rows: [(&[u8], u64, &[u8], bool, u32); 12] = [
+        (b"servers.*.cpu", 23, b"servers.web.cpu", true, 0),
+        (b"servers.*.cpu", 24, b"servers.web.cpu", true, 1),
+        (b"servers.*.cpu", 72, b"servers.web.cpu", true, 3),
         (b"servers.*.cpu", 0, b"hosts.web.cpu", false, 3),
-        (b"servers.*.cpu", 33, b"servers.web", false, 3),
-        (LONG, 36, b"xd", true, 0),
-        (LONG, 37, b"xd", true, 1),
-        (LONG, 38, b"xd", true, 2),
-        (LONG, 39, b"xd", true, 3),
-        (LONG, 39, b"xe", false, 3),
+        (b"servers.*.cpu", 51, b"servers.web", false, 3),
+        (b"web[0-9]", 22, b"web1", true, 0),
+        (b"web[0-9]", 23, b"web1", true, 1),
+        (LONG, 111, b"xd", true, 0),
+        (LONG, 112, b"xd", true, 1),
+        (LONG, 148, b"xd", true, 2),
+        (LONG, 184, b"xd", true, 3),
+        (LONG, 184, b"xe", false, 3),
     ];
     for (glob, work, path, fits, wanted) in rows {
         assert_eq!(rt; answered(rt.alloc(), glob, work, path, fits)?, wanted);
@@ -47,10 +49,10 @@ fn a_search_goes_on_with_more_work(rt: HostRuntime) -> Result<(), Fail> {
     let glob = Glob::new(rt.alloc(), LONG)?;
     let path = MetricPath::new(rt.alloc(), b"xd")?;
     let mut search = GlobSearch::new(rt.alloc(), &glob)?;
-    let mut work = Work::new(36);
+    let mut work = Work::new(111);
     assert!(rt; search.matches(&mut work, &path).is_err());
     assert!(rt; work.left() == 0);
-    work = Work::new(37);
+    work = Work::new(112);
     assert!(rt; search.matches(&mut work, &path).ok() == Some(true));
     Ok(())
 }

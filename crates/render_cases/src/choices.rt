@@ -5,7 +5,7 @@ use crate::numbers::small_signed;
 use crate::room::plenty;
 use case_lines::{Case, CaseFault};
 use fixed_num::Milli;
-use name_pattern::Pattern;
+use name_pattern::PatternText;
 use series_pick::{Choose, Name, SignedNodes, choose};
 use std::alloc::Global;
 
@@ -37,7 +37,7 @@ fn read_choice(alloc: Global, case: &Case) -> Result<Option<Choose>, CaseFault> 
 }
 
 fn read_search(alloc: Global, case: &Case) -> Result<Option<Choose>, CaseFault> {
-    let Some(pattern) = Pattern::new(alloc, case.text(2)?)? else {
+    let Some(pattern) = PatternText::new(alloc, case.text(2)?)? else {
         return Ok(None);
     };
     match case.text(1)? {

@@ -9,7 +9,7 @@ use crate::argument::{Argument, argument_at, quoted_in};
 use crate::function::{Beside, Choosing, First, Match, Plain, Regrouping};
 use crate::shape::{count_in, value_in};
 use fixed_num::Milli;
-use name_pattern::Pattern;
+use name_pattern::PatternText;
 use series_funcs::{Combine, NodeNumbers, Regroup};
 use series_pick::{Choose, Name, SignedNodes};
 use std::alloc::{AllocError, Global};
@@ -91,13 +91,13 @@ fn matching_choice(alloc: Global, kind: Match, call: &Expr) -> Result<Option<Cho
     let Some(text) = text_of_second(call) else {
         return Ok(None);
     };
-    let Some(pattern) = Pattern::new(alloc, text)? else {
+    let Some(pattern) = PatternText::new(alloc, text)? else {
         return Ok(None);
     };
     Ok(Some(matching(kind, pattern)))
 }
 
-fn matching(kind: Match, pattern: Pattern) -> Choose
+fn matching(kind: Match, pattern: PatternText) -> Choose
     ensures { result ≡ matching kind pattern }
 {
     match kind {
@@ -129,7 +129,7 @@ fn alias_sub(alloc: Global, call: &Expr) -> Result<Option<Choose>, AllocError>
     let Some(replacement) = text_of_third(call) else {
         return Ok(None);
     };
-    let Some(pattern) = Pattern::new(alloc, text)? else {
+    let Some(pattern) = PatternText::new(alloc, text)? else {
         return Ok(None);
     };
     let replacement = Name::from_string(String::from_str(alloc, replacement)?);

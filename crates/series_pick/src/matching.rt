@@ -2,7 +2,7 @@
 ghost use Rattle.std.specs.Prelude.{◌≡◌, IfOk, filter};
 ghost use Rattle.series_pick.specs.Chosen.{is_kept, stays};
 
-use name_pattern::Pattern;
+use name_pattern::PatternText;
 use series_set::SeriesSet;
 use std::alloc::{AllocError, Global};
 
@@ -19,12 +19,13 @@ pub(crate) enum Keep {
 pub(crate) fn kept(
     alloc: Global,
     set: SeriesSet,
-    pattern: &Pattern,
+    pattern: &PatternText,
     keep: Keep,
 ) -> Result<SeriesSet, AllocError>
     ensures { IfOk result (λ kept. kept ≡ filter (is_kept keep pattern.now) set) }
 {
-    let mut search = pattern.search(alloc)?;
+    let ready = pattern.pattern(alloc)?;
+    let mut search = ready.search(alloc)?;
     let mut kept = Vec::new(alloc);
     for one in set.into_vec() {
         if is_kept(keep, search.is_found(one.name())) {

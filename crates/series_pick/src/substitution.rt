@@ -2,7 +2,7 @@
 ghost use Rattle.std.specs.Prelude.{◌≡◌, IfOk, map};
 ghost use Rattle.series_pick.specs.Chosen.{renamed_by_pattern};
 
-use name_pattern::Pattern;
+use name_pattern::PatternText;
 use series_set::{Allowance, SeriesSet};
 use std::alloc::{AllocError, Global};
 
@@ -10,14 +10,15 @@ use std::alloc::{AllocError, Global};
 pub(crate) fn substituted(
     alloc: Global,
     set: SeriesSet,
-    pattern: &Pattern,
+    pattern: &PatternText,
     replacement: &str,
     mut room: Allowance,
 ) -> Result<SeriesSet, AllocError>
     ensures { IfOk result (λ named.
         named ≡ map (renamed_by_pattern pattern.now replacement.now) set) }
 {
-    let mut search = pattern.search(alloc)?;
+    let ready = pattern.pattern(alloc)?;
+    let mut search = ready.search(alloc)?;
     let series = set.into_vec();
     let mut named = Vec::with_capacity(alloc, series.len())?;
     for one in series {

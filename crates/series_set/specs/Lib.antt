@@ -4,3 +4,4 @@ pub mod CommonGrid
 pub mod OnGrid
 pub mod Thinned
 pub mod GridLaws
+pub mod Sizes

@@ -1,5 +1,6 @@
 //! The memory that one question may use.
-ghost use Rattle.std.specs.Prelude.{◌≡◌, ◌+◌, OnErr, OnOk};
+ghost use Rattle.std.specs.Prelude.{◌≡◌, ◌+◌, ◌-◌, ◌*◌, ◌≤◌, OnErr, OnOk};
+ghost use Rattle.series_set.specs.Sizes.{counted, shares_of, size, together};
 
 use std::alloc::AllocError;
 
@@ -16,8 +17,10 @@ pub struct Size {
 const VALUE_BYTES: u64 = 16;
 
 impl Size {
-    /// So many values.
-    pub fn of_values(count: u64) -> Size {
+    /// So many values, of 16 bytes each.
+    pub fn of_values(count: u64) -> Size
+        ensures { result ≡ size 0 (counted (count * 16)) }
+    {
         Size {
             names: 0,
             others: count.saturating_mul(VALUE_BYTES),
@@ -45,7 +48,9 @@ impl Size {
     }
 
     /// Both together, or the most that there is.
-    pub fn plus(self, other: Size) -> Size {
+    pub fn plus(self, other: Size) -> Size
+        ensures { result ≡ together self other }
+    {
         Size {
             names: self.names.saturating_add(other.names),
             others: self.others.saturating_add(other.others),
@@ -64,7 +69,9 @@ const NAMES_PART: u64 = 16;
 
 impl Allowance {
     /// So many bytes, of which a sixteenth is for names.
-    pub fn new(bytes: u64) -> Allowance {
+    pub fn new(bytes: u64) -> Allowance
+        ensures { result.left ≡ shares_of bytes }
+    {
         let names = bytes / NAMES_PART;
         Allowance {
             left: Size {
@@ -82,7 +89,10 @@ impl Allowance {
     }
 
     /// Whether so many bytes are left, which stay so. Else that is want of memory.
-    pub fn bear(&self, size: Size) -> Result<(), AllocError> {
+    pub fn bear(&self, size: Size) -> Result<(), AllocError>
+        ensures names { OnOk result (size.names ≤ self.now.left.names) }
+        ensures others { OnOk result (size.others ≤ self.now.left.others) }
+    {
         let mut left = *self;
         left.take(size)
     }
@@ -105,15 +115,21 @@ impl Allowance {
 
     /// Takes a name of so many bytes that a series gets instead of one of `before` bytes.
     pub fn take_name(&mut self, bytes: usize, before: usize) -> Result<(), AllocError>
-        ensures { OnErr result (self.new ≡ self.old) }
+        ensures room { OnOk result (bytes ≤ self.old.left.names) }
+        ensures names { OnOk result (self.new.left.names
+            ≡ counted ((self.old.left.names - bytes) + before)) }
+        ensures others { OnOk result (self.new.left.others ≡ self.old.left.others) }
+        ensures err { OnErr result (self.new ≡ self.old) }
     {
         self.take(Size::of_name(bytes))?;
-        self.give_back(Size::of_name(before));
+        self.left.names = self.left.names.saturating_add(before as u64);
         Ok(())
     }
 
     /// Gives bytes back that were taken.
-    pub fn give_back(&mut self, size: Size) {
+    pub fn give_back(&mut self, size: Size)
+        ensures { self.new.left ≡ together self.old.left size }
+    {
         self.left = self.left.plus(size);
     }
 }

@@ -3,6 +3,7 @@ ghost use Rattle.std.specs.Prelude.{◌≡◌, ◌+◌, ◌*◌, ◌≤◌, ◌�
 ghost use Rattle.series_set.specs.CommonGrid.{has_grid};
 ghost use Rattle.series_set.specs.OnGrid.{IsPlaceOf};
 ghost use Rattle.series_set.specs.Series.{IsSeries, SeriesValue, end_of, latest_end, most_values};
+ghost use Rattle.series_set.specs.Sizes.{size_of};
 
 use crate::allowance::Size;
 use crate::grid::Grid;
@@ -166,7 +167,9 @@ impl Series {
     }
 
     /// What the series takes.
-    pub fn size(&self) -> Size {
+    pub fn size(&self) -> Size
+        ensures { result ≡ size_of self.now }
+    {
         let path = Size::of_text(self.path.len().saturating_add(SERIES_BYTES));
         let texts = Size::of_name(self.name.len()).plus(path);
         texts.plus(Size::of_values(self.values.len() as u64))

@@ -1,5 +1,6 @@
 //! Lists of series.
 ghost use Rattle.std.specs.Prelude.{◌≡◌, ◌++◌, [], ◌∷◌, OnOk, OnErr, length, slice_get, option_map};
+ghost use Rattle.series_set.specs.Sizes.{size_of_all};
 
 use crate::allowance::Size;
 use crate::series::Series;
@@ -69,7 +70,9 @@ impl SeriesSet {
     }
 
     /// What the series take.
-    pub fn size(&self) -> Size {
+    pub fn size(&self) -> Size
+        ensures { result ≡ size_of_all self.now }
+    {
         let mut size = Size::of_text(0);
         for series in &self.items {
             size = size.plus(series.size());

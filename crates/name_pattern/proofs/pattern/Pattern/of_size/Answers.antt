@@ -6,7 +6,7 @@ use Rattle.regex.specs.declared.string.regex.Regex.{Regex}
 use Rattle.regex_syntax.specs.declared.error.ErrorKind.TheVariants.{OutOfMemory}
 use Rattle.name_pattern.specs.Patterns.{is_readable}
 use Rattle.name_pattern.proofs.PatternLemmas.{readable, not_readable}
-use Rattle.name_pattern.proofs.pattern.Pattern.new.Goals as goal
+use Rattle.name_pattern.proofs.pattern.Pattern.of_size.Goals as goal
 
 read_by : (r : Regex) (text : List ℕ) → IsReadFromSource r → regex_config r ≡ default_config → regex_source r ≡ text → is_readable text ≡ true
 read_by r text reads config same =
