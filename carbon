@@ -16,6 +16,8 @@ TRY_SECONDS=600
 READING=120
 PACE=26
 BELOW=12
+# for how many seconds at most what listens for a line `stop` goes on behind the script
+LISTENS_FOR=2
 
 say() {
     echo "carbon: $*" >&2
@@ -55,10 +57,20 @@ serve() {
     exit "$status"
 }
 
-# Waits for a line `stop`.
+# Waits for a line `stop`, while there is a process to tell.
 listen() {
-    while IFS= read -r line; do
-        [ "$line" = stop ] && kill -TERM "$1" && return
+    front=
+    while kill -0 "$1" 2>/dev/null; do
+        IFS= read -r -t "$LISTENS_FOR" line
+        case $? in
+        0)
+            [ "$front$line" = stop ] && kill -TERM "$1" && return
+            front=
+            ;;
+        # what has come of a line until the time was over
+        12[89] | 1[3-9]? | 2??) front+=$line ;;
+        *) return ;;
+        esac
     done
 }
 
