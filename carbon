@@ -57,10 +57,10 @@ serve() {
     exit "$status"
 }
 
-# Waits for a line `stop`, while there is a process to tell.
+# Waits for a line `stop`, while the script that began this is there to be told.
 listen() {
     front=
-    while kill -0 "$1" 2>/dev/null; do
+    while is_child_of "$1"; do
         IFS= read -r -t "$LISTENS_FOR" line
         case $? in
         0)
@@ -72,6 +72,15 @@ listen() {
         *) return ;;
         esac
     done
+}
+
+# Whether this process has that parent. One that has ended has no children, also while nobody has taken note of its end.
+is_child_of() {
+    local stat
+    read -r stat <"/proc/$BASHPID/stat" || return
+    # behind the name of the program, which stands in brackets: a state and the parent
+    read -r _ stat _ <<<"${stat##*) }"
+    [ "$stat" = "$1" ]
 }
 
 # Prints how many crates the program has, how many minutes are left, and which crates are at work. `now` is in seconds from the first proof

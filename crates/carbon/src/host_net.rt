@@ -2,7 +2,7 @@
 ghost use Rattle.std.specs.Prelude.{◌≡◌};
 
 use outside_io::{Net, NetFailed};
-use std::io::ErrorKind;
+use std::io::{BufRead, ErrorKind};
 use std::thread;
 use std::time::Duration;
 use tcp_net::{NetCloser, TcpLink, TcpNet};
@@ -70,11 +70,12 @@ pub(crate) fn close_at_stop(rt: HostRuntime, closer: NetCloser, stops_at_end: bo
 }
 
 // Reads lines up to `stop`, or to the end of the input. A line that is no text is passed over. Where there is no memory for the rest of a line
-// it is read again after a pause, behind what has come of it.
+// it is read again after a pause, behind what has come of it; the one reader keeps what it has taken.
 fn is_stop_read(rt: &HostRuntime) -> bool {
+    let mut input = rt.reader();
     let mut line = String::new(rt.alloc());
     for _ in 0..u64::MAX {
-        match rt.read_line(&mut line) {
+        match input.read_line(&mut line) {
             Ok(count) => {
                 let is_stop = line.as_str().trim_end() == "stop";
                 if is_stop || count == 0 {
