@@ -16,6 +16,8 @@ TRY_SECONDS=600
 READING=120
 PACE=26
 BELOW=12
+# for how many seconds at most what listens for a line `stop` goes on behind the script
+LISTENS_FOR=2
 
 say() {
     echo "carbon: $*" >&2
@@ -55,11 +57,30 @@ serve() {
     exit "$status"
 }
 
-# Waits for a line `stop`.
+# Waits for a line `stop`, while the script that began this is there to be told.
 listen() {
-    while IFS= read -r line; do
-        [ "$line" = stop ] && kill -TERM "$1" && return
+    front=
+    while is_child_of "$1"; do
+        IFS= read -r -t "$LISTENS_FOR" line
+        case $? in
+        0)
+            [ "$front$line" = stop ] && kill -TERM "$1" && return
+            front=
+            ;;
+        # what has come of a line until the time was over
+        12[89] | 1[3-9]? | 2??) front+=$line ;;
+        *) return ;;
+        esac
     done
+}
+
+# Whether this process has that parent. One that has ended has no children, also while nobody has taken note of its end.
+is_child_of() {
+    local stat
+    read -r stat <"/proc/$BASHPID/stat" || return
+    # behind the name of the program, which stands in brackets: a state and the parent
+    read -r _ stat _ <<<"${stat##*) }"
+    [ "$stat" = "$1" ]
 }
 
 # Prints how many crates the program has, how many minutes are left, and which crates are at work. `now` is in seconds from the first proof

@@ -20,6 +20,7 @@ import struct
 import subprocess
 import sys
 import tempfile
+import threading
 import time
 
 from live import HERE, PROGRAM, class_of, folder, need_program, write_rules
@@ -213,6 +214,38 @@ def a_file_that_is_cut_while_it_serves_does_not_grow_again():
 
 
 @case
+def a_pipe_in_the_place_of_a_file_holds_up_its_class_alone():
+    with folder() as place:
+        want(script(place, "a.b 1 1700000000\n")[0], 0, "a first run")
+        ring = path_of(place, "a.b")
+        kept = open(ring, "rb").read()
+        with serving(place=place) as daemon:
+            os.remove(ring)
+            os.mkfifo(ring)
+            daemon.send(point("a.b", 7) + point("b.c", 8))
+            want(settled(lambda: "no plain file" in daemon.told()), True, "the reason on standard error")
+            want(settled(lambda: os.path.exists(path_of(place, "b.c"))), True, "another class")
+            want(daemon.ask("a.b")[0], 500, "a question that reads it")
+            os.remove(ring)
+            open(ring, "wb").write(kept)
+            want(daemon.stop()[0:2], (0, "stored 2 replaced 0 full 0 drains 2"), "the stop, once the file is back")
+
+
+@case
+def a_folder_that_becomes_a_link_is_told_and_nothing_is_written_behind_it():
+    with folder() as place:
+        want(script(place, "a.b.c 1 1700000000\n")[0], 0, "a first run")
+        inner = os.path.dirname(path_of(place, "a.b.c"))
+        with serving(place=place) as daemon:
+            os.rename(inner, os.path.join(place, "kept"))
+            os.symlink(os.path.join(place, "kept"), inner)
+            daemon.send(point("a.b.c", 7))
+            want(settled(lambda: "it stands behind a/b" in daemon.told()), True, "the reason on standard error")
+            want(daemon.stop()[0], 5, "the stop")
+        want(os.listdir(os.path.join(place, "kept")), ["c.ring"], "what stands behind it")
+
+
+@case
 def a_folder_that_cannot_be_written_is_refused_at_the_start():
     with own_folder() as place:
         os.makedirs(os.path.join(place, "data", "03"))
@@ -306,6 +339,18 @@ def a_second_carbon_in_a_folder_is_refused():
 
 
 @case
+def a_second_carbon_over_the_same_ring_files_is_refused():
+    for first_is_linked in False, True:
+        with folder() as one, folder() as other:
+            os.mkdir(os.path.join(one, "data"))
+            os.symlink(os.path.join(one, "data"), os.path.join(other, "data"))
+            first, second = (other, one) if first_is_linked else (one, other)
+            with serving(place=first):
+                with serving(place=second) as daemon:
+                    want(daemon.end(), (12, "carbon: folder in use"), "the second one")
+
+
+@case
 def two_carbons_that_start_at_once_lose_nothing():
     with folder() as place:
         both = [Daemon(place), Daemon(place)]
@@ -323,7 +368,37 @@ def few_descriptors_are_told_at_the_start():
         resource.setrlimit(resource.RLIMIT_NOFILE, (60, 60))
 
     with serving("--receivers", "16", "--renderers", "16", preexec_fn=few) as daemon:
-        want(daemon.end(), (13, "carbon: file descriptors: 72 needed, 60 given"), "status and line")
+        want(daemon.end(), (13, "carbon: file descriptors: 333 needed, 60 given"), "status and line")
+
+
+@case
+def a_stop_opens_no_more_than_the_start_demands():
+    def exact():
+        resource.setrlimit(resource.RLIMIT_NOFILE, (333, 333))
+
+    with serving("--receivers", "16", "--renderers", "16", preexec_fn=exact) as daemon:
+        senders = [socket.create_connection(("127.0.0.1", daemon.line_port), 5) for _ in range(16 + 120)]
+        askers = [socket.create_connection(("127.0.0.1", daemon.http_port), 5) for _ in range(16 + 120)]
+        for k, link in enumerate(senders):
+            link.sendall(point("a.n%d" % k).encode())
+        for link in askers:
+            link.sendall(b"GET /metrics/find?query=a HTTP/1.1\r\nHost: a\r\n\r\n")
+        want(daemon.stop()[0:2], (0, "stored 136 replaced 0 full 0 drains 136"), "the stop")
+        want(sum(link.recv(64).startswith(b"HTTP/1.1 200") for link in askers), 136, "replies to all that waited")
+        for link in senders + askers:
+            link.close()
+
+
+@case
+def few_threads_are_told_at_the_start():
+    def few():
+        resource.setrlimit(resource.RLIMIT_NPROC, (20, 20))
+
+    with own_folder() as place:
+        as_nobody(place)
+        with serving("--receivers", "16", "--renderers", "16", place=place, user=NOBODY, preexec_fn=few) as daemon:
+            status, line = daemon.end()
+            want((status, re.sub(r"\d+ given", "N given", line)), (13, "carbon: threads: 34 needed, N given"), "status and line")
 
 
 @case
@@ -468,23 +543,66 @@ def slow_heads_do_not_keep_the_renderers():
         want(time.time() - begun < 30, True, "within half a minute")
 
 
+@case
+def silent_connections_do_not_keep_the_renderers():
+    with serving("--renderers", "16") as daemon:
+        silent = [socket.create_connection(("127.0.0.1", daemon.http_port), 5) for _ in range(120)]
+        begun = time.time()
+        want(daemon.ask("a.b", 20)[0], 200, "a question behind 120 connections that say nothing")
+        took = time.time() - begun
+        print("    (%.1f s)" % took)
+        want(took < 5, True, "within five seconds")
+        for link in silent:
+            link.close()
+
+
+@case
+def a_kept_connection_stays_while_a_renderer_is_free():
+    with serving("--renderers", "2") as daemon:
+        kept = socket.create_connection(("127.0.0.1", daemon.http_port), 5)
+        for _ in range(2):
+            kept.sendall(b"GET /metrics/find?query=a HTTP/1.1\r\nHost: a\r\n\r\n")
+            want(kept.recv(65536)[:12], b"HTTP/1.1 200", "a reply over the kept connection")
+            for _ in range(5):
+                want(daemon.ask("a.b")[0], 200, "a question beside it")
+                time.sleep(0.3)
+        kept.close()
+
+
 # ---- the stop
 
 
 @case
-def a_stop_waits_for_no_reader_that_stalls():
-    with serving() as daemon:
-        daemon.send("".join(point("long.n%06d" % k) for k in range(200_000)))
-        link = socket.socket()
-        link.setsockopt(socket.SOL_SOCKET, socket.SO_RCVBUF, 4096)
-        link.connect(("127.0.0.1", daemon.http_port))
-        link.sendall(b"GET /metrics/index.json HTTP/1.0\r\n\r\n" * 1)
-        time.sleep(1)
-        status, line, took = daemon.stop(60)
-        want((status, line), (0, "stored 200000 replaced 0 full 0 drains 200000"), "the stop")
-        want(took < 60, True, "seconds")
-        print("    (%.1f s, drains among them)" % took)
-        link.close()
+def a_stop_waits_for_no_reader_that_stalls_or_sips():
+    count = 20_000
+    for sips in False, True:
+        with serving() as daemon:
+            daemon.send("".join(point("long.n%06d" % k) for k in range(count)))
+            want(settled(lambda: files_in(daemon.place) == count, 60), True, "all drained before the stop")
+            link = socket.socket()
+            link.setsockopt(socket.SOL_SOCKET, socket.SO_RCVBUF, 4096)
+            link.connect(("127.0.0.1", daemon.http_port))
+            # more than the buffers of the system take
+            link.sendall(b"GET /metrics/index.json HTTP/1.1\r\nHost: a\r\n\r\n" * 64)
+            if sips:
+                threading.Thread(target=sip, args=(link,), daemon=True).start()
+            time.sleep(1)
+            status, line, took = daemon.stop(60)
+            want((status, line), (0, "stored %d replaced 0 full 0 drains %d" % (count, count)), "the stop")
+            print("    (%s: %.1f s)" % ("sips" if sips else "stalls", took))
+            # a second in which links go on, five for what is under way, and one for what else runs on the machine
+            want(took < 7, True, "within seven seconds")
+            link.close()
+
+
+def sip(link):
+    with contextlib.suppress(OSError):
+        while link.recv(4096):
+            time.sleep(1)
+
+
+def files_in(place):
+    return sum(len(files) for _, _, files in os.walk(os.path.join(place, "data")))
 
 
 @case
@@ -509,11 +627,30 @@ def the_end_of_the_launcher_is_a_stop():
     for how in signal.SIGTERM, signal.SIGHUP, signal.SIGKILL:
         with serving(launched=True) as daemon:
             daemon.send(point("a.b", 7))
+            below = children(daemon.process.pid)
+            want(len(below), 2, "the program and the listener")
             daemon.process.send_signal(how)
             gone = settled(lambda: refuses(daemon.line_port), 20)
             want(gone, True, "the port after %s" % how.name)
             settled(lambda: lock_is_free(daemon.place), 20)
             want(os.path.exists(path_of(daemon.place, "a.b")), True, "the drained file after %s" % how.name)
+            want(settled(lambda: not any(map(is_there, below)), 20), True, "the end of both after %s" % how.name)
+
+
+def children(pid):
+    found = []
+    for name in filter(str.isdigit, os.listdir("/proc")):
+        with contextlib.suppress(OSError), open("/proc/%s/stat" % name) as file:
+            if int(file.read().rpartition(")")[2].split()[1]) == pid:
+                found.append(int(name))
+    return found
+
+
+def is_there(pid):
+    """Whether a process is, and has not ended."""
+    with contextlib.suppress(OSError), open("/proc/%d/stat" % pid) as file:
+        return file.read().rpartition(")")[2].split()[0] != "Z"
+    return False
 
 
 def is_stale():

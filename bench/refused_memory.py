@@ -1,45 +1,223 @@
 #!/usr/bin/env python3
-"""Memory that is refused: the examples run once for each growth of memory, which fails.
+"""Memory that is refused: the built program runs once for each request for memory that it makes, which is refused, and only that one.
 
-Usage: bench/refused_memory.py [EXAMPLE..]      (all scripts of examples/ without a word)
+Usage: bench/refused_memory.py [EXAMPLE..]      (all scripts of examples/, and a server, without a word; `server` alone is the server)
 
-Runs each script by the toolchain's interpreter, which builds the program once and makes its first request for memory fail, then its second, and so on to
-the last (`rt try --fail-alloc`). Each run has to end by itself: with the whole output and status 0, where the program went on without that memory, or with
-status 8 and `carbon: no memory` behind a front of the output. What faults, hangs, or ends with status 0 and another output is told, and makes the exit status 1.
-A script takes some minutes; it is no part of the gate.
+A library that stands before `malloc` and its kin (`bench/refuse_c.c`, for which a C compiler is needed) refuses the first request of a run, in the
+next run the second, and so on, until a run makes no more. A run of a script has to end by itself
+
+  whole      with status 0 and the whole output: the program went on without that memory
+  short      with status 8 and `carbon: no memory` behind a front of the output
+  by fault   or with replies of a failed disk, or status 5, where standard error tells a file for which there was no memory
+
+and a run of a server, which takes two lines, answers a question and a request for names, and is stopped, likewise:
+
+  whole      all is taken, answered and drained, with status 0
+  short      a reply is 503, a connection or the server ends early (8 or 13, before or behind its service), and no answer is wrong
+  by fault   a reply is 500, or status 5, as above
+  unserved   the requests wait for the one renderer until the server is stopped, which drains all, with status 0: there was no memory for its thread
+
+After each run a second one over the same folder has to find its files whole. What ends in another way is told, and makes the exit status 1. Run
+./carbon build first.
 """
+import contextlib
 import glob
 import os
+import re
+import shutil
+import socket
 import subprocess
 import sys
+import tempfile
 import time
 
-from live import HERE
+from live import HERE, PROGRAM, folder, need_program
 
 TOP = os.path.abspath(os.path.join(HERE, ".."))
+PORTS = re.compile(r"carbon: lines on (\d+), HTTP on (\d+)")
+KINDS = ("whole", "short", "by fault", "unserved")
+
+
+def built(place):
+    compiler = shutil.which("cc") or shutil.which("gcc")
+    if not compiler:
+        sys.exit("no C compiler")
+    library = os.path.join(place, "refuse.so")
+    subprocess.run([compiler, "-O2", "-shared", "-fPIC", "-o", library, os.path.join(HERE, "refuse_c.c")], check=True)
+    return library
+
+
+class Refusing:
+    """The environment of a run whose request of this number is refused; 0: none is."""
+
+    def __init__(self, library, place, number):
+        self.mark = os.path.join(place, "refused")
+        self.words = dict(os.environ, LD_PRELOAD=library, REFUSE=str(number), REFUSED=self.mark)
+
+    def came(self):
+        return os.path.exists(self.mark)
+
+
+def is_sound(place):
+    """Whether a run over what another one left finds files that are whole."""
+    ran = subprocess.run([PROGRAM, "script"], input=b"", cwd=place, capture_output=True, timeout=60)
+    return ran.returncode == 0
+
+
+# ---- scripts
+
+
+def judge_script(status, out, said, whole):
+    """What kind of end it is, or None."""
+    if (status, out) == (0, whole):
+        return "whole"
+    lines = out.splitlines(keepends=True)
+    if status == 8 and lines[-1:] == [b"carbon: no memory\n"] and whole.startswith(b"".join(lines[:-1])):
+        return "short"
+    if status in (0, 5) and b"out of memory" in said and b"disk fault" in out:
+        return "by fault"
+    return None
+
+
+def run_script(library, text, number):
+    with tempfile.TemporaryDirectory() as beside, folder() as place:
+        refusing = Refusing(library, beside, number)
+        ran = subprocess.run([PROGRAM, "script"], input=text, cwd=place, env=refusing.words, capture_output=True, timeout=60)
+        return refusing.came(), ran.returncode, ran.stdout, ran.stderr, is_sound(place)
+
+
+def try_script(library, example):
+    with open(example, "rb") as file:
+        text = file.read()
+    whole = run_script(library, text, 0)[2]
+
+    def once(number):
+        came, status, out, said, sound = run_script(library, text, number)
+        kind = judge_script(status, out, said, whole) if sound else None
+        return came, kind, "status %d, %s, %r, standard error %r" % (status, "sound files" if sound else "damaged files", out[-200:], said[-200:])
+
+    return try_each(os.path.basename(example), once)
+
+
+# ---- a server
+
+
+def exchange(port, request):
+    """The status of a reply and its body; no status where the connection ended first, and `late` where nothing came for 5 seconds."""
+    reply = b""
+    try:
+        with socket.create_connection(("127.0.0.1", port), timeout=5) as link:
+            link.sendall(request)
+            while True:
+                piece = link.recv(65536)
+                if not piece:
+                    break
+                reply += piece
+    except ConnectionError:
+        pass
+    except TimeoutError:
+        return b"late", b""
+    head, _, body = reply.partition(b"\r\n\r\n")
+    return (head.split()[1] if head else None), body
+
+
+def send(port, text):
+    with contextlib.suppress(OSError), socket.create_connection(("127.0.0.1", port), timeout=5) as link:
+        link.sendall(text)
+        link.shutdown(socket.SHUT_WR)
+        while link.recv(4096):
+            pass
+
+
+def judge_server(status, replies, allowed, last, said):
+    """`allowed` has for each reply what may be found: all that was sent first, and then the fronts of it."""
+    told = [code for code, _ in replies]
+    if any(code == b"200" and body not in bodies for (code, body), bodies in zip(replies, allowed)):
+        return None
+    if status == 0 and replies == [(b"200", bodies[0]) for bodies in allowed] and re.fullmatch(b"stored 2 replaced 0 full 0 drains [12]", last):
+        return "whole"
+    if b"out of memory" in said and (b"500" in told or status == 5):
+        return "by fault"
+    if all(code in (b"200", b"503", None) for code in told) and status in (0, 8, 13):
+        return "short"
+    if status == 0 and set(told) == {b"late"} and last.startswith(b"stored 2 "):
+        return "unserved"
+    return None
+
+
+def run_server(library, number):
+    now = int(time.time()) // 60 * 60 - 60
+    ends = now - 60, now + 60
+    allowed = [(b"a.b,%d,%d,60|1.5,2.5\n" % ends, b"a.b,%d,%d,60|1.5,None\n" % ends, b""), (b'["a.b"]', b"[]")]
+    with tempfile.TemporaryDirectory() as beside, folder() as place:
+        refusing = Refusing(library, beside, number)
+        words = [PROGRAM, "serve", "--line-port", "0", "--http-port", "0", "--receivers", "1", "--renderers", "1"]
+        told = open(os.path.join(beside, "said"), "w+b")
+        process = subprocess.Popen(words, cwd=place, env=refusing.words, stdin=subprocess.PIPE, stdout=subprocess.PIPE, stderr=told)
+        ports, replies = None, []
+        for _ in range(1000):
+            ports = PORTS.search(said(told).decode())
+            if ports or process.poll() is not None:
+                break
+            time.sleep(0.005)
+        if ports:
+            send(int(ports[1]), b"a.b 1.5 %d\na.b 2.5 %d\n" % (now - 60, now))
+            query = b"target=a.b&from=%d&until=%d&format=raw" % (now - 120, now)
+            replies.append(exchange(int(ports[2]), b"GET /render?%s HTTP/1.0\r\n\r\n" % query))
+            replies.append(exchange(int(ports[2]), b"GET /metrics/index.json HTTP/1.0\r\n\r\n"))
+        try:
+            out, _ = process.communicate(b"stop\n", timeout=30)
+        except subprocess.TimeoutExpired:
+            process.kill()
+            out, _ = process.communicate()
+        last = (out.splitlines() or [b""])[-1]
+        return refusing.came(), process.returncode, replies, allowed, last, said(told), is_sound(place)
+
+
+def said(file):
+    file.seek(0)
+    return file.read()
+
+
+def try_server(library):
+    def once(number):
+        came, status, replies, allowed, last, told, sound = run_server(library, number)
+        kind = judge_server(status, replies, allowed, last, told) if sound else None
+        return came, kind, "status %d, %s, %r, %r, standard error %r" % (status, "sound files" if sound else "damaged files", replies, last, told[-200:])
+
+    return try_each("server", once)
+
+
+# ----
+
+
+def try_each(name, once):
+    """Refuses one request after the other, and tells how the runs ended; whether each did as it has to."""
+    begun, count, bad = time.time(), dict.fromkeys(KINDS, 0), 0
+    came, kind, how = once(0)
+    if kind != "whole":
+        sys.exit("%s: with all memory: %s" % (name, how))
+    for number in range(1, 1_000_000):
+        came, kind, how = once(number)
+        if not came:
+            break
+        if kind:
+            count[kind] += 1
+        else:
+            bad += 1
+            print("    request %d: %s" % (number, how), flush=True)
+    ends = ", ".join("%d %s" % (count[kind], kind) for kind in KINDS if count[kind])
+    print("%-28s %5d requests: %s, %d otherwise (%.0f s)" % (name, sum(count.values()) + bad, ends, bad, time.time() - begun), flush=True)
+    return not bad
 
 
 def main():
-    examples = sys.argv[1:] or sorted(glob.glob(os.path.join(TOP, "examples", "*.txt")))
-    failed = False
-    for example in examples:
-        begun = time.time()
-        with open(example, "rb") as file:
-            ran = subprocess.run(
-                ["rt", "try", "--fail-alloc", "1..", "--", "script"],
-                stdin=file,
-                stdout=subprocess.PIPE,
-                stderr=subprocess.STDOUT,
-                cwd=os.path.join(TOP, "crates", "carbon"),
-                text=True,
-                errors="replace",
-            )
-        lines = ran.stdout.splitlines()
-        print("%s: %s (%.0f s)" % (os.path.basename(example), lines[-1] if lines else "nothing was said", time.time() - begun), flush=True)
-        if ran.returncode != 0:
-            failed = True
-            print("\n".join("    " + line for line in lines[-20:]))
-    sys.exit(1 if failed else 0)
+    need_program()
+    names = sys.argv[1:] or [*sorted(glob.glob(os.path.join(TOP, "examples", "*.txt"))), "server"]
+    with tempfile.TemporaryDirectory() as place:
+        library = built(place)
+        fine = [try_server(library) if name == "server" else try_script(library, name) for name in names]
+    sys.exit(0 if all(fine) else 1)
 
 
 main()

@@ -10,6 +10,8 @@ Runs `carbon serve` over a folder on the disk of /tmp and checks, over its ports
   series     a question that finds 10,000 series, and one that finds 10,001, which is refused in words
   values     a question for nearly 4,000,000 values, in each of the three forms
   head       a question whose head has 16,384 bytes
+  eight      eight questions at once for nearly 4,000,000 values each, of one series and of 10,000, as JSON, and the most memory that they took beyond
+             what the daemon held before: alone, and the eight together
   again      a second daemon over the same folder finds all names by their files
 
 The contracts leave want of memory free: that it is not answered where there is memory, only such a run can show. It ends with the first thing that is
@@ -30,7 +32,10 @@ from live import PROGRAM, class_of, need_program, write_rules
 
 PORTS = re.compile(r"carbon: lines on (\d+), HTTP on (\d+)")
 NOW = int(time.time()) // 60 * 60
-RULES = b"[big]\npattern = ^big[.]\nretentions = 1s:4000000\n\n[all]\npattern = .*\nretentions = 60s:5m\n"
+RULES = (
+    b"[big]\npattern = ^big[.]\nretentions = 1s:4000000\n\n[wide]\npattern = ^wide[.]\nretentions = 1s:400\n\n"
+    b"[all]\npattern = .*\nretentions = 60s:5m\n"
+)
 ONE_CLASS = 100_000
 
 
@@ -62,6 +67,19 @@ class Daemon:
             sys.exit("no ports: status %d" % self.process.wait())
         self.lines, self.http = int(ports[1]), int(ports[2])
         threading.Thread(target=self.process.stderr.read, daemon=True).start()
+
+    def held(self, what):
+        """Megabytes of memory, as /proc tells them."""
+        with open("/proc/%d/status" % self.process.pid) as file:
+            return int(dict(line.split(":", 1) for line in file)[what].split()[0]) * 1024 / 1e6
+
+    def most(self, ask):
+        """The most memory that was taken while something was asked, beyond what was held before."""
+        before = self.held("VmRSS")
+        with open("/proc/%d/clear_refs" % self.process.pid, "w") as file:
+            file.write("5")
+        ask()
+        return self.held("VmHWM") - before
 
     def put(self, names):
         with socket.create_connection(("127.0.0.1", self.lines)) as link:
@@ -138,6 +156,43 @@ def ask_long(daemon):
     need("series of a long head", len(daemon.get(front + names + "&" * (room - len(names))).splitlines()), names.count("many"))
 
 
+def at_once(count, ask):
+    """Asks so often at once; what ends one of them ends all."""
+    failed = []
+
+    def once():
+        try:
+            ask()
+        except BaseException as why:
+            failed.append(why)
+
+    threads = [threading.Thread(target=once) for _ in range(count)]
+    for thread in threads:
+        thread.start()
+    for thread in threads:
+        thread.join()
+    if failed:
+        raise failed[0]
+
+
+def ask_eight(daemon):
+    now = int(time.time())
+    with socket.create_connection(("127.0.0.1", daemon.lines)) as link:
+        for at in range(now - 3_999_990, now, 10_000):
+            link.sendall("".join("big.one %d.%03d %d\n" % (k % 100_000, k % 1000, k) for k in range(at, at + 10_000)).encode())
+        link.shutdown(socket.SHUT_WR)
+        link.recv(1)
+    daemon.put(["wide.n%04d" % k for k in range(10_000)])
+    time.sleep(10)
+    for what, target, seconds in ("one series", "big.one", 3_999_990), ("10,000", "wide.*", 399):
+        now = int(time.time())
+        query = "/render?target=%s&format=json&from=%d&until=%d" % (target, now - seconds, now)
+        size = len(daemon.get(query))
+        alone = daemon.most(lambda: daemon.get(query))
+        eight = daemon.most(lambda: at_once(8, lambda: need("the same text", len(daemon.get(query)), size)))
+        print("         %s: a text of %.0f MB; %.0f MB alone, %.0f MB the eight together" % (what, size / 1e6, alone, eight), flush=True)
+
+
 def show_all(daemon, count, shown):
     daemon.put(many(count))
     browse(daemon, count)
@@ -151,6 +206,8 @@ def show_all(daemon, count, shown):
     shown("values")
     ask_long(daemon)
     shown("head")
+    ask_eight(daemon)
+    shown("eight")
     daemon.stop()
 
 
@@ -165,11 +222,11 @@ def main():
             show_all(daemon, count, shown)
         finally:
             daemon.end()
-        need("files", sum(len(files) for _, _, files in os.walk(os.path.join(place, "data"))), count + ONE_CLASS + 2)
+        need("files", sum(len(files) for _, _, files in os.walk(os.path.join(place, "data"))), count + ONE_CLASS + 10_002)
         shown("drained")
         daemon = Daemon(place)
         try:
-            need("names of files", len(json.loads(daemon.get("/metrics/index.json"))), count + ONE_CLASS + 2)
+            need("names of files", len(json.loads(daemon.get("/metrics/index.json"))), count + ONE_CLASS + 10_002)
             daemon.stop()
         finally:
             daemon.end()

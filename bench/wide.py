@@ -4,7 +4,7 @@
 Usage: bench/wide.py [NAMES]      (100,000 without a number)
 
 Runs `carbon serve` over a folder in memory with so many names, a point each: once a hundred names below each of the branches `servers.web0000` and on,
-once all of one node. Then each of these is asked, while another client asks for one series by its whole name, again and again:
+once all of one node. Then each of these is asked, alone and while another client asks for one series by its whole name, again and again:
 
   usual      one star for a node, which finds a hundred names or none
   braces     `{` and 400 times `*w*e*b*x`, each with another ending, `}` for a node: 4,000 bytes
@@ -12,8 +12,9 @@ once all of one node. Then each of these is asked, while another client asks for
   a form     128 targets of such globs, which differ, in a form of half a megabyte
   left       the form again, whose client leaves at once: how long the daemon goes on computing
 
-Printed are the status, the seconds until the answer, and the longest time that the other client waited for one of its answers: it takes the same locks
-as a line's point, and more. Nothing timed here is a test. Run ./carbon build first.
+Printed are the status, the seconds until the answer and those of the processor, with no other client; and the longest time that another client waits
+for one of its answers while the question is asked once more: it takes the same locks as a line's point, and more. Nothing timed here is a test. Run
+./carbon build first.
 """
 import http.client
 import re
@@ -130,11 +131,17 @@ def measure(shape, names, usual, front, back):
         daemon = Daemon(place)
         daemon.put(names)
         for what, globs, method in (("usual", [usual], "GET"), ("braces", hostile[:1], "GET"), ("a head", hostile[:3], "GET"), ("a form", hostile, "POST")):
+            before = daemon.seconds()
+            status, count, seconds = daemon.ask(globs, method)
+            spent = daemon.seconds() - before
             other = Other(daemon, names[0])
             time.sleep(0.2)
-            status, count, seconds = daemon.ask(globs, method)
-            print("%-9s %-7s %d, %d series, %.3f s, the other waited %.1f ms" % (shape, what, status, count, seconds, 1000 * other.end()))
-        print("%-9s %-7s computed on for %.2f s" % (shape, "left", daemon.leave(hostile)))
+            daemon.ask(globs, method)
+            told = shape, what, status, count, seconds, spent, 1000 * other.end()
+            print("%-9s %-7s %d, %d series, %.3f s (%.3f of the processor), the other waited %.1f ms" % told, flush=True)
+        before = daemon.seconds()
+        took = daemon.leave(hostile)
+        print("%-9s %-7s computed on for %.2f s (%.2f of the processor)" % (shape, "left", took, daemon.seconds() - before), flush=True)
         daemon.stop()
 
 

@@ -7,7 +7,9 @@ use folder_disk::FolderDisk;
 use libc::types::rlimit;
 use libc::{RLIMIT_NOFILE, getrlimit};
 use std::alloc::AllocError;
-use std::fs::{File, OpenFile, OpenOptions, TryLockError};
+use std::fs::{self, File, OpenFile, OpenOptions, TryLockError};
+use std::os::unix::fs::MetadataExt;
+use tcp_net::NET_DESCRIPTORS;
 
 /// The working folder.
 const WORKING: &str = ".";
@@ -21,25 +23,65 @@ const DATA: &str = "data";
 /// How many classes there are, each with a disk of its own.
 const CLASSES: usize = metric_path::CLASSES as usize;
 
-/// What a server has open beside its links: standard streams, ports, signals, the folder, a ring file of each class and what is listed.
-const DESCRIPTORS: u64 = 40;
+/// What a server has open beside its net: the standard streams, the two folders that are locked, of each class a ring file and another one that
+/// is opened in its place, a rule file, and a folder that is listed.
+const DESCRIPTORS: u64 = 3 + 2 + 2 * CLASSES as u64 + 2;
 
-/// Locks the working folder for this process, as long as the file is held; a process that ends, however, gives the lock back. Where the
-/// system has no such locks there is none.
-pub(crate) fn lock_folder(rt: &HostRuntime) -> Result<Option<File>, Unready> {
-    let Ok(folder) = OpenOptions::new().read(true).open(rt, WORKING) else {
-        return Ok(None);
+/// The folders that are kept from other processes as long as this is held. A process that ends, however, gives them back.
+#[derive(Drop)]
+pub(crate) struct HeldFolders {
+    _working: Option<File>,
+    _data: Option<File>,
+}
+
+/// Locks the working folder for this process, and the folder of the ring files, which may lie elsewhere behind a link. A server makes that one
+/// where it is not there. Where a file system has no locks standard error says so.
+pub(crate) fn hold_folders(rt: &HostRuntime, is_server: bool) -> Result<HeldFolders, Unready> {
+    let working = locked(rt, WORKING)?;
+    if is_server {
+        // one that cannot be made is told with the first class
+        let _ = fs::create_dir(rt, DATA);
+    }
+    let data = if is_own_folder(rt, DATA) {
+        locked(rt, DATA)?
+    } else {
+        None
     };
-    match folder.try_lock() {
-        Ok(()) => Ok(Some(folder)),
-        Err(TryLockError::WouldBlock) => Err(Unready::FolderInUse),
-        Err(TryLockError::Error(_)) => Ok(None),
+    Ok(HeldFolders {
+        _working: working,
+        _data: data,
+    })
+}
+
+/// Whether a folder is there, and not the working folder by another name.
+fn is_own_folder(rt: &HostRuntime, folder: &str) -> bool {
+    match (fs::metadata(rt, folder), fs::metadata(rt, WORKING)) {
+        (Ok(found), Ok(working)) => {
+            found.is_dir() && (found.dev() != working.dev() || found.ino() != working.ino())
+        }
+        _ => false,
     }
 }
 
-/// Refuses where the system lets the process open fewer files than a server with these links needs.
+fn locked(rt: &HostRuntime, folder: &str) -> Result<Option<File>, Unready> {
+    let error = match OpenOptions::new().read(true).open(rt, folder) {
+        Ok(file) => match file.try_lock() {
+            Ok(()) => return Ok(Some(file)),
+            Err(TryLockError::WouldBlock) => return Err(Unready::FolderInUse),
+            Err(TryLockError::Error(error)) => error,
+        },
+        Err(error) => error,
+    };
+    let _ = eprintln!(rt;
+        "carbon: {folder}: not locked, so nothing keeps a second carbon from it: {error}"
+    );
+    Ok(None)
+}
+
+/// Refuses where the system lets the process open fewer files than a server with these links has open at most, which is at its stop.
 pub(crate) fn want_descriptors(options: &ServeOptions) -> Result<(), Unready> {
-    let needed = DESCRIPTORS + u64::from(options.receivers) + u64::from(options.renderers);
+    let links = u64::from(options.receivers) + u64::from(options.renderers);
+    let needed = DESCRIPTORS + NET_DESCRIPTORS + links;
     let mut limit = rlimit {
         rlim_cur: 0,
         rlim_max: 0,

@@ -2,8 +2,13 @@
 ghost use Rattle.std.specs.Prelude.{◌≡◌};
 
 use outside_io::{Net, NetFailed};
-use std::io::ErrorKind;
+use std::io::{BufRead, ErrorKind};
+use std::thread;
+use std::time::Duration;
 use tcp_net::{NetCloser, TcpLink, TcpNet};
+
+/// How long the listener for the stop waits where it has no memory.
+const MEMORY_PAUSE_MILLIS: u64 = 50;
 
 /// The two ports of a server. A command that serves nothing has none, and its net binds nothing.
 ///
@@ -64,18 +69,25 @@ pub(crate) fn close_at_stop(rt: HostRuntime, closer: NetCloser, stops_at_end: bo
     }
 }
 
-// Reads lines up to `stop`, or to the end of the input. A line that is no text is passed over.
+// Reads lines up to `stop`, or to the end of the input. A line that is no text is passed over. Where there is no memory for the rest of a line
+// it is read again after a pause, behind what has come of it; the one reader keeps what it has taken.
 fn is_stop_read(rt: &HostRuntime) -> bool {
+    let mut input = rt.reader();
+    let mut line = String::new(rt.alloc());
     for _ in 0..u64::MAX {
-        let mut line = String::new(rt.alloc());
-        match rt.read_line(&mut line) {
-            Ok(0) => return false,
-            Ok(_) => {}
-            Err(error) if error.kind() == ErrorKind::InvalidData => continue,
+        match input.read_line(&mut line) {
+            Ok(count) => {
+                let is_stop = line.as_str().trim_end() == "stop";
+                if is_stop || count == 0 {
+                    return is_stop;
+                }
+                line.clear();
+            }
+            Err(error) if error.kind() == ErrorKind::InvalidData => line.clear(),
+            Err(error) if error.kind() == ErrorKind::OutOfMemory => {
+                thread::sleep(rt, Duration::from_millis(MEMORY_PAUSE_MILLIS));
+            }
             Err(_) => return false,
-        }
-        if line.as_str().trim_end() == "stop" {
-            return true;
         }
     }
     false

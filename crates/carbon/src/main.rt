@@ -5,13 +5,17 @@
 
 mod host_folder;
 mod host_net;
+mod host_threads;
 mod unready;
 
 use carbon_run::run;
-use carbon_words::{Command, ServeOptions, read_words, words};
-use host_folder::{conf_folder, folders, lock_folder, want_descriptors};
+use carbon_words::{Command, ServeOptions, WordsFault, read_words, words};
+use host_folder::{conf_folder, folders, hold_folders, want_descriptors};
 use host_net::{HostNet, close_at_stop};
+use host_threads::want_threads;
 use outside_io::{StdSink, StdSource};
+use std::alloc::Global;
+use std::io::ErrorKind;
 use std::net::{IpAddr, Ipv4Addr};
 use std::process::ExitCode;
 use std::sync::Wait;
@@ -41,14 +45,23 @@ fn main(rt: HostRuntime) -> ExitCode {
 fn start<H: Threads + Wait + Sync>(threads: &H, rt: HostRuntime) -> Result<u8, Unready> {
     let alloc = rt.alloc();
     let words = words(&rt, alloc).map_err(|_| Unready::NoMemory)?;
-    let command = read_words(alloc, &words).ok();
-    let _held = match command {
-        Some(_) => lock_folder(&rt)?,
+    let command = command_of(alloc, &words)?;
+    let _held = match &command {
+        Some(command) => Some(hold_folders(&rt, matches!(command, Command::Serve(..)))?),
         None => None,
     };
     match command {
         Some(Command::Serve(_, options)) => serve(threads, rt, &words, &options),
         _ => run_with(threads, rt, &words, None),
+    }
+}
+
+// What the words say, where they are a command.
+fn command_of(alloc: Global, words: &[String]) -> Result<Option<Command>, Unready> {
+    match read_words(alloc, words) {
+        Ok(command) => Ok(Some(command)),
+        Err(WordsFault::Usage) => Ok(None),
+        Err(WordsFault::NoMemory) => Err(Unready::NoMemory),
     }
 }
 
@@ -60,15 +73,19 @@ fn serve<H: Threads + Wait + Sync>(
     options: &ServeOptions,
 ) -> Result<u8, Unready> {
     want_descriptors(options)?;
+    want_threads(threads, rt, options)?;
     let settings = NetSettings {
         address: IpAddr::V4(Ipv4Addr::UNSPECIFIED),
         line_patience: options.line_patience,
     };
-    let Ok(net) = TcpNet::new(rt.alloc(), rt, settings) else {
-        return run_with(threads, rt, words, None);
-    };
-    listen_for_stop(threads, rt, net.closer()?)?;
-    run_with(threads, rt, words, Some(net))
+    match TcpNet::new(rt.alloc(), rt, settings) {
+        Ok(net) => {
+            listen_for_stop(threads, rt, net.closer()?)?;
+            run_with(threads, rt, words, Some(net))
+        }
+        Err(error) if error.kind() == ErrorKind::OutOfMemory => Err(Unready::NoMemory),
+        Err(_) => run_with(threads, rt, words, None),
+    }
 }
 
 // The thread is never joined: it may wait for a line when all else has ended.

@@ -18,13 +18,14 @@ use std::time::Clock;
 ///
 /// A name is a path from the folder, without `.` and `..` among its parts. The folder need not be there: then there are no names, and the
 /// first `create` makes it. Only plain files have names, and only where these are text. Anything but plain files and folders is a fault of
-/// the call that meets it, of `names` also where nobody asks for it. Every error counts as a fault of the disk, want of memory too.
+/// the call that meets it, also where the name stands behind it, and of `names` where nobody asks for it. Every error counts as a fault of
+/// the disk, want of memory too.
 ///
 /// `create` writes over no file that is whole: where the name is taken it fails, but for a plain file that begins with 16 zero bytes or has
 /// zero bytes alone, as one that was being made when its process ended.
 ///
 /// The file of the last call stays open, so that calls for one file in a row open it once. Each call looks whether the name still leads to
-/// that file: where it was removed, renamed or replaced meanwhile the call fails, and so does a write behind the end of a file that was cut.
+/// that file (it may do so through an inner folder that became a link meanwhile): where it was removed, renamed or replaced meanwhile the call fails, and so does a write behind the end of a file that was cut.
 /// The next call looks into the folder anew.
 ///
 /// After a create that failed no other is tried for a twentieth of a second, and twice as long after each further one, up to a second; calls

@@ -12,6 +12,8 @@ pub(crate) enum FileFault {
     NotPlain,
     #[error("it has {0}, which is neither a plain file nor a folder")]
     HasOther(String),
+    #[error("it stands behind {0}, which is neither a plain file nor a folder")]
+    Behind(String),
     #[error("removed or replaced while it was in use; put it back, or start again: a file that is missing then is made anew")]
     Replaced,
     #[error("shorter than it was; put it back whole, or remove it and start again")]

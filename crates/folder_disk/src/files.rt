@@ -48,6 +48,7 @@ impl<R: Files<File = File> + AllocGlobal> FolderFiles<R> {
     }
 
     pub(crate) fn length(&self, name: &str) -> Result<Option<u64>, FileFault> {
+        self.look_at_way(name)?;
         match self
             .links
             .metadata_of(&self.rt, self.path_of(name)?.as_str())
@@ -87,15 +88,44 @@ impl<R: Files<File = File> + AllocGlobal> FolderFiles<R> {
     }
 
     fn open(&self, name: &str, wanted: Access) -> Result<OpenedFile, FileFault> {
+        self.look_at_way(name)?;
         let path = self.path_of(name)?;
         let name = String::from_str(self.rt.alloc(), name)?;
-        OpenedFile::open(&self.rt, name, path, wanted)
+        OpenedFile::open(&self.rt, name, path, self.links, wanted)
+    }
+
+    // Refuses a name where one of the inner folders that it stands in is a link, or anything else but a folder or a plain file.
+    fn look_at_way(&self, name: &str) -> Result<(), FileFault> {
+        if self.links == Links::Followed {
+            return Ok(());
+        }
+        for (at, _) in name.match_indices('/') {
+            if let Some(folder) = name.get(..at) {
+                self.look_at_inner(folder)?;
+            }
+        }
+        Ok(())
+    }
+
+    fn look_at_inner(&self, folder: &str) -> Result<(), FileFault> {
+        match fs::symlink_metadata(&self.rt, self.path_of(folder)?.as_str()) {
+            Ok(found) if found.is_dir() || found.is_file() => Ok(()),
+            Ok(_) => {
+                let folder = String::from_str(self.rt.alloc(), folder)?;
+                Err(FileFault::Behind(folder))
+            }
+            Err(error) => match error.kind() {
+                ErrorKind::NotFound | ErrorKind::NotADirectory => Ok(()),
+                _ => Err(FileFault::System(error)),
+            },
+        }
     }
 
     // Makes a file of zero bytes, and the folders that it stands in. Where the name is taken, it has to be that of a plain file which was
     // never whole: one that begins with zeros.
     pub(crate) fn create(&mut self, name: &str, length: u64) -> Result<(), FileFault> {
         self.kept = None;
+        self.look_at_way(name)?;
         let path = self.path_of(name)?;
         if let Some((folder, _)) = path.rsplit_once('/') {
             fs::create_dir_all(&self.rt, folder)?;

@@ -68,14 +68,17 @@ pub(crate) struct OpenedFile {
 }
 
 impl OpenedFile {
-    // Opens the file of this path, for reading and writing where the system lets it, else for what is wanted alone. Whether it stands under
-    // the name itself, and not behind a link, `length_under_name` says.
+    // Opens the plain file of this path, for reading and writing where the system lets it, else for what is wanted alone. What is no plain
+    // file is not opened: the open of a pipe would wait for its other end. Whether what was opened stands under the name itself, and not
+    // behind a link, `length_under_name` says.
     pub(crate) fn open<R: Files<File = File>>(
         rt: &R,
         name: String,
         path: String,
+        links: Links,
         wanted: Access,
     ) -> Result<OpenedFile, FileFault> {
+        let _plain = Place::of(&links.metadata_of(rt, path.as_str())?)?;
         let mut options = OpenOptions::new();
         options.read(true).write(true);
         if let Ok(file) = options.open(rt, path.as_str()) {

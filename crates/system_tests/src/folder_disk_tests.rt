@@ -49,7 +49,7 @@ struct Story {
     told: &'static str,
 }
 
-const STORIES: [Story; 17] = [
+const STORIES: [Story; 18] = [
     Story {
         title: "no folder has no names",
         steps: &[Step::Names, Step::Length("c")],
@@ -127,6 +127,28 @@ const STORIES: [Story; 17] = [
         title: "a link to a folder is a fault of the list",
         steps: &[Step::Folder("a"), Step::Link("a", "b"), Step::Names],
         told: "failed ",
+    },
+    Story {
+        title: "a folder that became a link is a fault of each call, and the file behind it is left alone",
+        steps: &[
+            Step::Create("a/b/c", 4),
+            Step::Create("d", 4),
+            Step::Rename("a/b", "e"),
+            Step::Link("../e", "a/b"),
+            Step::Length("a/b/c"),
+            Step::Read("a/b/c", 0),
+            Step::Write("a/b/c", 0, "xy"),
+            Step::Create("a/b/f", 9),
+            Step::Wait(60),
+            Step::Create("a/b/c", 9),
+            Step::Wait(120),
+            Step::Names,
+            Step::Remove("a/b"),
+            Step::Names,
+            Step::Read("e/c", 0),
+            Step::Create("a/b/c", 9),
+        ],
+        told: "ok ok failed failed failed failed failed failed [d,e/c] \\0\\0 ok ",
     },
     Story {
         title: "a file that is whole is not made anew",
@@ -279,10 +301,13 @@ const LINKED: [Story; 1] = [Story {
         Step::Over(Kind::Settings, ""),
         Step::Length("c"),
         Step::Read("c", 1),
+        Step::Link("inner", "e"),
+        Step::Read("e/d", 1),
         Step::Over(Kind::Data, ""),
         Step::Length("c"),
+        Step::Length("e/d"),
     ],
-    told: "4 ex failed ",
+    told: "4 ex ex failed failed ",
 }];
 
 // The name of a file that lies two folders deep.

@@ -27,7 +27,7 @@ mod timed_stream;
 
 pub use net_closer::NetCloser;
 pub use net_settings::NetSettings;
-pub use port::BoundPorts;
+pub use port::{BoundPorts, NET_DESCRIPTORS};
 pub use system_clock::SystemClock;
 pub use tcp_link::TcpLink;
 pub use tcp_net::TcpNet;

@@ -4,6 +4,14 @@ use std::time::Duration;
 
 const SILENCE_SECONDS: u64 = 75;
 
+// How often a link that brings no request looks whether its thread is wanted for another connection.
+#[derive(Clone, Copy)]
+pub(crate) struct IdleLooks {
+    // before its first request, and behind a reply
+    pub(crate) first: Duration,
+    pub(crate) next: Duration,
+}
+
 #[derive(Clone, Copy)]
 pub(crate) struct Patience {
     // for the next bytes; none is for ever
@@ -12,6 +20,8 @@ pub(crate) struct Patience {
     pub(crate) for_room: Duration,
     // for whole requests and replies, where the link brings such
     pub(crate) for_exchange: Option<ExchangeTimes>,
+    // where it ends for the sake of another one
+    pub(crate) idle: Option<IdleLooks>,
 }
 
 impl Patience {
@@ -25,6 +35,7 @@ impl Patience {
             for_bytes,
             for_room: Duration::from_secs(SILENCE_SECONDS),
             for_exchange: None,
+            idle: None,
         }
     }
 
@@ -36,6 +47,10 @@ impl Patience {
                 head: Duration::from_secs(20),
                 body: kilobytes_after(60),
                 reply: kilobytes_after(20),
+            }),
+            idle: Some(IdleLooks {
+                first: Duration::from_millis(250),
+                next: Duration::from_secs(1),
             }),
         }
     }

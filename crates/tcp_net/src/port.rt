@@ -1,5 +1,6 @@
 // A port that gives links.
-use libc::net::{SHUT_RDWR, shutdown};
+use crate::readiness::{Readiness, asked_for, wait_for};
+use libc::net::{POLLIN, SHUT_RDWR, shutdown};
 use std::alloc::Global;
 use std::collections::VecDeque;
 use std::io::ErrorKind;
@@ -17,8 +18,14 @@ const FAULT_PAUSE_MILLIS: u64 = 50;
 // How long a thread waits for another one that takes one of the last links.
 const TURN_PAUSE_MILLIS: u64 = 1;
 
-// How often a port that closes looks for one more connection. The system keeps up to 129 waiting.
+// How many connections a port that closes takes from the system, which keeps so many waiting, and how often it looks for one.
+const MOST_LAST: u64 = 129;
+
 const MOST_LAST_LOOKS: usize = 1_024;
+
+/// How many descriptors a net takes at most beside one for each link that is open: two of its own, its ports, and the
+/// connections that they take from the system at the stop.
+pub const NET_DESCRIPTORS: u64 = 2 + 2 + 2 * MOST_LAST;
 
 /// The ports that are open.
 #[derive(Clone, Copy, Debug, PartialEq, Eq)]
@@ -27,6 +34,17 @@ pub struct BoundPorts {
     pub lines: u16,
     /// The port for HTTP.
     pub http: u16,
+}
+
+// What a port knows of connections that nobody has taken yet.
+#[derive(Clone, Copy, PartialEq, Eq)]
+pub(crate) enum Demand {
+    // There is none.
+    None,
+    // A thread is free for the next one.
+    Served,
+    // None is.
+    Unserved,
 }
 
 // A port, open or closed. Several threads may wait for its links at once.
@@ -39,6 +57,8 @@ pub(crate) struct Port {
     // how many calls have set out to give a link, and how many links have come
     begun: AtomicU64,
     given: AtomicU64,
+    // how many threads wait for a link, or end one for the sake of another
+    free: AtomicU64,
     closing: AtomicBool,
     closed: AtomicBool,
     // the links that nobody had taken when the port closed
@@ -62,6 +82,7 @@ impl Port {
             links,
             begun: AtomicU64::new(0),
             given: AtomicU64::new(0),
+            free: AtomicU64::new(0),
             closing: AtomicBool::new(false),
             closed: AtomicBool::new(false),
             last: Mutex::new(VecDeque::new(alloc)),
@@ -78,6 +99,13 @@ impl Port {
         if !self.begin_link() {
             return None;
         }
+        self.free.fetch_add(1, Ordering::SeqCst);
+        let stream = self.wait_for_stream(rt);
+        self.free.fetch_sub(1, Ordering::SeqCst);
+        stream
+    }
+
+    fn wait_for_stream(&self, rt: &impl Clock) -> Option<TcpStream> {
         for _ in 0..u64::MAX {
             if self.is_closed() {
                 return self.next_last(rt);
@@ -112,6 +140,31 @@ impl Port {
         Ok(stream)
     }
 
+    // Whether a connection waits, and whether a thread is free for it. Where none is, that of the caller is from now on,
+    // until its link ends.
+    pub(crate) fn demand(&self) -> Demand {
+        if self.is_closed() || !self.has_waiting() {
+            return Demand::None;
+        }
+        match self
+            .free
+            .compare_exchange(0, 1, Ordering::SeqCst, Ordering::SeqCst)
+        {
+            Ok(_) => Demand::Unserved,
+            Err(_) => Demand::Served,
+        }
+    }
+
+    // A link that ended for the sake of another is over.
+    pub(crate) fn count_ended(&self) {
+        self.free.fetch_sub(1, Ordering::SeqCst);
+    }
+
+    fn has_waiting(&self) -> bool {
+        let mut asked = [asked_for(&self.listener, POLLIN)];
+        wait_for(&mut asked, Some(Duration::ZERO)) == Readiness::Ready
+    }
+
     // Whether one more link may be waited for.
     fn begin_link(&self) -> bool {
         if self.links == 0 {
@@ -137,16 +190,21 @@ impl Port {
         self.refuse();
     }
 
-    // A connection that has failed while it waited is passed over.
+    // A connection that has failed while it waited is passed over. What comes meanwhile is not waited for without end.
     fn empty_queue(&self) {
         if self.listener.set_nonblocking(true).is_err() {
             return;
         }
+        let mut left = MOST_LAST;
         for _ in 0..MOST_LAST_LOOKS {
             match self.accept() {
                 Ok(stream) => self.keep(stream),
                 Err(fault) if fault.kind() == ErrorKind::WouldBlock => return,
-                Err(_) => {}
+                Err(_) => continue,
+            }
+            left = left.saturating_sub(1);
+            if left == 0 {
+                return;
             }
         }
     }

@@ -1,7 +1,7 @@
 // What a net, its links and its closers share.
 use crate::hang_up::HangUp;
 use crate::net_closer::StopTimes;
-use crate::port::{BoundPorts, Port};
+use crate::port::{BoundPorts, Demand, Port};
 use crate::questions_told::QuestionsTold;
 use std::io;
 use std::net::Net;
@@ -48,6 +48,21 @@ impl Shared {
             lines: ports.lines.number(),
             http: ports.http.number(),
         })
+    }
+
+    // What is known of the connections for HTTP that nobody has taken yet.
+    pub(crate) fn http_demand(&self) -> Demand {
+        match self.ports.get() {
+            Some(ports) => ports.http.demand(),
+            None => Demand::None,
+        }
+    }
+
+    // A link for HTTP that ended for the sake of another is over.
+    pub(crate) fn count_ended(&self) {
+        if let Some(ports) = self.ports.get() {
+            ports.http.count_ended();
+        }
     }
 
     // Keeps the ports, and says whether there were none before. Where the net was closed earlier, or is closed by

@@ -15,6 +15,8 @@ use std::time::Clock;
 ///
 /// **Requests.** The source of a link for HTTP is at its end
 /// - where no byte comes for 75 seconds,
+/// - where no byte of a request comes for a quarter of a second, or for a second behind a reply, and another connection
+///   waits on the port while no thread waits for one: of several such links one ends for each connection,
 /// - where a head is not whole 20 seconds after its first byte, which is the first one of the link or behind a write;
 ///   it is whole once its blank line has come,
 /// - and where the link goes on to bring bytes behind the head, with no write, for more than 60 seconds and one more
@@ -127,5 +129,6 @@ impl<R: Clock + Copy> Drop for TcpLink<R> {
         if lingers {
             let _ = timed.linger();
         }
+        timed.count_ended();
     }
 }

@@ -38,7 +38,7 @@ impl<R: std::net::Net<Listener = TcpListener, Stream = TcpStream> + Clock + Copy
     R,
 > {
     /// A net with these settings, and with no port bound yet. It takes two descriptors, each port and each link one
-    /// more, and so at the stop does each connection that waits on a port.
+    /// more, and so at the stop does each connection that waits on a port: `NET_DESCRIPTORS` at most beside the links.
     pub fn new(alloc: Global, rt: R, settings: NetSettings) -> io::Result<Self>
         ensures { IfOk result (λ net. ⟦<TcpNet<R> as Net>⟧.faults net ≡ 0) }
     {

@@ -237,6 +237,7 @@ fn a_peer_that_is_silent_takes_nothing_or_goes_is_given_up(rt: HostRuntime) -> R
         for_bytes: Some(Duration::from_millis(20)),
         for_room: Duration::from_millis(20),
         for_exchange: None,
+        idle: None,
     };
     let Pair {
         client,

@@ -6,6 +6,7 @@ use crate::exchange::Exchange;
 use crate::linger::linger;
 use crate::pace::Pace;
 use crate::patience::Patience;
+use crate::port::Demand;
 use crate::readiness::{Readiness, asked_for, wait_for};
 use crate::shared::Shared;
 use libc::net::{POLLIN, POLLOUT};
@@ -14,6 +15,9 @@ use std::io::{Eprint, ErrorKind, Read, Write};
 use std::net::TcpStream;
 use std::sync::Arc;
 use std::time::{Clock, Duration};
+
+// How soon a link looks again where a connection waits that another thread is about to take.
+const SOON_MILLIS: u64 = 5;
 
 // Its calls give up where the other end has been waited for too long, and all after the hang-up.
 #[derive(Drop)]
@@ -24,6 +28,8 @@ pub(crate) struct TimedStream<R: Clock + Copy> {
     pub(crate) patience: Patience,
     // where requests come
     exchange: Option<Exchange>,
+    // whether it ends for the sake of another one
+    gives_way: bool,
 }
 
 impl<R: Clock + Copy> TimedStream<R> {
@@ -35,6 +41,7 @@ impl<R: Clock + Copy> TimedStream<R> {
             shared,
             patience,
             exchange: patience.for_exchange.map(Exchange::new),
+            gives_way: false,
         }
     }
 
@@ -85,13 +92,54 @@ impl<R: Clock + Copy> TimedStream<R> {
     }
 
     // Waits until bytes have come, or the hang-up.
-    fn wait_for_bytes(&self) -> io::Result<Readiness> {
+    fn wait_for_bytes(&mut self) -> io::Result<Readiness> {
         let limit = least(self.time_to_read()?, self.patience.for_bytes);
+        Ok(match (self.pause_of_looks(), limit) {
+            (Some(pause), Some(limit)) => self.wait_for_request(pause, limit),
+            _ => self.wait_for(limit),
+        })
+    }
+
+    fn wait_for(&self, limit: Option<Duration>) -> Readiness {
         let mut asked = [
             asked_for(&self.stream, POLLIN),
             self.shared.hang_up.watched(),
         ];
-        Ok(wait_for(&mut asked, limit))
+        wait_for(&mut asked, limit)
+    }
+
+    // How often a link without a request looks whether its thread is wanted.
+    fn pause_of_looks(&self) -> Option<Duration> {
+        let idle = self.patience.idle?;
+        let pace = self.pace()?;
+        match (pace.is_reading(), pace.is_replying()) {
+            (true, _) => None,
+            (false, true) => Some(idle.next),
+            (false, false) => Some(idle.first),
+        }
+    }
+
+    // Waits for so long at most, and not past a look at which a connection waits that has no thread: that one gets the
+    // thread of this link.
+    fn wait_for_request(&mut self, pause: Duration, limit: Duration) -> Readiness {
+        let mut next = pause.min(limit);
+        let mut left = limit;
+        for _ in 0..u64::MAX {
+            let readiness = self.wait_for(Some(next));
+            left = left.saturating_sub(next);
+            if readiness != Readiness::TimedOut || left == Duration::ZERO {
+                return readiness;
+            }
+            match self.shared.http_demand() {
+                Demand::None => next = pause.min(left),
+                Demand::Served => next = Duration::from_millis(SOON_MILLIS).min(left),
+                Demand::Unserved => {
+                    self.gives_way = true;
+                    return Readiness::TimedOut;
+                }
+            }
+        }
+        Readiness::Failed
     }
 
     fn pace(&self) -> Option<&Pace> {
@@ -149,6 +197,13 @@ impl<R: Clock + Copy> TimedStream<R> {
             exchange.pace.note_wait(waited);
         }
         Ok(readiness)
+    }
+
+    // The link is over.
+    pub(crate) fn count_ended(&self) {
+        if self.gives_way {
+            self.shared.count_ended();
+        }
     }
 
     // Ends the connection so that the last bytes that were sent arrive.

@@ -1,5 +1,5 @@
 // Other ends that are slow, silent or gone.
-use super::kit::{Pair, bind, connect_and_send, gives, read_out, settings};
+use super::kit::{Pair, bind, bound_net, connect, connect_and_send, gives, read_out, settings};
 use crate::TcpNet;
 use crate::pace::{Allowance, ExchangeTimes};
 use crate::patience::Patience;
@@ -7,9 +7,9 @@ use outside_io::{Net, ReadEnd, Sink, Source, WriteEnd, write_all};
 use std::io::{Read, Write};
 use std::net::{Shutdown, TcpStream};
 use std::test::Fail;
-use std::thread;
 use std::thread::Threads;
 use std::time::{Duration, Instant};
+use std::{io, thread};
 
 // Of a link for HTTP whose head, body and reply have 200 milliseconds each, however many their bytes are.
 fn short_patience() -> Patience {
@@ -131,6 +131,74 @@ fn a_sender_of_lines_may_be_silent_for_so_long(rt: HostRuntime) -> Result<(), Fa
         is_given && (1_990..10_000).contains(&millis),
         "{is_given} {millis}"
     );
+    Ok(())
+}
+
+// Whether the next link for HTTP is at its end without a byte, behind a reply or before any, and after how many
+// milliseconds.
+fn millis_of_idleness(
+    rt: HostRuntime,
+    net: &TcpNet<HostRuntime>,
+    is_replied: bool,
+) -> Result<(ReadEnd, u128), Fail> {
+    let mut link = net.next_http().ok_or("no link for HTTP")?;
+    if is_replied {
+        write_all(&mut link, b"404")?;
+    }
+    let begun = Instant::now(&rt)?;
+    let end = link.read(&mut [0u8; 8]);
+    Ok((end, begun.elapsed(&rt)?.as_millis()))
+}
+
+#[test]
+fn a_link_without_a_request_gives_way_to_a_connection_that_waits(
+    rt: HostRuntime,
+) -> Result<(), Fail> {
+    for (is_replied, range) in [(false, 240..900), (true, 990..5_000)] {
+        let (net, ports) = bound_net(rt, 0)?;
+        let silent = connect(rt, ports.http)?;
+        let other = connect_and_send(rt, ports.http, b"GET")?;
+        let (end, millis) = millis_of_idleness(rt, &net, is_replied)?;
+        assert!(rt;
+            end == ReadEnd::End && range.contains(&millis),
+            "{end:?} after {millis}"
+        );
+        assert!(rt; millis_of_idleness(rt, &net, false)?.0 == ReadEnd::Got(3));
+        drop((silent, other));
+    }
+    Ok(())
+}
+
+// Connects once more after a while, and sends a byte over the first connection after another while.
+fn connect_and_wait(rt: HostRuntime, port: u16, mut first: &TcpStream) -> io::Result<()> {
+    thread::sleep(&rt, Duration::from_millis(400));
+    let second = connect(rt, port)?;
+    thread::sleep(&rt, Duration::from_millis(400));
+    first.write_all(b"x")?;
+    drop(second);
+    Ok(())
+}
+
+// How a link ends that is silent while a thread is free for another connection.
+fn end_beside_free_thread(threads: &impl Threads, rt: HostRuntime) -> Result<ReadEnd, Fail> {
+    let (net, ports) = bound_net(rt, 0)?;
+    let first = connect(rt, ports.http)?;
+    let mut link = net.next_http().ok_or("no link for HTTP")?;
+    let taking = || net.next_http().is_some();
+    let others = || thread::join(threads, taking, || connect_and_wait(rt, ports.http, &first));
+    let (end, (is_taken, done)) = thread::join(threads, || link.read(&mut [0u8; 8]), others);
+    done?;
+    if is_taken {
+        Ok(end)
+    } else {
+        Err(Fail::new("no second link"))
+    }
+}
+
+#[test]
+fn a_link_without_a_request_stays_while_a_thread_is_free(rt: HostRuntime) -> Result<(), Fail> {
+    let end = end_beside_free_thread(&rt, rt)?;
+    assert!(rt; end == ReadEnd::Got(1), "{end:?}");
     Ok(())
 }
 
