@@ -4,14 +4,15 @@ use crate::gate::{Gate, pass};
 use outside_io::{Disk, DiskFailed, MemDisk, NamesFault};
 use std::time::Clock;
 
-/// A disk over another one, whose image it tells. One of its calls of `read_at`, and its first `write_at`, may be made to wait at a gate, and
-/// fails where that does not open.
+/// A disk over another one, whose image it tells. One of its calls of `read_at`, its first `create` and its first `write_at` may be made to
+/// wait at a gate, and fail where that does not open.
 #[derive(Drop)]
 pub struct GateDisk<R: Clock, D: Disk = MemDisk> {
     disk: D,
     // how many reads come before the one that waits
     reads_before: u64,
     read_gate: Option<Gate<R>>,
+    create_gate: Option<Gate<R>>,
     write_gate: Option<Gate<R>>,
     faults: u64,
 }
@@ -23,6 +24,7 @@ impl<R: Clock + Drop, D: Disk + Drop> GateDisk<R, D> {
             disk,
             reads_before: 0,
             read_gate: None,
+            create_gate: None,
             write_gate: None,
             faults: 0,
         }
@@ -32,6 +34,12 @@ impl<R: Clock + Drop, D: Disk + Drop> GateDisk<R, D> {
     pub fn reading_at(mut self, reads_before: u64, gate: Gate<R>) -> GateDisk<R, D> {
         self.reads_before = reads_before;
         self.read_gate = Some(gate);
+        self
+    }
+
+    /// The same disk, whose first `create` waits.
+    pub fn creating_at(mut self, gate: Gate<R>) -> GateDisk<R, D> {
+        self.create_gate = Some(gate);
         self
     }
 
@@ -72,6 +80,12 @@ impl<R: Clock + Drop, D: Disk + Drop> Disk for GateDisk<R, D> {
     }
 
     fn create(&mut self, name: &str, len: u64) -> Result<(), DiskFailed> {
+        let is_open = pass(&self.create_gate);
+        self.create_gate = None;
+        if !is_open {
+            self.faults = raised(self.faults);
+            return Err(DiskFailed);
+        }
         match self.disk.create(name, len) {
             Ok(()) => Ok(()),
             Err(fault) => {

@@ -1,13 +1,16 @@
 -- What the steps of a plan tell: which metric goes next, and how its drain begins.
 use Rattle.std.specs.Prelude.{◌≡◌, ◌≢◌, ◌<◌, ℕ, [], length, slice_get, Option, None, Some}
+use Rattle.outside_io.specs.Image.{Image}
 use Rattle.point_cache.specs.Points.{IsRising}
 use Rattle.point_cache.specs.Pending.{points_of}
 use Rattle.drain_order.specs.Pick.{pick}
 use Rattle.carbon_model.specs.RingFiles.{IsOfClass}
 use Rattle.shard_core.specs.Halves.{AreHalves, DeskInside, FilesInside}
-use Rattle.shard_core.specs.Plans.{Begins, IsDrainable, IsPicked, MayPlan}
+use Rattle.shard_core.specs.Plans.{Begins, IsDrainable, IsPicked, MayPlan, PlansFor, PlansTo}
 use Rattle.shard_core.specs.Shard.{Inside, Stays}
 use Rattle.shard_core.specs.declared.next_metric.NextMetric.{NextMetric}
+use Rattle.shard_core.specs.declared.planned.Planned.{Planned}
+use Rattle.shard_core.specs.declared.planning.NextDrain.{NextDrain}
 use Rattle.shard_core.specs.declared.planned.Begun.{Begun}
 use Rattle.shard_core.specs.declared.planned.Begun.TheVariants.{Took, Changed, NoMemory}
 
@@ -56,3 +59,13 @@ abbrev pub BeginsTo : Begun → Inside → Inside → ℕ → Type 0
 BeginsTo (Took path) old new now = Begins old new path now
 BeginsTo Changed old new now = IsAsBefore old new
 BeginsTo NoMemory old new now = IsAsBefore old new
+
+-- a drain was made at a moment for a metric, over the files of this image
+pub record IsMadeFor (metric : NextMetric) (image : Option Image) (now : ℕ) (next : NextDrain) : Type 0 where
+  pub moment : next.now ≡ now
+  pub plans : PlansFor metric.known image metric.path metric.points next.now next.patch
+
+-- each answer of the begin of a drain for which a patch was to be made: that of a plan, or all is as before
+abbrev pub PlansNow : Option Planned → Inside → Inside → ℕ → Type 0
+PlansNow None old new now = IsAsBefore old new
+PlansNow (Some plan) old new now = PlansTo plan old new now

@@ -30,6 +30,6 @@ pub use look_count::count_found;
 pub use looked::{LookCount, LookFault, Looked};
 pub use metric_table::{FoundMetric, Verdicts};
 pub use next_metric::NextMetric;
-pub use planned::{Begun, Planned, Wrote};
+pub use planned::{Planned, Wrote};
 pub use planning::NextDrain;
 pub use shard::{Apart, Shard};

@@ -6,7 +6,7 @@ ghost use Rattle.std.specs.Prelude.{◌≡◌, IsTrue};
 use crate::desk::Desk;
 use crate::files::Files;
 use crate::next_metric::NextMetric;
-use crate::planned::Begun;
+use crate::planned::{Begun, Planned};
 use crate::planning::NextDrain;
 use fixed_num::Milli;
 use metric_path::MetricPath;
@@ -87,11 +87,11 @@ impl Desk {
 }
 
 impl<D: Disk> Files<D> {
-    ghost use Rattle.std.specs.Prelude.{◌≡◌, None, IfOk, IsErrOf};
+    ghost use Rattle.std.specs.Prelude.{◌≡◌, None, Some, IfOk, IsErrOf};
     ghost use Rattle.outside_io.specs.Frames.{ReadsOnly};
     ghost use Rattle.shard_core.specs.Halves.{AreHalves, KeepsHalves, desk_of, files_of, held_by};
     ghost use Rattle.shard_core.specs.Plans.{MayPlan, PlansFor};
-    ghost use Rattle.shard_core.specs.Stepping.{BeginsTo};
+    ghost use Rattle.shard_core.specs.Stepping.{BeginsTo, IsMadeFor, PlansNow};
 
     /// The drain of the metric that goes next, at the moment `now`. The disk is only read, and the
     /// desk may change meanwhile.
@@ -109,9 +109,45 @@ impl<D: Disk> Files<D> {
         self.make_drain(&metric.path, metric.known, points, now)
     }
 
-    /// Begins a drain that was made for a metric, if that still goes next and is as it was. The
-    /// disk stays as it is.
-    pub fn begin_made(&mut self, desk: &mut Desk, metric: &NextMetric, next: NextDrain) -> Begun
+    /// Begins the drain of a metric whose patch was made at the moment `now`, if the metric still
+    /// goes next and is as it was. Where the patch could not be made the plan ends as its making
+    /// did. `None` where another metric goes next, this one has changed, or nothing is pending: then
+    /// all is as before. The disk stays as it is.
+    pub fn begin_next(
+        &mut self,
+        desk: &mut Desk,
+        metric: &NextMetric,
+        made: Result<NextDrain, RingFault>,
+        now: u32,
+    ) -> Option<Planned>
+        requires halves { AreHalves (desk_of desk.old) (files_of self.old) }
+        requires empty { self.old.shelf ≡ None }
+        requires made { IfOk made (IsMadeFor metric.now (D.image self.old.disk) now) }
+        ensures plans { PlansNow result (held_by desk.old self.old) (held_by desk.new self.new)
+            now }
+        ensures keeps { KeepsHalves (desk_of desk.old) (files_of self.old)
+            (desk_of desk.new) (files_of self.new) }
+        ensures cause { result ≡ Some Planned.DiskFault → IsErrOf made RingFault.DiskFault }
+        ensures disk { self.new.disk ≡ self.old.disk }
+    {
+        if desk.cached_metrics() == 0 {
+            return None;
+        }
+        let next = match made {
+            Ok(next) => next,
+            Err(RingFault::DiskFault) => return Some(Planned::DiskFault),
+            Err(RingFault::NoMemory) => return Some(Planned::NoMemory),
+        };
+        match self.begin_made(desk, metric, next) {
+            Begun::Took(path) => Some(Planned::Took(path)),
+            Begun::Changed => None,
+            Begun::NoMemory => Some(Planned::NoMemory),
+        }
+    }
+
+    // Begins a drain that was made for a metric, if that still goes next and is as it was. The
+    // disk stays as it is.
+    fn begin_made(&mut self, desk: &mut Desk, metric: &NextMetric, next: NextDrain) -> Begun
         requires halves { AreHalves (desk_of desk.old) (files_of self.old) }
         requires empty { self.old.shelf ≡ None }
         requires plans { PlansFor metric.now.known (D.image self.old.disk) metric.now.path

@@ -1,19 +1,26 @@
 -- What holds of the files of a class while their lock is held and the desk is given back.
-use Rattle.std.proofs.Common.{◌≡◌, ◌≢◌, ◌∙◌, ◌⊎◌, inl, inr, ℕ, ◌<◌, ◌≤◌, ◌+◌, List, [], ◌∷◌, ◌++◌, Option, refl, sym, ap, subst, arith}
-use Rattle.std.specs.Prelude.{count_by, filter}
+use Rattle.std.proofs.Common.{◌≡◌, ◌≢◌, ◌∙◌, ◌⊎◌, inl, inr, ℕ, ◌<◌, ◌≤◌, ◌+◌, Bool, false, List, [], ◌∷◌, ◌++◌, Option, Some, None, refl, sym, ap, subst, arith}
+use Rattle.std.specs.Prelude.{count_by, filter, is_some}
+use Rattle.std.proofs.lemmas.Bool.{false≢true}
 use Rattle.metric_path.specs.Class.{class_of}
 use Rattle.outside_io.specs.Image.{Image}
 use Rattle.atomic_table.specs.Seated.{TableId}
 use Rattle.carbon_history.specs.declared.entry.Entry.{Entry}
 use Rattle.carbon_history.specs.declared.entry.Entry.TheVariants.{Put, Drain, Ask, Fault}
 use Rattle.carbon_history.specs.declared.entry.PutEnd.TheVariants.{Stored, Replaced, Full}
-use Rattle.carbon_history.specs.Entries.{about_class}
+use Rattle.carbon_history.specs.Entries.{about_class, listed}
 use Rattle.carbon_model.specs.State.{State}
 use Rattle.carbon_model.specs.Replay.{after, replay}
 use Rattle.carbon_model.proofs.HistoryLemmas.{replay-append}
 use Rattle.class_halves.specs.Parts.{HalfValue}
-use Rattle.shard_core.specs.Halves.{FilesInside}
-use Rattle.shared_store.specs.Locks.{KeepsFiles, OnlyPuts, is_late}
+use Rattle.write_shelf.specs.Shelf.{DrainValue}
+use Rattle.shared_history.specs.Parts.{PassValue, TailValue}
+use Rattle.shard_core.specs.Halves.{DeskInside, FilesInside}
+use Rattle.shard_core.specs.Plans.{OnlyPicks}
+use Rattle.shared_store.specs.Locks.{HoldsDesk, KeepsDesk, KeepsFiles, OnlyPuts, is_late}
+use Rattle.shared_store.proofs.DeskPutLemmas.{desk_part, untold, with_untold}
+use Rattle.shared_store.specs.Passes.{Enters}
+use Rattle.shared_store.specs.Tails.{Tells}
 use Rattle.shared_store.specs.Tallies.{capped, is_fault}
 use Rattle.shared_store.proofs.AskStateLemmas.{part_of}
 
@@ -79,3 +86,41 @@ module _ (half_of : ℕ → TableId) (told : ℕ → Option Image) (start : Stat
   files_read old new failed later half other same is more f =
       subst (λ (x : FilesInside). KeepsFiles half_of told start earlier x later other) (sym same)
       (subst (λ (h : HalfValue). KeepsFiles half_of told start earlier old later h) (sym is) (later_on old failed later half more f))
+
+-- ---- a desk of which no more was asked than which metric goes next
+
+no_shelf : (shelf : Option DrainValue) → is_some shelf ≡ false → shelf ≡ None
+no_shelf None e = refl
+no_shelf (Some drain) e = absurd (false≢true (sym e))
+
+pub is_empty : (shelf : Option DrainValue) (shelved : Bool) → shelved ≡ is_some shelf → shelved ≡ false → shelf ≡ None
+is_empty shelf shelved is none = no_shelf shelf (sym is ∙ none)
+
+module _ (table : TableId) (half_of : ℕ → TableId) (start : State) (old new : DeskInside) (half : HalfValue) (tail : TailValue) where
+  pub desk_stands : new.class ≡ old.class → HoldsDesk new (replay start tail.list) → KeepsDesk table half_of start old half tail → KeepsDesk table half_of start new half tail
+  desk_stands class holds k = record {
+    same = k.same;
+    class = k.class ∙ sym class;
+    within = subst (λ (c : ℕ). c < 16) (sym class) k.within;
+    tied = k.tied ∙ ap half_of (sym class);
+    holds = holds;
+    since = k.since;
+    settled = k.settled;
+    runs = k.runs;
+  }
+
+  pub desk_picks : OnlyPicks old new → KeepsDesk table half_of start old half tail → KeepsDesk table half_of start new half tail
+  desk_picks only k =
+      let s : State = replay start tail.list in
+      desk_stands (ap (λ (d : DeskInside). d.class) only.others)
+      (desk_part None new (untold old.class) s (only.stays (untold old.class) None s (with_untold old s k.holds))) k
+
+-- files of which neither the class nor the shelf nor what the disk tells changed
+pub same_files : (old new : FilesInside) → new.class ≡ old.class → new.shelf ≡ old.shelf → new.known ≡ old.known → new ≡ old
+same_files old new class shelf known = λ i. record { class = class i; shelf = shelf i; known = known i }
+
+-- ---- what a pass entered
+
+pub told_enters : (start : State) (passes : ℕ) (tail : TailValue) (entry : Option Entry) (old new : PassValue) → Tells start passes tail entry old new → Enters start passes (listed entry) old new
+told_enters start passes tail None old new tells = tells.enters
+told_enters start passes tail (Some e) old new tells = tells.enters

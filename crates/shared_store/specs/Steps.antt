@@ -1,5 +1,6 @@
 -- What the answers of the calls of a store tell.
 use Rattle.std.specs.Prelude.{◌≡◌, ◌≢◌, ◌↔◌, ◌⊎◌, ◌<◌, ℕ, ℤ, List, [], ◌∷◌, ◌++◌, All, length, Option, Some, None, IsSomeAnd}
+use Rattle.carbon_history.specs.Entries.{listed}
 use Rattle.carbon_history.specs.declared.entry.Entry.{Entry}
 use Rattle.carbon_history.specs.declared.entry.Entry.TheVariants as entry
 use Rattle.carbon_history.specs.declared.entry.PutEnd.TheVariants as end
@@ -16,7 +17,7 @@ use Rattle.shard_core.specs.declared.planned.Wrote.TheVariants as wrote
 use Rattle.shared_history.specs.Parts.{PassValue}
 use Rattle.shared_store.specs.declared.step.Step.{Step}
 use Rattle.shared_store.specs.declared.step.Step.TheVariants as step
-use Rattle.shared_store.specs.Passes.{Enters, IsSettled, IsUnderWay, runs_in, settled_in}
+use Rattle.shared_store.specs.Passes.{Enters, IsSettled, IsUnderWay, LooksAgain, runs_in, settled_in}
 
 -- the entry of a put, with its outcome, unless there was no memory
 abbrev pub put_entry : ℕ → List ℕ → ℕ → ℤ → Put → Option Entry
@@ -85,6 +86,12 @@ AfterPlan start class now planned.Busy old new = IsUnderWay class new
 AfterPlan start class now planned.Idle old new = WasIdle start class old new
 AfterPlan start class now planned.DiskFault old new = FailedPlan start class new
 AfterPlan start class now planned.NoMemory old new = IsSettled class new
+
+-- a plan, with its answer: its own entry, and what the answer tells
+pub record PlansAs (start : State) (passes class now : ℕ) (plan : Planned) (old new : PassValue) : Type 0 where
+  pub enters : Enters start passes (listed (plan_entry old.number class now plan)) old new
+  pub after : AfterPlan start class now plan old new
+  pub looks : LooksAgain class old new
 
 -- the last run of a drain was written: of runs and of settled drains there are more than the pass had seen
 pub record FinishedDrain (class : ℕ) (old new : PassValue) : Type 0 where

@@ -1,7 +1,7 @@
 //! One step of draining a class.
 ghost use Rattle.std.specs.Prelude.{◌≡◌};
 
-use crate::class_desk::{ClassDesk, lock_desk};
+use crate::class_desk::ClassDesk;
 use crate::class_files::ClassFiles;
 use crate::named::Named;
 use crate::order_desk::OrderDesk;
@@ -13,33 +13,8 @@ use std::sync::{Mutex, Wait};
 
 impl<D: Disk, N: Named> ClassFiles<D, N> {
     ghost use Rattle.std.specs.Prelude.{◌≡◌, ℕ, false, true, length};
-    ghost use Rattle.carbon_history.specs.Entries.{listed};
-    ghost use Rattle.shared_store.specs.Passes.{Enters, HasRoom, LooksAgain};
-    ghost use Rattle.shared_store.specs.Steps.{AfterPlan, StepsTo, plan_entry};
-
-    /// Begins the drain of the metric that goes next. The desk is locked throughout.
-    pub(crate) fn plan_held(
-        &mut self,
-        rt: &impl Wait,
-        desks: &[Mutex<ClassDesk<N>>],
-        order: &Mutex<OrderDesk<N>>,
-        pass: &mut Pass,
-        now: u32,
-    ) -> Planned
-        requires sixteen { length desks.now ≡ 16 }
-        requires one { pass.old.table ≡ N.table }
-        requires room { HasRoom pass.old }
-        ensures enters { Enters N.start N.passes
-            (listed (plan_entry pass.old.number self.old.class now result)) pass.old pass.new }
-        ensures after { AfterPlan N.start self.old.class now result pass.old pass.new }
-        ensures busy { result ≡ Planned.Busy → self.old.shelved ≡ true }
-        ensures looks { LooksAgain self.old.class pass.old pass.new }
-        ensures class { self.new.class ≡ self.old.class }
-    {
-        let mut guard = lock_desk(rt, desks, self.files.class());
-        let desk = &mut *guard;
-        self.plan(rt, desk, order, pass, now)
-    }
+    ghost use Rattle.shared_store.specs.Passes.{HasRoom, LooksAgain};
+    ghost use Rattle.shared_store.specs.Steps.{StepsTo};
 
     /// Writes the next run of the drain that is being written, or else begins one.
     pub(crate) fn step(
@@ -104,7 +79,7 @@ impl<D: Disk, N: Named> ClassFiles<D, N> {
         ensures looks { LooksAgain self.old.class pass.old pass.new }
         ensures class { self.new.class ≡ self.old.class }
     {
-        match self.plan_held(rt, desks, order, pass, now) {
+        match self.plan(rt, desks, order, pass, now) {
             Planned::Took(_) => Step::Took,
             Planned::Busy => unreachable!(),
             Planned::Idle => Step::Idle,

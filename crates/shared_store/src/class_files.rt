@@ -2,13 +2,13 @@
 ghost use Rattle.std.specs.Prelude.{◌≡◌, length};
 
 use crate::class_desk::{ClassDesk, lock_desk};
-use crate::events::{plan_event, write_event};
+use crate::events::write_event;
 use crate::named::Named;
 use crate::order_desk::OrderDesk;
-use crate::runs::{count_run, settle_begun};
+use crate::runs::count_run;
 use class_halves::{FilesHalf, meet, renew};
 use outside_io::Disk;
-use shard_core::{Files, Planned, Wrote};
+use shard_core::{Files, Wrote};
 use shared_history::{Pass, mark};
 use std::marker::{Model, PhantomData};
 use std::sync::{Mutex, Wait};
@@ -40,11 +40,11 @@ impl<D: Disk, N: Named> Model for ClassFiles<D, N> {
 }
 
 impl<D: Disk, N: Named> ClassFiles<D, N> {
-    ghost use Rattle.std.specs.Prelude.{◌≡◌, false, true, length};
+    ghost use Rattle.std.specs.Prelude.{◌≡◌, false, length};
     ghost use Rattle.carbon_history.specs.Entries.{listed};
     ghost use Rattle.shared_store.specs.Locks.{OnlyPuts};
     ghost use Rattle.shared_store.specs.Passes.{Enters, HasRoom, LooksAgain};
-    ghost use Rattle.shared_store.specs.Steps.{AfterPlan, AfterWrite, plan_entry, write_entry};
+    ghost use Rattle.shared_store.specs.Steps.{AfterWrite, write_entry};
 
     /// The class.
     pub(crate) fn class(&self) -> u32
@@ -68,36 +68,6 @@ impl<D: Disk, N: Named> ClassFiles<D, N> {
         ensures desk { desk.new ≡ desk.old }
     {
         meet(&mut desk.half, &mut self.half);
-    }
-
-    /// Begins the drain of the metric that goes next, where both locks are held. The disk is read before the
-    /// order is locked.
-    pub(crate) fn plan(
-        &mut self,
-        rt: &impl Wait,
-        desk: &mut ClassDesk<N>,
-        order: &Mutex<OrderDesk<N>>,
-        pass: &mut Pass,
-        now: u32,
-    ) -> Planned
-        requires class { desk.old.class ≡ self.old.class }
-        requires one { pass.old.table ≡ N.table }
-        requires room { HasRoom pass.old }
-        ensures enters { Enters N.start N.passes
-            (listed (plan_entry pass.old.number self.old.class now result)) pass.old pass.new }
-        ensures after { AfterPlan N.start self.old.class now result pass.old pass.new }
-        ensures busy { result ≡ Planned.Busy → self.old.shelved ≡ true }
-        ensures looks { LooksAgain self.old.class pass.old pass.new }
-        ensures class { (self.new.class ≡ self.old.class) × (desk.new.class ≡ desk.old.class) }
-    {
-        meet(&mut desk.half, &mut self.half);
-        let planned = self.files.plan(&mut desk.desk, now);
-        let event = plan_event(&planned, now);
-        order.lock(rt).tell(pass, &mut desk.tail, event);
-        settle_begun(&mut desk.tail, &planned, self.files.shelved());
-        renew(&mut desk.half, &mut self.half, &desk.tail);
-        mark(&mut desk.tail, pass);
-        planned
     }
 
     /// Writes the next run of the drain that is being written, under the lock of the files alone. The desk is

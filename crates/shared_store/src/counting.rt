@@ -27,10 +27,7 @@ const NONE: LookCount = LookCount {
 
 /// Whether a question may have what its needs find. A count above 2^64 - 1 is answered as want of
 /// memory.
-pub(crate) fn count_all<N: Named>(
-    finds: &[NeedFinds<'_, N>],
-    now: u32,
-) -> Result<(), AskFault>
+pub(crate) fn count_all<N: Named>(finds: &[NeedFinds<'_, N>], now: u32) -> Result<(), AskFault>
     requires needs { All AreEnds (needs_in finds.now) }
     requires now { now ≤ 4_000_000_000 }
     ensures { (list : List Entry) → All (AreFindsOf list) finds.now
@@ -49,10 +46,7 @@ pub(crate) fn count_all<N: Named>(
 }
 
 // How much all needs find.
-fn count_needs<N: Named>(
-    finds: &[NeedFinds<'_, N>],
-    now: u32,
-) -> Result<LookCount, AllocError>
+fn count_needs<N: Named>(finds: &[NeedFinds<'_, N>], now: u32) -> Result<LookCount, AllocError>
     requires needs { All AreEnds (needs_in finds.now) }
     requires now { now ≤ 4_000_000_000 }
     ensures { IfOk result (λ count. (list : List Entry) → All (AreFindsOf list) finds.now
@@ -66,10 +60,7 @@ fn count_needs<N: Named>(
 }
 
 // How much one need finds in all classes.
-fn count_need<N: Named>(
-    finds: &NeedFinds<'_, N>,
-    now: u32,
-) -> Result<LookCount, AllocError>
+fn count_need<N: Named>(finds: &NeedFinds<'_, N>, now: u32) -> Result<LookCount, AllocError>
     requires ends { AreEnds finds.now.need }
     requires now { now ≤ 4_000_000_000 }
     ensures { IfOk result (λ count. (list : List Entry) → AreFindsOf list finds.now

@@ -11,6 +11,9 @@ use crate::found_set::FoundSet;
 use crate::named::Named;
 use std::alloc::{AllocError, Global};
 
+/// How many pending points a question may copy, each as often as a need finds its metric. More are want of memory.
+const MOST_PENDING: u64 = 4_000_000;
+
 /// Looks at all that each need finds.
 pub(crate) fn look_all<N: Named>(
     alloc: Global,
@@ -22,19 +25,21 @@ pub(crate) fn look_all<N: Named>(
     ensures { IfOk result (λ sets. (list : List Entry) → All (AreFindsOf list) finds.now
         → Pairwise (LooksUp (replay N.start list) now) (needs_in finds.now) sets.items) }
 {
+    let mut left = MOST_PENDING;
     let mut sets = Vec::with_capacity(alloc, finds.len())?;
     for need in finds {
-        sets.push(look(alloc, need, now)?)?;
+        let set = look(alloc, need, now)?;
+        let Some(rest) = left.checked_sub(set.pending()) else {
+            return Err(AllocError);
+        };
+        left = rest;
+        sets.push(set)?;
     }
     Ok(sets)
 }
 
 // Looks at the metrics of all classes that one need finds.
-fn look<N: Named>(
-    alloc: Global,
-    finds: &NeedFinds<'_, N>,
-    now: u32,
-) -> Result<FoundSet, AllocError>
+fn look<N: Named>(alloc: Global, finds: &NeedFinds<'_, N>, now: u32) -> Result<FoundSet, AllocError>
     requires ends { AreEnds finds.now.need }
     requires now { now ≤ 4_000_000_000 }
     ensures { IfOk result (λ found. (list : List Entry) → AreFindsOf list finds.now

@@ -1,5 +1,6 @@
 //! What is found out before the locks of all classes are taken.
-use crate::class_desk::ClassDesk;
+ghost use Rattle.std.specs.Prelude.{◌<◌};
+
 use crate::named::Named;
 use crate::store::Store;
 use metric_path::{CLASSES, MetricPath};
@@ -8,49 +9,71 @@ use render_need::Need;
 use std::alloc::{AllocError, Global};
 use std::sync::Wait;
 
-/// How much work may be done under the locks of all classes, in bytes of patterns that are held against names.
+/// How many names all needs of a question together may be held against under the locks of all desks.
+/// More is want of memory.
+const MOST_NAMES_LOCKED: u64 = 20_000_000;
+
+/// How much work may be done under these locks, in bytes of patterns that are held against names.
 const MOST_WORK_LOCKED: u64 = 400_000;
 
 /// How many bytes a pattern may have that is held against a name in no more time than it takes to find out whether that
 /// was done beforehand.
 const SHORT_PATTERN: u64 = 32;
 
-impl<N: Named> ClassDesk<N> {
-    // How much work a look at the class is for those of these needs whose patterns are not short, or more than `most`.
-    fn work_of(&self, needs: &[Need], most: u64) -> Result<u64, AllocError> {
-        let mut work = 0_u64;
-        for need in needs {
-            let bytes = need.glob.text().len() as u64;
-            if bytes <= SHORT_PATTERN {
-                continue;
-            }
-            let names = (most / bytes).saturating_add(1) as usize;
-            let names = self.desk.width(&need.glob, names)?;
-            work = work.saturating_add(bytes.saturating_mul(names as u64));
-            if work > most {
-                return Ok(work);
-            }
+/// What looks at classes come to: how many names needs are held against, and how many bytes of patterns that are not
+/// short.
+#[derive(Drop)]
+struct Foreseen {
+    names: u64,
+    work: u64,
+}
+
+impl Foreseen {
+    // A need more, which is held against so many names, where that is not too much.
+    fn add(&mut self, need: &Need, names: u64) -> Result<(), AllocError> {
+        self.names = self.names.saturating_add(names);
+        if self.names > MOST_NAMES_LOCKED {
+            return Err(AllocError);
         }
-        Ok(work)
+        let bytes = need.glob.text().len() as u64;
+        if bytes > SHORT_PATTERN {
+            self.work = self.work.saturating_add(bytes.saturating_mul(names));
+        }
+        Ok(())
     }
 }
 
 impl<D: Disk, N: Named> Store<D, N> {
+    // Looks at a class for these needs. Its lock is given back behind each need.
+    fn foresee(
+        &self,
+        rt: &impl Wait,
+        class: u32,
+        needs: &[Need],
+        seen: &mut Foreseen,
+    ) -> Result<(), AllocError>
+        requires { class < 16 }
+    {
+        for need in needs {
+            let left = MOST_NAMES_LOCKED.saturating_sub(seen.names);
+            let most = left.saturating_add(1) as usize;
+            let names = self.lock_class(rt, class).desk.width(&need.glob, most)?;
+            seen.add(need, names as u64)?;
+        }
+        Ok(())
+    }
+
     // Whether a look at all classes for these needs is too much work for the time under their locks.
     fn is_wide(&self, rt: &impl Wait, needs: &[Need]) -> Result<bool, AllocError> {
-        let mut left = MOST_WORK_LOCKED;
+        let mut seen = Foreseen { names: 0, work: 0 };
         for class in 0..CLASSES {
-            let work = self.lock_class(rt, class).work_of(needs, left)?;
-            let Some(less) = left.checked_sub(work) else {
-                return Ok(true);
-            };
-            left = less;
+            self.foresee(rt, class, needs, &mut seen)?;
         }
-        Ok(false)
+        Ok(seen.work > MOST_WORK_LOCKED)
     }
 
     /// The names of each class, where a look at all classes for these needs would be too much work for the time
-    /// under their locks; else none. One lock is held at a time.
+    /// under their locks; else none. One lock is held at a time. More names than may be looked at are want of memory.
     pub(crate) fn names_for(
         &self,
         rt: &impl Wait,

@@ -51,6 +51,15 @@ impl FoundSet {
         Ok(FoundSet { items })
     }
 
+    /// How many pending points were copied, 2^64 - 1 at most.
+    pub(crate) fn pending(&self) -> u64 {
+        let mut pending = 0_u64;
+        for looked in &self.items {
+            pending = pending.saturating_add(looked.pending.list().len() as u64);
+        }
+        pending
+    }
+
     /// What was looked at, in order.
     pub(crate) fn as_slice(&self) -> &[Looked]
         ensures { result.now ≡ self.now }

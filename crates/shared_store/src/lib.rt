@@ -10,6 +10,7 @@ mod class_asking;
 mod class_desk;
 mod class_draining;
 mod class_files;
+mod class_planning;
 mod class_reading;
 mod close;
 mod counting;

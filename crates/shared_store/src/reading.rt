@@ -64,9 +64,9 @@ impl<D: Disk, N: Named> Store<D, N> {
         ensures { ReadsOne N.start N.told N.passes looked.now result pass.old pass.new }
     {
         let class = looked.path.class();
-        let read =
-            self.lock_files(rt, class)
-                .read(rt, self.desks.as_slice(), &self.order, pass, looked);
+        let read = self
+            .lock_files(rt, class)
+            .read(rt, self.desks.as_slice(), &self.order, pass, looked);
         end_of(read, class)
     }
 

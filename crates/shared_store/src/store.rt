@@ -97,7 +97,7 @@ impl<D: Disk, N: Named> Store<D, N> {
         ensures looks { LooksAgain class pass.old pass.new }
     {
         let mut files = self.lock_files(rt, class);
-        files.plan_held(rt, self.desks.as_slice(), &self.order, pass, now)
+        files.plan(rt, self.desks.as_slice(), &self.order, pass, now)
     }
 
     /// Writes the next run of the drain of a class that is being written: one entry where the disk

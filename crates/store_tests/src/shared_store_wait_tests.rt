@@ -16,11 +16,12 @@ use std::test::Fail;
 use std::thread::Threads;
 use std::time::Clock;
 
-// A call of the disk of a class that waits: its first write, or the read that has so many before
-// it. The first of a list puts up the flag 0 and waits for the flag 1, the next has the flags 2 and
+// A call of the disk of a class that waits: its first create or write, or the read that has so many
+// before it. The first of a list puts up the flag 0 and waits for the flag 1, the next has the flags 2 and
 // 3.
 #[derive(Clone, Copy)]
 enum Stop {
+    Create(u32),
     Write(u32),
     Read(u32, u64),
 }
@@ -57,12 +58,13 @@ fn gate_of<R: Clock + Drop>(rt: R, pair: &[Flag]) -> Result<Gate<R>, Fail> {
 
 fn class_of(stop: Stop) -> u32 {
     match stop {
-        Stop::Write(class) | Stop::Read(class, _) => class,
+        Stop::Create(class) | Stop::Write(class) | Stop::Read(class, _) => class,
     }
 }
 
 fn stopping<R: Clock + Drop>(disk: GateDisk<R>, stop: Stop, gate: Gate<R>) -> GateDisk<R> {
     match stop {
+        Stop::Create(_) => disk.creating_at(gate),
         Stop::Write(_) => disk.writing_at(gate),
         Stop::Read(_, before) => disk.reading_at(before, gate),
     }
@@ -408,6 +410,141 @@ fn a_question_enters_a_third_time_at_most(rt: HostRuntime) -> Result<(), Fail> {
         second: &MOVES_TWICE,
         entries: 13,
         tally: tally(5, 5),
+    };
+    assert_case(&rt, rt.alloc(), &case)
+}
+
+// ---- a class whose own disk waits: the path `r` is of class 5 too
+
+const R: Shown = Shown {
+    path: "r",
+    values: &[Some(3_000), None, None, None, None],
+};
+
+const LATER_B: Shown = Shown {
+    path: "b",
+    values: &[Some(1_000), Some(2_000), None, None, None],
+};
+
+const LAST_B: Shown = Shown {
+    path: "b",
+    values: &[Some(1_000), Some(2_000), Some(7_000), None, None],
+};
+
+const ONLY_B: &[&[u8]] = &[b"b"];
+
+const B_AND_R: &[&[u8]] = &[b"b", b"r"];
+
+const ASKS_B_AND_R: [Row; 1] = [(Deed::Ask(B_AND_R), End::Shown(&[&[LATER_B], &[R]], 1))];
+
+// Points of the drained metric and of another one are put meanwhile, and their names are asked for.
+const PUTS_HERE: [Row; 5] = [
+    (Deed::Await(0), End::Up),
+    (Deed::Put("b", 1, 2), End::Put(Put::Stored)),
+    (Deed::PutAll(&[("r", 0, 3)]), End::PutAll(ONE_STORED)),
+    (Deed::Names, End::Names(&["b", "r"])),
+    (Deed::Raise(1), End::Up),
+];
+
+const ONE_STORED: PutCounts = PutCounts {
+    done: 1,
+    stored: 1,
+    replaced: 0,
+    full: 0,
+};
+
+#[test]
+fn points_of_a_class_are_put_while_its_disk_makes_or_writes_a_file(
+    rt: HostRuntime,
+) -> Result<(), Fail> {
+    for stop in [Stop::Create(5), Stop::Write(5)] {
+        let case = Case {
+            stops: &[stop],
+            before: &WRITES,
+            first: &ASKS_B_AND_R,
+            second: &PUTS_HERE,
+            entries: 6,
+            tally: tally(3, 1),
+        };
+        assert_case(&rt, rt.alloc(), &case)?;
+    }
+    Ok(())
+}
+
+// The next drain reads the file, and waits. The point that comes meanwhile is drained with it.
+const PLANS_WITH_LATER: [Row; 4] = [
+    (Deed::Plan(5), End::Planned("b")),
+    (Deed::Write(5), End::Wrote(Wrote::Finished)),
+    (Deed::Plan(5), End::Planned("idle")),
+    (Deed::Ask(ONLY_B), End::Shown(&[&[LAST_B]], 1)),
+];
+
+const PUTS_LATER: [Row; 4] = [
+    (Deed::Await(0), End::Up),
+    (Deed::Put("b", 2, 7), End::Put(Put::Stored)),
+    (Deed::Names, End::Names(&["b"])),
+    (Deed::Raise(1), End::Up),
+];
+
+#[test]
+fn a_point_is_put_while_the_plan_of_its_metric_reads(rt: HostRuntime) -> Result<(), Fail> {
+    let case = Case {
+        stops: &[Stop::Read(5, 0)],
+        before: &PUT_AGAIN,
+        first: &PLANS_WITH_LATER,
+        second: &PUTS_LATER,
+        entries: 7,
+        tally: tally(3, 2),
+    };
+    assert_case(&rt, rt.alloc(), &case)
+}
+
+// The first question reads `b`, and waits. The point that comes meanwhile is the next one's.
+const ASKS_B: [Row; 2] = [
+    (Deed::Ask(ONLY_B), End::Shown(&[&[B]], 1)),
+    (Deed::Ask(ONLY_B), End::Shown(&[&[LATER_B]], 1)),
+];
+
+const PUTS_B: [Row; 3] = [
+    (Deed::Await(0), End::Up),
+    (Deed::Put("b", 1, 2), End::Put(Put::Stored)),
+    (Deed::Raise(1), End::Up),
+];
+
+#[test]
+fn a_point_is_put_while_a_question_reads_its_metric(rt: HostRuntime) -> Result<(), Fail> {
+    let case = Case {
+        stops: &[Stop::Read(5, 0)],
+        before: &WRITES,
+        first: &ASKS_B,
+        second: &PUTS_B,
+        entries: 5,
+        tally: tally(2, 1),
+    };
+    assert_case(&rt, rt.alloc(), &case)
+}
+
+// More points come than the limit lets stay pending.
+const FILLS: [Row; 3] = [
+    (Deed::Await(0), End::Up),
+    (Deed::PutMany(0, 12), End::PutMany(10)),
+    (Deed::Raise(1), End::Up),
+];
+
+#[test]
+fn points_are_stored_up_to_the_limit_while_a_disk_waits(rt: HostRuntime) -> Result<(), Fail> {
+    let case = Case {
+        stops: &[Stop::Write(5)],
+        before: &WRITES,
+        first: &[],
+        second: &FILLS,
+        entries: 14,
+        tally: Tally {
+            stored: 11,
+            replaced: 0,
+            full: 2,
+            drains: 1,
+        },
     };
     assert_case(&rt, rt.alloc(), &case)
 }

@@ -19,8 +19,8 @@ loop-need-preserved g c = λ list h.
     let more = needs_to finds i find c.loop-need-test.true c.need-item.is in
     subst (λ (ns : List Need). Pairwise (LooksUp s c.args.now) ns c.push.new.self.items) (sym more)
     (subst (λ (l : List (List Looked)). Pairwise (LooksUp s c.args.now) (needs_in (take i finds) ++ find.need ∷ []) l) (sym c.in_ok-push.ensures.items)
-    (pairwise_more (LooksUp s c.args.now) (needs_in (take i finds)) sets find.need c.in_ok-look.field-0 (c.loop-need.invariant list h)
-    (c.in_ok-look.ensures list (find_at finds i find c.loop-need-test.true c.need-item.is list h))))
+    (pairwise_more (LooksUp s c.args.now) (needs_in (take i finds)) sets find.need c.in_ok-set.set (c.loop-need.invariant list h)
+    (c.in_ok-set.ensures list (find_at finds i find c.loop-need-test.true c.need-item.is list h))))
 
 pub look-requires-clause-ends : goal.look-requires-clause-ends
 look-requires-clause-ends g c = ends_at c.args.finds.now c.loop-need.need-index c.need-item.result c.loop-need-test.true c.need-item.is c.requires.needs

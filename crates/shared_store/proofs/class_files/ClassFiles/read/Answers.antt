@@ -111,7 +111,7 @@ returns-in-Err-clause-still g c =
     let stand : c.args.self.now.list ≡ d.half.stand.list = search rules in
     λ puts.
     let held = drains_held n.start d.half.stand.list d.tail.list c.args.pass.now.seen c.args.self.now.class looked.path at c.desk.invariant.since
-        (subst (λ (l : List Entry). OnlyPuts l (about_class c.args.self.now.class c.args.pass.now.seen)) stand puts) in
+    (subst (λ (l : List Entry). OnlyPuts l (about_class c.args.self.now.class c.args.pass.now.seen)) stand puts) in
     c.in-Err.ensures.moved.1 (sym c.in-Err.ensures.moved.0 ∙ (c.desk.invariant.holds.drains looked.path (record { legal = c.requires.look.legal; here = desk_at }) ∙ (held ∙ sym c.requires.look.drains)))
 
 pub returns-in-Err-NoMemory-clause-reads : goal.returns-in-Err-NoMemory-clause-reads

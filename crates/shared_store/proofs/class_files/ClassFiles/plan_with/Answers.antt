@@ -11,7 +11,7 @@ use Rattle.shared_store.specs.Locks.{KeepsDesk, KeepsFiles}
 use Rattle.shared_store.specs.Passes.{LooksAgain}
 use Rattle.shared_store.specs.Steps.{AfterPlan, plan_entry}
 use Rattle.shared_store.specs.Tails.{MayTell, OwesBegun, Tells, tail_begun, tail_told}
-use Rattle.shared_store.proofs.class_files.ClassFiles.plan.Goals as goal
+use Rattle.shared_store.proofs.class_files.ClassFiles.plan_with.Goals as goal
 use Rattle.shared_store.proofs.BothLemmas.{both_halves, both_keep, desk_keeps, files_keep}
 use Rattle.shared_store.proofs.ClassLemmas.{few_runs, keeps_plan, plan_may, plan_owes}
 use Rattle.shared_store.proofs.LookLemmas.{after_plan, begun_class, begun_list, looked, looks_again, told_class, told_same, told_tail_class}
