@@ -14,7 +14,7 @@ use Rattle.outside_io.specs.declared.disk.Disk.{Ghosts}
 use Rattle.atomic_table.specs.Seated.{TableId}
 use Rattle.carbon_history.specs.declared.entry.Entry.{Entry}
 use Rattle.carbon_history.specs.declared.entry.Entry.TheVariants as entry
-use Rattle.carbon_history.specs.Entries.{NamesPasses, about_class, drains, is_about, of_pass}
+use Rattle.carbon_history.specs.Entries.{NamesPasses, about_class, drains, is_about, is_drain, of_pass}
 use Rattle.ring_format.specs.Patch.{PatchValue}
 use Rattle.carbon_model.specs.State.{Kept, State}
 use Rattle.carbon_model.specs.RingFiles.{Stands, StandsUnder}
@@ -23,7 +23,7 @@ use Rattle.carbon_model.proofs.HistoryLemmas.{replay-append}
 use Rattle.shared_history.specs.Parts.{AllSeen, AreNewPasses, PassValue, own_entries}
 use Rattle.shared_history.proofs.ListLemmas.{prefix_self}
 use Rattle.shared_store.specs.Closes.{Closes, EndsAs, HasSettled}
-use Rattle.shared_store.specs.Drains.{DrainsToFault, DrainsWhole, DrainsTo, RiseWithin}
+use Rattle.shared_store.specs.Drains.{DrainsPartly, DrainsToFault, DrainsWhole, DrainsTo, RiseWithin}
 use Rattle.shared_store.specs.Passes.{HasRoom, settled_in}
 use Rattle.shared_store.specs.Tallies.{capped, is_fault}
 use Rattle.shared_store.specs.declared.close.Closed.{Closed}
@@ -31,7 +31,7 @@ use Rattle.shared_store.specs.declared.drain_end.DrainEnd.{DrainEnd}
 use Rattle.shared_store.specs.declared.drain_end.DrainEnd.TheVariants.{Done, DiskFault, Spent, NoMemory}
 use Rattle.carbon_serve.specs.Workers.{HasMoment}
 use Rattle.carbon_serve.specs.Crews.{AllWent, Finishes, HasLearned, OnlySaw, lacks_room}
-use Rattle.carbon_serve.specs.Serves.{AllHaveRoom, EndsByFault, EndsServed, IsDrained, Serves, SomeSpent, WorkersHaveRoom}
+use Rattle.carbon_serve.specs.Serves.{AllHaveRoom, EndsByFault, EndsServed, EndsShort, IsDrained, Serves, SomeSpent, WorkersHaveRoom}
 use Rattle.carbon_serve.proofs.EntryLemmas.{same_number}
 use Rattle.carbon_serve.proofs.PassLemmas.{alone, last_number, last_own, own_none, passes_are, returned, slice_front, slice_last, timed, whole, worker_own}
 use Rattle.carbon_serve.proofs.PendingLemmas.{none_pending}
@@ -48,6 +48,21 @@ rise_told : (moments : ℕ → Type 0) (pass now class most : ℕ) (es : List En
 rise_told moments pass now class most [] rise told = All-nil (HasMoment moments)
 rise_told moments pass now class most (e ∷ es) rise told =
     All-cons (HasMoment moments) e es (drain_told moments pass rise.0 now e rise.2.1.0 told) (rise_told moments pass now rise.0 most es rise.2.1.1 told)
+
+-- its entries are drains
+drain_is : (pass class now : ℕ) (e : Entry) → IsDrainOf pass class now e → is_drain e ≡ true
+drain_is pass class now (entry.Drain by path at) is = refl
+drain_is pass class now (entry.Put by path time value end) is = absurd is
+drain_is pass class now (entry.Ask by number try at) is = absurd is
+drain_is pass class now (entry.Fault by of_class) is = absurd is
+
+abbrev IsDrain : Entry → Type 0
+IsDrain e = is_drain e ≡ true
+
+rise_drains : (pass now class most : ℕ) (es : List Entry) → RiseWithin pass now class most es → All IsDrain es
+rise_drains pass now class most [] rise = All-nil IsDrain
+rise_drains pass now class most (e ∷ es) rise =
+    All-cons IsDrain e es (drain_is pass rise.0 now e rise.2.1.0) (rise_drains pass now rise.0 most es rise.2.1.1)
 
 -- what is known of the crew's own pass after the drain
 pub record Finished (moments : ℕ → Type 0) (old new : PassValue) : Type 0 where
@@ -301,6 +316,21 @@ module _ {D : Type 0} (d : Ghosts D) (table : TableId) (moments : ℕ → Type 0
             (there_below disks class (omega (arith, sixteen, fails.within))) some;
       }
 
+  -- memory ran out
+  short_last : (now : ℕ) → DrainsPartly start passes now own1 own2 → EndsShort passes history
+  short_last now part =
+      let e = part.enters in
+      let are = passes_are table moments start passes before served own0 own1 own2 history new all went saw learned names seen e.number e.begins in
+      let none : own_entries own1 ≡ [] =
+      own_none table moments start passes before served own0 own1 own2 history new all went saw learned names seen e.number e.begins in
+      let mine : of_pass last history ≡ part.made =
+      last_own table moments start passes before served own0 own1 own2 history new all went saw learned names seen e.number e.begins
+      ∙ (e.once ∙ ap (λ (es : List Entry). es ++ part.made) none) in record {
+        pass = last;
+        is = are;
+        drains = subst (All IsDrain) (sym mine) (rise_drains own1.number now 0 16 part.made part.rise);
+      }
+
   -- what stands at each end of the drain
   ends_drained : (now : ℕ) (end : DrainEnd) → list_any lacks_room served ≡ false → DrainsTo start passes now end own1 own2 → EndsServed d told start earlier passes end history disks
   ends_drained now (Done count) none drains =
@@ -308,7 +338,8 @@ module _ {D : Type 0} (d : Ghosts D) (table : TableId) (moments : ℕ → Type 0
   ends_drained now (DiskFault class) none drains =
       let e = drains.enters in (fault_last now class drains, workers_room e.number e.begins none)
   ends_drained now Spent none drains = let e = drains.0.enters in spent_own e.number e.begins drains.1
-  ends_drained now NoMemory none drains = tt
+  ends_drained now NoMemory none drains =
+      let e = drains.0.enters in (short_last now drains.0, room_left e.number e.begins none drains.1)
 
   pub ends_served : (spent : Bool) (end : DrainEnd) → spent ≡ list_any lacks_room served → Finishes moments start passes spent end own1 own2 → EndsServed d told start earlier passes end history disks
   ends_served true end is finishes =

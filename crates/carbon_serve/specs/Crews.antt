@@ -1,5 +1,5 @@
 -- The passes of a crew.
-use Rattle.std.specs.Prelude.{◌≡◌, ◌≤◌, ◌+◌, ◌^◌, ◌||◌, ℕ, nat_lt, All, Bool, true, false, List, [], ◌∷◌, ◌++◌, length, reverse, Option, Some, None}
+use Rattle.std.specs.Prelude.{◌≡◌, ◌≤◌, ◌+◌, ◌^◌, ◌||◌, ℕ, nat_lt, All, Bool, true, false, List, [], ◌∷◌, ◌++◌, length, reverse, Option, Some, None, IfSome, if◌then◌else◌}
 use Rattle.std.specs.List.{AllZip, list_any}
 use mathlib.Core.List.{IsPrefix}
 use Rattle.atomic_table.specs.Seated.{TableId}
@@ -9,6 +9,8 @@ use Rattle.shared_store.specs.Drains.{DrainsTo}
 use Rattle.shared_store.specs.declared.drain_end.DrainEnd.{DrainEnd}
 use Rattle.shared_store.specs.declared.drain_end.DrainEnd.TheVariants.{Spent}
 use Rattle.carbon_serve.specs.Workers.{Works}
+use Rattle.carbon_serve.specs.declared.workers.Role.{Role}
+use Rattle.carbon_serve.specs.declared.workers.Role.TheVariants as role
 use Rattle.carbon_serve.specs.declared.workers.Worker.{Worker}
 
 abbrev pub pass_list : Option PassValue → List PassValue
@@ -18,6 +20,16 @@ pass_list (Some pass) = pass ∷ []
 abbrev pub passes_of : List Worker → List PassValue
 passes_of [] = []
 passes_of (worker ∷ workers) = pass_list worker.pass ++ passes_of workers
+
+-- the links that a worker serves whose pass has this number, where so many workers are receivers
+abbrev pub role_of : ℕ → ℕ → ℕ → Role
+role_of number receivers answer_bytes =
+    if nat_lt number receivers then role.Receiver else role.Renderer answer_bytes
+
+-- a worker serves those of its pass's number
+abbrev pub HasRole : ℕ → ℕ → Worker → Type 0
+HasRole receivers answer_bytes worker =
+    IfSome worker.pass (λ pass. worker.role ≡ role_of pass.number receivers answer_bytes)
 
 -- The passes of workers and of a drainer, in order of their numbers: the last worker has the first
 -- one.

@@ -1,3 +1,4 @@
 pub mod Workers
+pub mod Rounds
 pub mod Crews
 pub mod Serves

@@ -1,11 +1,11 @@
 -- What the service of a net comes to.
-use Rattle.std.specs.Prelude.{◌≡◌, ◌<◌, ◌≤◌, ◌+◌, ◌^◌, ℕ, All, List, [], ◌∷◌, ◌++◌, length, Option, Some, IfSome, slice_get}
+use Rattle.std.specs.Prelude.{◌≡◌, ◌<◌, ◌≤◌, ◌+◌, ◌^◌, ℕ, true, All, List, [], ◌∷◌, ◌++◌, length, Option, Some, IfSome, slice_get}
 use Rattle.outside_io.specs.Image.{Image, WhereKnown}
 use Rattle.outside_io.specs.Faults.{Rose}
 use Rattle.outside_io.specs.declared.disk.Disk.{Ghosts}
 use Rattle.carbon_history.specs.declared.entry.Entry.{Entry}
 use Rattle.carbon_history.specs.declared.entry.Entry.TheVariants.{Fault}
-use Rattle.carbon_history.specs.Entries.{NamesPasses, of_pass}
+use Rattle.carbon_history.specs.Entries.{NamesPasses, is_drain, of_pass}
 use Rattle.carbon_model.specs.State.{State}
 use Rattle.carbon_model.specs.RingFiles.{Stands}
 use Rattle.carbon_model.specs.Replay.{IsLegalHistory, replay}
@@ -51,16 +51,24 @@ pub record EndsByFault {D : Type 0} (d : Ghosts D) (earlier : ℕ → ℕ) (pass
   pub last : history ≡ before ++ Fault pass class ∷ []
   pub cause : Rose (earlier class) (disk_faults d.faults disks class)
 
+-- the last pass, which made the drain at the end alone, told no fault: all its entries are drains
+pub record EndsShort (passes : ℕ) (history : List Entry) : Type 0 where
+  pub pass : ℕ
+  pub is : pass + 1 ≡ passes
+  pub drains : All (λ entry. is_drain entry ≡ true) (of_pass pass history)
+
 -- What stands at each end. All is drained, and every pass has room left; or the disk of a class
 -- failed in the drain at the end, which the last pass made where every worker has room left; or a
--- pass was spent, in its work or in that drain; or memory ran out.
+-- pass was spent, in its work or in that drain; or memory ran out in that drain, while no disk
+-- failed in it and every pass has room left.
 abbrev pub EndsServed : {D : Type 0} → Ghosts D → (ℕ → Option Image) → State → (ℕ → ℕ) → ℕ → DrainEnd → List Entry → List D → Type 0
 EndsServed d told start earlier passes (Done count) history disks =
     IsDrained d.image told disks (replay start history) × AllHaveRoom passes history
 EndsServed d told start earlier passes (DiskFault class) history disks =
     EndsByFault d earlier passes class history disks × WorkersHaveRoom passes history
 EndsServed d told start earlier passes Spent history disks = SomeSpent passes history
-EndsServed d told start earlier passes NoMemory history disks = Unit {0}
+EndsServed d told start earlier passes NoMemory history disks =
+    EndsShort passes history × AllHaveRoom passes history
 
 -- What the service of a net came to over a store that began in a state, over disks that had told
 -- these images and had failed so often, with so many passes: those of the workers and last that of

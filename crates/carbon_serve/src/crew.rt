@@ -1,7 +1,7 @@
 //! The passes of those who serve a store: handed to the workers, and taken back from them.
-ghost use Rattle.std.specs.Prelude.{◌≡◌, ◌<◌, ◌≤◌, ◌∷◌, ◌++◌, [], Some, IfOk, OnOk, reverse, vec_capacity, vec_len};
+ghost use Rattle.std.specs.Prelude.{◌≡◌, ◌<◌, ◌≤◌, ◌∷◌, ◌++◌, [], All, Some, IfOk, OnOk, reverse, vec_capacity, vec_len};
 ghost use mathlib.Core.List.{IsPrefix};
-ghost use Rattle.carbon_serve.specs.Crews.{OnlySaw, lacks_room, passes_of};
+ghost use Rattle.carbon_serve.specs.Crews.{HasRole, OnlySaw, lacks_room, passes_of, role_of};
 
 use crate::workers::{Role, Worker, moment, work_all};
 use outside_io::{Clock, Disk, Net};
@@ -150,6 +150,7 @@ fn workers_of(
 ) -> Result<Vec<Worker>, AllocError>
     ensures workers { IfOk result (λ workers. reverse (passes_of workers.items) ≡ passes.old.items) }
     ensures count { IfOk result (λ workers. vec_len workers ≡ vec_len passes.old) }
+    ensures roles { IfOk result (λ workers. All (HasRole receivers answer_bytes) workers.items) }
     ensures none { OnOk result (vec_len passes.new ≡ 0) }
     ensures room { vec_capacity passes.old ≤ vec_capacity passes.new }
 {
@@ -162,17 +163,23 @@ fn workers_of(
 
 // The worker that a pass makes.
 fn worker_of(pass: Pass, receivers: u32, answer_bytes: u64) -> Worker
-    ensures { result.pass ≡ Some pass }
+    ensures pass { result.pass ≡ Some pass }
+    ensures role { HasRole receivers answer_bytes result }
 {
-    let role = if pass.number() < receivers {
-        Role::Receiver
-    } else {
-        Role::Renderer { answer_bytes }
-    };
     Worker {
-        role,
+        role: role_of(pass.number(), receivers, answer_bytes),
         pass: Some(pass),
     }
+}
+
+// The links that it serves, by the number of its pass.
+fn role_of(number: u32, receivers: u32, answer_bytes: u64) -> Role
+    ensures { result ≡ role_of number receivers answer_bytes }
+{
+    if number < receivers {
+        return Role::Receiver;
+    }
+    Role::Renderer { answer_bytes }
 }
 
 impl Muster {

@@ -1,6 +1,7 @@
 //! The workers of a server, each with a pass of its own for all that it does.
 ghost use Rattle.std.specs.Prelude.{◌≡◌, ◌<◌, true, length, All};
 ghost use Rattle.fixed_num.specs.Moment.{is_moment};
+ghost use Rattle.carbon_serve.specs.Rounds.{gets_on};
 ghost use Rattle.carbon_serve.specs.Workers.{AllWork, IsReady, Works, WorksBy};
 
 use http_front::{HttpEnd, serve_http};
@@ -49,6 +50,7 @@ where
     ghost use Rattle.std.specs.Prelude.{◌≡◌, ◌<◌, true};
     ghost use Rattle.shared_store.specs.Passes.{HasRoom};
     ghost use Rattle.carbon_serve.specs.Workers.{IsReady, Works, WorksBy};
+    ghost use Rattle.carbon_serve.specs.Rounds.{StepsOnce, TriesAll, TriesClass, gets_on};
 
     /// Serves links of the worker's kind, one after the other, until the net is closed or the pass
     /// is spent.
@@ -159,6 +161,8 @@ where
     fn drain_round(&self, pass: &mut Pass) -> bool
         requires one { pass.old.table ≡ N.table }
         ensures works { Works (C.moments self.now.clock.now) N.start pass.old pass.new }
+        ensures tries { TriesAll (C.moments self.now.clock.now) N.start N.passes result
+            pass.old pass.new }
     {
         let mut moved = false;
         for class in 0..CLASSES {
@@ -173,14 +177,14 @@ where
         requires class { class < 16 }
         requires one { pass.old.table ≡ N.table }
         ensures works { Works (C.moments self.now.clock.now) N.start pass.old pass.new }
+        ensures tries { TriesClass (C.moments self.now.clock.now) N.start N.passes class result
+            pass.old pass.new }
     {
         if !has_room(pass) {
             return false;
         }
-        match self.step(pass, class) {
-            Step::Took | Step::Wrote | Step::Finished => true,
-            Step::Idle | Step::DiskFault | Step::NoMemory => false,
-        }
+        let came = self.step(pass, class);
+        gets_on(came)
     }
 
     #[tactic(auto, using(crate::proofs::WorkLemmas::step_works))]
@@ -189,9 +193,21 @@ where
         requires one { pass.old.table ≡ N.table }
         requires room { HasRoom pass.old }
         ensures works { Works (C.moments self.now.clock.now) N.start pass.old pass.new }
+        ensures steps { StepsOnce (C.moments self.now.clock.now) N.start N.passes class result
+            pass.old pass.new }
     {
         self.store
             .drain_step(self.rt, pass, class, moment(self.clock))
+    }
+}
+
+// Whether a class got on by a step that came to this.
+fn gets_on(came: Step) -> bool
+    ensures { result ≡ gets_on came }
+{
+    match came {
+        Step::Took | Step::Wrote | Step::Finished => true,
+        Step::Idle | Step::DiskFault | Step::NoMemory => false,
     }
 }
 
