@@ -524,12 +524,33 @@ fn a_point_is_put_while_a_question_reads_its_metric(rt: HostRuntime) -> Result<(
     assert_case(&rt, rt.alloc(), &case)
 }
 
-// More points come than the limit lets stay pending.
-const FILLS: [Row; 3] = [
+// More points of the class come than the limit lets stay pending.
+const FILLS: [Row; 4] = [
     (Deed::Await(0), End::Up),
-    (Deed::PutMany(0, 12), End::PutMany(10)),
+    (Deed::PutAll(TEN), End::PutAll(TEN_STORED)),
+    (Deed::Put("r", 0, 1), End::Put(Put::Full)),
     (Deed::Raise(1), End::Up),
 ];
+
+const TEN: &[(&str, u32, u32)] = &[
+    ("b", 0, 1),
+    ("b", 1, 1),
+    ("b", 2, 1),
+    ("b", 3, 1),
+    ("b", 4, 1),
+    ("b2", 0, 1),
+    ("b2", 1, 1),
+    ("b2", 2, 1),
+    ("b2", 3, 1),
+    ("b2", 4, 1),
+];
+
+const TEN_STORED: PutCounts = PutCounts {
+    done: 10,
+    stored: 10,
+    replaced: 0,
+    full: 0,
+};
 
 #[test]
 fn points_are_stored_up_to_the_limit_while_a_disk_waits(rt: HostRuntime) -> Result<(), Fail> {
@@ -538,11 +559,11 @@ fn points_are_stored_up_to_the_limit_while_a_disk_waits(rt: HostRuntime) -> Resu
         before: &WRITES,
         first: &[],
         second: &FILLS,
-        entries: 14,
+        entries: 13,
         tally: Tally {
             stored: 11,
             replaced: 0,
-            full: 2,
+            full: 1,
             drains: 1,
         },
     };
