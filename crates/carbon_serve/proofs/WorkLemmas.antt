@@ -1,6 +1,6 @@
 -- What calls of a store make of a pass.
 use Rattle.std.proofs.lemmas.Bool.Decides.{nat_tests}
-use Rattle.std.proofs.Common.{◌≡◌, ◌∙◌, ◌||◌, ℕ, suc, ◌≤◌, Bool, true, false, arith, List, [], ◌∷◌, ◌++◌, refl, ap, subst, append_assoc}
+use Rattle.std.proofs.Common.{◌≡◌, ◌∙◌, ℕ, ◌≤◌, true, arith, List, [], ◌∷◌, ◌++◌, refl, ap, subst, append_assoc}
 use Rattle.std.specs.Prelude.{All}
 use Rattle.std.proofs.lemmas.List.Elements.{All-append, All-cons, All-nil}
 use mathlib.Core.List.{IsPrefix}
@@ -14,7 +14,6 @@ use Rattle.shared_store.specs.Passes.{Enters}
 use Rattle.shared_store.specs.Steps.{StepsTo}
 use Rattle.shared_store.specs.declared.step.Step.{Step}
 use Rattle.shared_store.specs.declared.step.Step.TheVariants as step
-use Rattle.carbon_serve.specs.Rounds.{TriesAll, TriesClass, TriesFirst}
 use Rattle.carbon_serve.specs.Workers.{HasMoment, Works}
 
 -- a moment is less than 2^32
@@ -83,20 +82,3 @@ step_works moments start passes class now step.Idle old new told steps = sees_wo
 step_works moments start passes class now step.DiskFault old new told steps =
     enters_works moments start passes (entry.Fault old.number class ∷ []) old new steps.0 (one_told moments (entry.Fault old.number class) tt)
 step_works moments start passes class now step.NoMemory old new told steps = sees_works moments start passes old new steps.0
-
--- ---- rounds of the drainer
-
--- no class yet
-pub tries_none : (moments : ℕ → Type 0) (start : State) (passes : ℕ) (pass : PassValue) → TriesFirst moments start passes 0 false pass pass
-tries_none moments start passes pass = (refl, refl)
-
--- one class more
-pub tries_more : (moments : ℕ → Type 0) (start : State) (passes class : ℕ) (before here : Bool) (old mid new : PassValue) → TriesFirst moments start passes class before old mid
-    → TriesClass moments start passes class here mid new → TriesFirst moments start passes (suc class) (before || here) old new
-tries_more moments start passes class before here old mid new first one = (mid, (before, (here, (first, (one, refl)))))
-
--- all classes
-pub tries_all : (moments : ℕ → Type 0) (start : State) (passes class : ℕ) (moved : Bool) (old new : PassValue) → class ≡ 16 → TriesFirst moments start passes class moved old new
-    → TriesAll moments start passes moved old new
-unfolding TriesAll
-tries_all moments start passes class moved old new all first = subst (λ (n : ℕ). TriesFirst moments start passes n moved old new) all first

@@ -1,5 +1,5 @@
--- What the drainer makes of the classes, one after the other.
-use Rattle.std.specs.Prelude.{◌≡◌, ◌⊎◌, ◌||◌, ℕ, zero, suc, Bool, true, false}
+-- What the drainer makes of a class.
+use Rattle.std.specs.Prelude.{◌≡◌, ◌⊎◌, ℕ, Bool, true, false}
 use Rattle.carbon_model.specs.State.{State}
 use Rattle.shared_history.specs.Parts.{PassValue}
 use Rattle.shared_store.specs.Passes.{IsSpent}
@@ -26,14 +26,3 @@ abbrev pub TriesClass : (ℕ → Type 0) → State → ℕ → ℕ → Bool → 
 TriesClass moments start passes class moved old new =
     ((came : Step) × (StepsOnce moments start passes class came old new × (moved ≡ gets_on came)))
     ⊎ (IsSpent old × ((new ≡ old) × (moved ≡ false)))
-
--- So it was with the first classes, so many, in their order; and whether one of them got on.
-abbrev pub TriesFirst : (ℕ → Type 0) → State → ℕ → ℕ → Bool → PassValue → PassValue → Type 0
-TriesFirst moments start passes zero moved old new = (moved ≡ false) × (new ≡ old)
-TriesFirst moments start passes (suc class) moved old new =
-    (mid : PassValue) × ((before : Bool) × ((here : Bool) × (TriesFirst moments start passes class before old mid
-    × (TriesClass moments start passes class here mid new × (moved ≡ (before || here))))))
-
--- and with all of them
-unfoldable pub TriesAll : (ℕ → Type 0) → State → ℕ → Bool → PassValue → PassValue → Type 0
-TriesAll moments start passes moved old new = TriesFirst moments start passes 16 moved old new

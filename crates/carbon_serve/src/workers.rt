@@ -50,7 +50,7 @@ where
     ghost use Rattle.std.specs.Prelude.{◌≡◌, ◌<◌, true};
     ghost use Rattle.shared_store.specs.Passes.{HasRoom};
     ghost use Rattle.carbon_serve.specs.Workers.{IsReady, Works, WorksBy};
-    ghost use Rattle.carbon_serve.specs.Rounds.{StepsOnce, TriesAll, TriesClass, gets_on};
+    ghost use Rattle.carbon_serve.specs.Rounds.{StepsOnce, TriesClass, gets_on};
 
     /// Serves links of the worker's kind, one after the other, until the net is closed or the pass
     /// is spent.
@@ -161,8 +161,6 @@ where
     fn drain_round(&self, pass: &mut Pass) -> bool
         requires one { pass.old.table ≡ N.table }
         ensures works { Works (C.moments self.now.clock.now) N.start pass.old pass.new }
-        ensures tries { TriesAll (C.moments self.now.clock.now) N.start N.passes result
-            pass.old pass.new }
     {
         let mut moved = false;
         for class in 0..CLASSES {

@@ -1,11 +1,9 @@
 use Rattle.std.proofs.Common.{◌≡◌}
-use Rattle.carbon_serve.specs.Rounds.{TriesFirst}
 use Rattle.carbon_serve.specs.Workers.{Works}
 use Rattle.carbon_serve.proofs.workers.Server.drain_round.Given as goal
 
 abbrev pub invariant-loop-class : goal.invariant-loop-class
 invariant-loop-class g l = record {
   one : l.pass.table ≡ g.N.Named.table;
-  tries : TriesFirst (g.C.Clock.moments l.fn.self.clock.now) g.N.Named.start g.N.Named.passes l.class l.moved l.fn.pass l.pass;
   works : Works (g.C.Clock.moments l.fn.self.clock.now) g.N.Named.start l.fn.pass l.pass;
 }
