@@ -13,8 +13,8 @@ run_parts-requires g c =
         new = c.in-Ok.ensures.order;
         sixteen_tails = omega (arith, c.in-Ok.ensures.tails.0, c.in-Ok.tails.ok.0);
         new_tails = c.in-Ok.ensures.tails.1;
-        sixteen_pairs = omega (arith, c.in-Ok-pairs.ensures, c.in-Ok-pairs.pairs.ok.0);
-        pairs = picked c.in-Ok-pairs.pairs.items;
+        sixteen_pairs = omega (arith, c.in-Ok-make_pairs.ensures, c.in-Ok-make_pairs.pairs.ok.0);
+        pairs = picked c.in-Ok-make_pairs.pairs.items;
         sixteen_shards = c.args.started.all;
         fresh_shards = fresh_from (told_at shards) (opening_of shards) (faults_at shards) shards c.requires;
       };
@@ -31,13 +31,13 @@ report_no_memory-requires g c = record {
 
 pub returns-in-Err-clause-runs : goal.returns-in-Err-clause-runs
 returns-in-Err-clause-runs g c = inl (record {
-  tells = c.report_no_memory.ensures.told;
-  history = c.report_no_memory.ensures.history;
-  disks = c.report_no_memory.ensures.disks;
+  tells = c.report_no_memory-in-Err.ensures.told;
+  history = c.report_no_memory-in-Err.ensures.history;
+  disks = c.report_no_memory-in-Err.ensures.disks;
   input = refl;
 })
 
 pub returns-in-Err-clause-all : goal.returns-in-Err-clause-all
 returns-in-Err-clause-all g c =
-    let count : length c.report_no_memory.result.disks.items ≡ 16 = ap (λ disks. length disks) c.report_no_memory.ensures.disks ∙ (length_back c.args.started.shards.items ∙ c.args.started.all) in
-    omega (arith, count, c.report_no_memory.result.disks.ok.0)
+    let count : length c.report_no_memory-in-Err.result.disks.items ≡ 16 = ap (λ disks. length disks) c.report_no_memory-in-Err.ensures.disks ∙ (length_back c.args.started.shards.items ∙ c.args.started.all) in
+    omega (arith, count, c.report_no_memory-in-Err.result.disks.ok.0)

@@ -15,8 +15,8 @@ serve_parts-requires-clause-fresh g c κs within =
       new = subst (λ (passes : ℕ). IsNewOrder passes 16 c.in-Ok.order) (sym all) c.in-Ok.ensures.order;
       sixteen_tails = omega (arith, c.in-Ok.ensures.tails.0, c.in-Ok.tails.ok.0);
       new_tails = c.in-Ok.ensures.tails.1;
-      sixteen_pairs = omega (arith, c.in-Ok-pairs.ensures, c.in-Ok-pairs.pairs.ok.0);
-      pairs = picked c.in-Ok-pairs.pairs.items;
+      sixteen_pairs = omega (arith, c.in-Ok-make_pairs.ensures, c.in-Ok-make_pairs.pairs.ok.0);
+      pairs = picked c.in-Ok-make_pairs.pairs.items;
       sixteen_shards = c.args.started.all;
       fresh_shards = fresh_from (told_at shards) (opening_of shards) (faults_at shards) shards c.requires.ready;
     }
