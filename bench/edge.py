@@ -236,7 +236,12 @@ def a_folder_that_becomes_a_link_is_told_and_nothing_is_written_behind_it():
     with folder() as place:
         want(script(place, "a.b.c 1 1700000000\n")[0], 0, "a first run")
         inner = os.path.dirname(path_of(place, "a.b.c"))
+        # the file that is drained last stays open: that of another metric of the class
+        other = next(name for name in map("o%d".__mod__, range(1000)) if class_of(name.encode()) == class_of(b"a.b.c"))
         with serving(place=place) as daemon:
+            daemon.send(point(other))
+            want(settled(lambda: os.path.exists(path_of(place, other))), True, "the drain of another metric")
+            time.sleep(0.5)
             os.rename(inner, os.path.join(place, "kept"))
             os.symlink(os.path.join(place, "kept"), inner)
             daemon.send(point("a.b.c", 7))
