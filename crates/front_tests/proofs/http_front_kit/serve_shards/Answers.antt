@@ -22,8 +22,8 @@ serve_parts-requires g c =
         new = c.in-Ok.ensures.order;
         sixteen_tails = omega (arith, c.in-Ok.ensures.tails.0, c.in-Ok.tails.ok.0);
         new_tails = c.in-Ok.ensures.tails.1;
-        sixteen_pairs = omega (arith, c.in_ok-make_pairs.ensures, c.in_ok-make_pairs.field-0.ok.0);
-        pairs = picked c.in_ok-make_pairs.field-0.items;
+        sixteen_pairs = omega (arith, c.in_ok-make_pairs-in-Ok.ensures, c.in_ok-make_pairs-in-Ok.field-0.ok.0);
+        pairs = picked c.in_ok-make_pairs-in-Ok.field-0.items;
         sixteen_shards = c.args.started.all;
         fresh_shards = fresh_from (told_at shards) (opening_of shards) (faults_at shards) shards c.requires;
       };
