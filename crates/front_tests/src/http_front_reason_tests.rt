@@ -92,14 +92,15 @@ fn a_grid_that_is_too_long_is_told(rt: HostRuntime) -> Result<(), Fail> {
 const UNAVAILABLE: &[u8] =
     b"HTTP/1.1 503 Service Unavailable\r\nContent-Length: 0\r\nConnection: close\r\n\r\n";
 
-// What is built of a pattern has at most 10 MiB. One that would have more is told as want of memory, and the link ends.
+// What is built of a pattern has at most 1 MiB, and is built once the series are read. One that would have more is told as
+// want of memory, and the link ends.
 const PATTERN: [Row<'static>; 1] = [Row {
     stream: &[One(
         b"GET /render?target=grep(a.b,'(a%7B999%7D)%7B999%7D') HTTP/1.1\r\n\r\nGET /x HTTP/1.1\r\n\r\n",
     )],
     replies: &[One(UNAVAILABLE)],
     end: HttpEnd::NoMemory,
-    entries: 0,
+    entries: 1,
 }];
 
 #[test]
