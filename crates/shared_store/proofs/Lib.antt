@@ -22,3 +22,4 @@ pub mod StoreCross
 mod FindLemmas
 mod FilesLemmas
 mod BothLemmas
+mod CreateLemmas

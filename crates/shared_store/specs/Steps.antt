@@ -8,7 +8,7 @@ use Rattle.metric_path.specs.Class.{class_of}
 use Rattle.point_cache.specs.declared.put.Put.{Put}
 use Rattle.point_cache.specs.declared.put.Put.TheVariants as put
 use Rattle.archive_update.specs.Batch.{archive_for}
-use Rattle.carbon_model.specs.State.{State, points_in}
+use Rattle.carbon_model.specs.State.{State, picked, points_in}
 use Rattle.carbon_model.specs.Replay.{IsLegal, replay}
 use Rattle.shard_core.specs.declared.planned.Planned.{Planned}
 use Rattle.shard_core.specs.declared.planned.Planned.TheVariants as planned
@@ -104,6 +104,14 @@ AfterWrite class wrote.Run old new = IsUnderWay class new × (runs_in class old 
 AfterWrite class wrote.Finished old new = IsSettled class new × FinishedDrain class old new
 AfterWrite class wrote.Nothing old new = IsSettled class new
 AfterWrite class wrote.DiskFault old new = IsUnderWay class new
+
+-- The metric of the class that goes next has points, and nothing is kept of it: its drain makes a ring file.
+pub record MakesFileNext (s : State) (class : ℕ) : Type 0 where
+  pub path : List ℕ
+  pub here : class_of path ≡ class
+  pub next : picked s class ≡ Some path
+  pub some : points_in s path ≢ []
+  pub none : s.kept path ≡ None
 
 -- ---- one step of draining
 

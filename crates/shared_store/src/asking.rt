@@ -256,7 +256,8 @@ impl<D: Disk, N: Named> Store<D, N> {
     /// The series that these needs find at the moment `now`: a list for each need, in byte order of
     /// the paths, all as they are at one moment of the history, which is the entry of the
     /// question's last try. Globs that are much work are held against the names before the locks of all
-    /// classes are taken. No lock is held while series are read, but at a third try.
+    /// classes are taken. Each series is read under the lock of the files of its class alone; at a third
+    /// try those of all classes are held.
     ///
     /// # Errors
     ///

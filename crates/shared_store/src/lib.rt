@@ -14,6 +14,7 @@ mod class_planning;
 mod class_reading;
 mod close;
 mod counting;
+mod creating;
 mod drain_end;
 mod draining;
 mod events;

@@ -29,6 +29,8 @@ pub(crate) enum End {
     // The path of the metric of which a drain was begun, or how else the plan ends.
     Planned(&'static str),
     Wrote(Wrote),
+    // Whether the next drain makes a ring file.
+    MakesFile(bool),
     Drained(DrainEnd),
     // The series of each glob, and how many entries the question makes.
     Shown(&'static [&'static [Shown]], u64),
@@ -116,6 +118,13 @@ fn is_written(reply: &Reply, want: Wrote) -> bool {
     }
 }
 
+fn is_making(reply: &Reply, want: bool) -> bool {
+    match reply {
+        Reply::MakesFile(makes) => *makes == want,
+        _ => false,
+    }
+}
+
 fn is_drained(reply: &Reply, want: DrainEnd) -> bool {
     match reply {
         Reply::Drained(end) => *end == want,
@@ -173,6 +182,7 @@ fn ends_so(reply: &Reply, end: End) -> bool {
         End::PutMany(stored) => is_put_many(reply, stored),
         End::Planned(path) => is_planned(reply, path),
         End::Wrote(wrote) => is_written(reply, wrote),
+        End::MakesFile(makes) => is_making(reply, makes),
         End::Drained(end) => is_drained(reply, end),
         End::Shown(shown, entries) => is_answered(reply, shown, entries),
         End::Found(count) => has_found(reply, count),

@@ -56,6 +56,8 @@ pub(crate) enum Deed {
     Write(u32),
     // A class is drained by one step.
     Step(u32),
+    // It is asked whether the next drain of a class makes a ring file.
+    MakesFile(u32),
     // All that is pending is drained.
     DrainAll,
     // The series that globs find are asked for.
@@ -77,6 +79,7 @@ pub(crate) enum Reply {
     Planned(Planned),
     Wrote(Wrote),
     Stepped(Step),
+    MakesFile(bool),
     Drained(DrainEnd),
     // The rows, and how many entries the question made.
     Rows(SeriesRows, u64),
@@ -316,6 +319,16 @@ impl<N: Named> Worker<N> {
         Some(Reply::Stepped(store.drain_step(rt, &mut self.pass, class % CLASSES, NOW)))
     }
 
+    fn makes_file<D: Disk>(
+        &mut self,
+        rt: &impl Wait,
+        store: &Store<D, N>,
+        class: u32,
+    ) -> Option<Reply> {
+        let makes = store.makes_file_next(rt, &mut self.pass, class % CLASSES);
+        Some(Reply::MakesFile(makes))
+    }
+
     fn drain_all<D: Disk>(&mut self, rt: &impl Wait, store: &Store<D, N>) -> Option<Reply> {
         if !has_room(&self.pass) {
             return None;
@@ -370,6 +383,7 @@ impl<N: Named> Worker<N> {
             Deed::Plan(class) => self.plan(rt, store, class),
             Deed::Write(class) => self.write(rt, store, class),
             Deed::Step(class) => self.step(rt, store, class),
+            Deed::MakesFile(class) => self.makes_file(rt, store, class),
             Deed::DrainAll => self.drain_all(rt, store),
             Deed::Ask(globs) => self.ask(rt, alloc, store, globs),
             Deed::Names => self.names(rt, alloc, store),

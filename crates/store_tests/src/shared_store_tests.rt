@@ -137,6 +137,60 @@ fn all_that_is_pending_is_drained(rt: HostRuntime) -> Result<(), Fail> {
     Ok(())
 }
 
+// ---- drains that make a file
+
+// While the drain of `p.a` is written, no other of its class can begin.
+const CREATING: [Row; 14] = [
+    (Deed::MakesFile(6), End::MakesFile(false)),
+    (Deed::Put("p.a", 0, 1), End::Put(Put::Stored)),
+    (Deed::MakesFile(6), End::MakesFile(true)),
+    (Deed::MakesFile(3), End::MakesFile(false)),
+    (Deed::Plan(6), End::Planned("p.a")),
+    (Deed::Put("g", 0, 3), End::Put(Put::Stored)),
+    (Deed::MakesFile(6), End::MakesFile(false)),
+    (Deed::Write(6), End::Wrote(Wrote::Run)),
+    (Deed::Write(6), End::Wrote(Wrote::Run)),
+    (Deed::Write(6), End::Wrote(Wrote::Finished)),
+    (Deed::MakesFile(6), End::MakesFile(true)),
+    (Deed::DrainAll, End::Drained(DrainEnd::Done(1))),
+    (Deed::Put("p.a", 1, 2), End::Put(Put::Stored)),
+    (Deed::MakesFile(6), End::MakesFile(false)),
+];
+
+// A metric that has a file goes before one that has none.
+const IN_TURN: [Row; 5] = [
+    (Deed::Put("p.a", 0, 1), End::Put(Put::Stored)),
+    (Deed::DrainAll, End::Drained(DrainEnd::Done(1))),
+    (Deed::Put("p.a", 1, 2), End::Put(Put::Stored)),
+    (Deed::Put("g", 0, 3), End::Put(Put::Stored)),
+    (Deed::MakesFile(6), End::MakesFile(false)),
+];
+
+#[test]
+fn the_first_drain_of_a_metric_makes_its_file(rt: HostRuntime) -> Result<(), Fail> {
+    // the acts, the entries and the drains
+    let table: [(&[Row], u64, u64); 2] = [(&CREATING, 5, 2), (&IN_TURN, 4, 1)];
+    for (acts, entries, drains) in table {
+        let case = Case {
+            schemas: RULES,
+            limit: 10,
+            class: CLASSES,
+            writes: 0,
+            reads: 0,
+            first: acts,
+            second: &[],
+        };
+        let tally = Tally {
+            stored: 3,
+            replaced: 0,
+            full: 0,
+            drains,
+        };
+        assert_case(&rt, rt.alloc(), &case, entries, tally)?;
+    }
+    Ok(())
+}
+
 // ---- questions
 
 const A: Shown = Shown {
