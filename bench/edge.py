@@ -471,6 +471,68 @@ def every_class_is_drained_while_lines_come():
         want(settled(lambda: all(os.path.exists(path_of(daemon.place, name)) for name in names.values())), True, "a file of each class")
 
 
+def paced(words, place):
+    """How many ring files are there two and a half seconds after the points of 200 new metrics came, in how many seconds of the clock, and how it ended."""
+    with serving(*words, place=place) as daemon:
+        first = int(time.time())
+        daemon.send("".join(point("p.n%d" % k) for k in range(200)))
+        time.sleep(2.5)
+        made, seconds = len(rings_in(place)), int(time.time()) - first + 1
+        want(daemon.ask("p.n*")[1].count("\n"), 200, "metrics on a graph, written or not")
+        status, line, _ = daemon.stop()
+        want((status, line), (0, "stored 200 replaced 0 full 0 drains 200"), "the end")
+        want(len(rings_in(place)), 200, "ring files at the end")
+    return made, seconds
+
+
+def rings_in(place):
+    return [name for _, _, files in os.walk(os.path.join(place, "data")) for name in files if name.endswith(".ring")]
+
+
+@case
+def a_pace_is_kept_and_points_stay_pending():
+    with folder() as place:
+        made, seconds = paced(["--pace", "10"], place)
+    want(20 <= made <= 10 * seconds, True, "%d drains in %d seconds at 10 a second" % (made, seconds))
+
+
+@case
+def files_are_made_at_their_pace():
+    with folder() as place:
+        made, seconds = paced(["--creates", "8"], place)
+    want(16 <= made <= 8 * seconds, True, "%d files in %d seconds at 8 a second" % (made, seconds))
+
+
+@case
+def a_pace_comes_to_every_class():
+    for word in "--pace", "--creates":
+        with folder() as place:
+            with serving(word, "4", place=place) as daemon:
+                daemon.send("".join(point("p.n%d" % k) for k in range(1000)))
+                classes = lambda: sum(any(files for _, _, files in os.walk(os.path.join(place, "data", "%02d" % k))) for k in range(16))
+                want(settled(lambda: classes() == 16, 8), True, "files of all classes after eight seconds of %s 4" % word)
+
+
+@case
+def files_that_are_there_are_drained_without_the_pace_of_new_ones():
+    with folder() as place:
+        want(script(place, "".join(point("o.n%d" % k) for k in range(100)))[0], 0, "the script")
+        begun = time.time()
+        with serving("--creates", "1", place=place) as daemon:
+            daemon.send("".join("o.n%d 2 %d\n" % (k, time.time() + 60) for k in range(100)))
+            changed = lambda: sum(os.path.getmtime(path_of(place, "o.n%d" % k)) > begun for k in range(100))
+            want(settled(lambda: changed() == 100, 3), True, "drains of a hundred files in three seconds")
+
+
+@case
+def drainers_write_all_that_comes():
+    with folder() as place:
+        with serving("--drainers", "4", place=place) as daemon:
+            daemon.send("".join(point("d.n%d" % k) for k in range(1000)))
+            want(settled(lambda: len(rings_in(place)) == 1000), True, "the files of a thousand metrics")
+            want(daemon.stop()[:2], (0, "stored 1000 replaced 0 full 0 drains 1000"), "the end")
+
+
 @case
 def a_long_reply_arrives_whole_at_a_slow_reader():
     with serving() as daemon:

@@ -34,10 +34,10 @@ def library(place):
 
 
 class Daemon:
-    def __init__(self, place, preload, milliseconds):
+    def __init__(self, place, preload, milliseconds, *words):
         surroundings = dict(os.environ, LD_PRELOAD=preload, SLOW=str(int(milliseconds * 1000)))
         self.process = subprocess.Popen(
-            [PROGRAM, "serve", "--line-port", "0", "--http-port", "0", "--limit", "10000000"],
+            [PROGRAM, "serve", "--line-port", "0", "--http-port", "0", "--limit", "10000000", *words],
             stdin=subprocess.PIPE, stdout=subprocess.PIPE, stderr=subprocess.PIPE, cwd=place, env=surroundings, text=True,
         )
         for line in self.process.stderr:
@@ -48,6 +48,9 @@ class Daemon:
             sys.exit("no ports: status %d" % self.process.wait())
         self.lines, self.http = int(ports[1]), int(ports[2])
         threading.Thread(target=self.process.stderr.read, daemon=True).start()
+
+    def stop(self):
+        self.process.communicate("stop\n")
 
 
 def send(port, until, sent):

@@ -8,21 +8,22 @@ use std::thread;
 use std::thread::{JoinHandle, Threads};
 use std::time::Duration;
 
-/// The threads of a server beside one for each link: one drains, and one listens for the stop.
-const THREADS: u64 = 2;
+/// The threads of a server beside one for each link and each drainer: one listens for the stop.
+const THREADS: u64 = 1;
 
 /// How often a thread that is tried looks whether it may end, and how long it pauses then.
 const MOST_LOOKS: u64 = 60_000;
 
 const LOOK_MILLIS: u64 = 1;
 
-/// Refuses where the system gives the process fewer threads than a server with these links has. They are all made, wait for each other, and end.
+/// Refuses where the system gives the process fewer threads than a server with these links and drainers has. They are all made, wait for each other, and end.
 pub(crate) fn want_threads<H: Threads>(
     threads: &H,
     rt: HostRuntime,
     options: &ServeOptions,
 ) -> Result<(), Unready> {
-    let needed = THREADS + u64::from(options.receivers) + u64::from(options.renderers);
+    let links = u64::from(options.receivers) + u64::from(options.renderers);
+    let needed = THREADS + links + u64::from(options.drains.drainers);
     let may_end = Arc::new(rt.alloc(), AtomicBool::new(false))?;
     let made = made(threads, rt, needed, &may_end)?;
     // the thread that runs this is one of them

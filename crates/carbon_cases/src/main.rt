@@ -18,10 +18,12 @@
 //! | `zeros DISK NAME LEN N..` | a file of zeros, but for numbers of four bytes at its front |
 //! | `ring DISK NAME METHOD FACTOR STEPxPOINTS..` | an empty ring file |
 //! | `room DISK N`, `fail-disk DISK N..` | the room of a disk; its creates and writes that fail, from 1 on |
+//! | `fail-disk-read DISK N..`, `tear-disk DISK` | its other calls that fail, from 1 on; those of its writes that fail leave each byte of their range 255 |
 //! | `run` | runs the case, and tells its status and what it wrote |
 //! | `history`, `left` | how many entries the history has; how many bytes of the input were not taken |
 //! | `show DISK NAME` | the layout of a ring file; archive, slot, bucket and value of each cell that is not empty |
 //! | `bytes DISK NAME N`, `names DISK`, `faults DISK` | the first bytes of a file; the files; how many calls failed |
+//! | `calls DISK` | how many calls told of files, how many made or changed some, and the longest piece that was read |
 //!
 //! A `TEXT` has the escapes `\n`, `\r`, `\t`, `\s` for a blank, `\\`, `\xff`, and `\(9x)` for nine times the byte `x`.
 //! Any other line is answered by `case error`, and the next one goes on.

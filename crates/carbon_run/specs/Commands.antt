@@ -1,5 +1,5 @@
 -- What a run of each command comes to.
-use Rattle.std.specs.Prelude.{◌≡◌, ◌⊎◌, ◌+◌, ℕ, List, IfSome, Ok}
+use Rattle.std.specs.Prelude.{◌≡◌, ◌⊎◌, ℕ, List, IfSome, Ok}
 use Rattle.outside_io.specs.declared.disk.Disk.{Ghosts}
 use Rattle.carbon_model.specs.RingFiles.{Settings}
 use Rattle.schema_rules.specs.LayoutBy.{layout_by}
@@ -10,7 +10,7 @@ use Rattle.carbon_words.specs.declared.command.Options.{Options}
 use Rattle.carbon_run.specs.Conf.{rules_in}
 use Rattle.carbon_run.specs.Runs.{Answer, NoRules, NoStart, NoWords, Scripted, Streams}
 use Rattle.carbon_run.specs.Samples.{SampleRuns}
-use Rattle.carbon_run.specs.Serves.{ServeRuns}
+use Rattle.carbon_run.specs.Serves.{ServeRuns, passes_for}
 
 -- what is fixed for a run by its rules and by what its words say
 abbrev pub settings_by : RulesValue → Options → Settings
@@ -26,15 +26,14 @@ pub record Beside (E : Type 0) : Type 1 where
 abbrev pub beside : {E : Type 0} → (E → ℕ) → (ℕ → Type 0) → E → E → Beside E
 beside faults moments net net' = record { faults = faults; moments = moments; net = net; net' = net' }
 
--- What a command does with these rules: a script runs, that of the input or that of a sample, and touches no net; or a net is served, with a pass for
--- each worker, the drainer among them, and one for the run itself.
+-- What a command does with these rules: a script runs, that of the input or that of a sample, and touches no net; or a net is served.
 abbrev pub Does : {D E : Type 0} → Ghosts D → Beside E → RulesValue → Command → Streams → List D → Answer D → Type 0
 Does d b rules (Script said) streams disks answer =
     (b.net' ≡ b.net) × (NoStart d streams disks answer ⊎ Scripted d (settings_by rules said) streams disks answer)
 Does d b rules (Sample said more) streams disks answer =
     (b.net' ≡ b.net) × SampleRuns d (settings_by rules said) more streams disks answer
 Does d b rules (Serve said more) streams disks answer =
-    ServeRuns d b.faults b.net b.net' (settings_by rules said) b.moments (more.receivers + more.renderers + 2) streams disks answer
+    ServeRuns d b.faults b.net b.net' (settings_by rules said) b.moments (passes_for more) streams disks answer
 
 -- both rule files are read, and these are the rules that they give
 pub record HasRules {D E : Type 0} (d : Ghosts D) (b : Beside E) (command : Command) (folder : D) (streams : Streams) (disks : List D) (answer : Answer D) : Type 0 where

@@ -1,5 +1,5 @@
 -- What a run of `serve` comes to.
-use Rattle.std.specs.Prelude.{◌≡◌, ◌⊎◌, ℕ, List, [], length, map, Option, None}
+use Rattle.std.specs.Prelude.{◌≡◌, ◌⊎◌, ◌+◌, ℕ, List, [], length, map, Option, None}
 use Rattle.outside_io.specs.Image.{Image}
 use Rattle.outside_io.specs.Faults.{Rose}
 use Rattle.outside_io.specs.declared.disk.Disk.{Ghosts}
@@ -13,9 +13,26 @@ use Rattle.shared_store.specs.declared.tally.Tally.{Tally}
 use Rattle.shared_store.specs.declared.drain_end.DrainEnd.{DrainEnd}
 use Rattle.shared_store.specs.declared.drain_end.DrainEnd.TheVariants.{Done, DiskFault, Spent, NoMemory}
 use Rattle.carbon_serve.specs.Serves.{Serves}
+use Rattle.carbon_serve.specs.declared.crew.Duties.{Duties}
+use Rattle.carbon_words.specs.declared.command.ServeOptions.{ServeOptions}
 use Rattle.carbon_run.specs.Runs.{Answer, NoStart, Streams, TellsAlone}
 use Rattle.carbon_run.specs.Stores.{LacksMemory}
 use Rattle.carbon_run.specs.Texts.{disk_fault_line, limit_line, no_memory_line, no_port_line, tally_line}
+
+-- ---- the workers of a server
+
+-- a pass for each worker, those that drain among them, and one for the run itself
+abbrev pub passes_for : ServeOptions → ℕ
+passes_for options = options.receivers + options.renderers + options.drains.drainers + 1
+
+-- each does what the options say
+abbrev pub duties_of : ServeOptions → Duties
+duties_of options = record {
+  receivers = options.receivers;
+  renderers = options.renderers;
+  answer_bytes = options.answer_bytes;
+  pace = record { drains = options.drains.pace; creates = options.drains.creates };
+}
 
 -- ---- the end of a server
 

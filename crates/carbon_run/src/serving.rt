@@ -1,5 +1,5 @@
 //! The command `serve`, once the rule files are read.
-ghost use Rattle.std.specs.Prelude.{◌≡◌, ◌⊎◌, ◌≤◌, ◌+◌, [], map, vec_capacity, vec_len};
+ghost use Rattle.std.specs.Prelude.{◌≡◌, ◌⊎◌, ◌≤◌, [], map, vec_capacity, vec_len};
 ghost use Rattle.carbon_words.specs.CommandLine.{HasWorkers};
 ghost use Rattle.carbon_serve.specs.Crews.{IsNewCrew};
 ghost use Rattle.outside_io.specs.Frames.{CountsWrites};
@@ -9,13 +9,13 @@ ghost use Rattle.shard_core.specs.Started.{AreReadyShards};
 ghost use Rattle.shard_set.specs.OpeningState.{opening_of};
 ghost use Rattle.shared_store.specs.Starts.{IsFresh};
 ghost use Rattle.carbon_run.specs.Runs.{TellsAlone, answer_of};
-ghost use Rattle.carbon_run.specs.Serves.{LacksPort, ServeRuns, ServesAll, ServesShards, TellsServed, unread};
+ghost use Rattle.carbon_run.specs.Serves.{LacksPort, ServeRuns, ServesAll, ServesShards, TellsServed, duties_of, passes_for, unread};
 ghost use Rattle.carbon_run.specs.Texts.{no_port_line};
 
 use crate::Report;
 use crate::fault_lines::{tell_disk_fault, tell_limit, tell_no_memory, tell_no_port, tell_tally};
 use crate::scripts::{report_no_memory, tell_refusal};
-use carbon_serve::{Crew, Served, serve};
+use carbon_serve::{Crew, Duties, Pace, Served, serve};
 use carbon_words::ServeOptions;
 use metric_path::CLASSES;
 use outside_io::{Clock, Disk, Net, NetFailed, Sink};
@@ -50,7 +50,7 @@ where
     requires disks { vec_len disks ≡ 16 }
     requires workers { HasWorkers options }
     ensures runs { ServeRuns D.Disk E.faults net.old net.new (settings_of setup.now)
-        (C.moments clock.now) (options.receivers + options.renderers + 2)
+        (C.moments clock.now) (passes_for options)
         (unread (K.written out.old) (K.written out.new)) disks.items
         (answer_of result.status result.history result.disks.items) }
     ensures writes { CountsWrites K.Sink out.old out.new (result.status ≡ 7) }
@@ -92,7 +92,7 @@ where
         (answer_of result.status result.history result.disks.items)
         ⊎ ServesShards (told_at started.shards.items) (opening_of started.shards.items)
         (faults_at started.shards.items) started.shards.items
-        (C.moments clock.now) (options.receivers + options.renderers + 2)
+        (C.moments clock.now) (passes_for options)
         (unread (K.written out.old) (K.written out.new))
         (answer_of result.status result.history result.disks.items) }
     ensures writes { CountsWrites K.Sink out.old out.new (result.status ≡ 7) }
@@ -128,19 +128,17 @@ where
     requires workers { HasWorkers options }
     ensures serves { ServesShards (told_at started.shards.items) (opening_of started.shards.items)
         (faults_at started.shards.items) started.shards.items
-        (C.moments clock.now) (options.receivers + options.renderers + 2)
+        (C.moments clock.now) (passes_for options)
         (unread (K.written out.old) (K.written out.new))
         (answer_of result.status result.history result.disks.items) }
     ensures writes { CountsWrites K.Sink out.old out.new (result.status ≡ 7) }
     ensures all { vec_len result.disks ≡ 16 }
 {
     let Started { shards, room } = started;
-    // The drainer and the run itself have passes besides.
-    let count = options.receivers + options.renderers + 2;
-    let Ok((order, tails, passes)) = make(alloc, CLASSES, count) else {
+    let Ok((order, tails, passes)) = make(alloc, CLASSES, passes_for(options)) else {
         return report_no_memory(shards, room, out);
     };
-    let Ok(crew) = Crew::new(alloc, passes, options.receivers, options.answer_bytes) else {
+    let Ok(crew) = Crew::new(alloc, passes, duties_of(options)) else {
         return report_no_memory(shards, room, out);
     };
     let Ok(pairs) = make_pairs(alloc) else {
@@ -153,6 +151,29 @@ where
         shards,
     };
     serve_parts::<Brand, R, D, K, C, E>(rt, alloc, parts, crew, room, out, clock, net)
+}
+
+// A pass for each worker, and one for the run itself.
+fn passes_for(options: ServeOptions) -> u32
+    requires { HasWorkers options }
+    ensures { result ≡ passes_for options }
+{
+    options.receivers + options.renderers + options.drains.drainers + 1
+}
+
+// What the workers do.
+fn duties_of(options: ServeOptions) -> Duties
+    ensures { result ≡ duties_of options }
+{
+    Duties {
+        receivers: options.receivers,
+        renderers: options.renderers,
+        answer_bytes: options.answer_bytes,
+        pace: Pace {
+            drains: options.drains.pace,
+            creates: options.drains.creates,
+        },
+    }
 }
 
 // Serves them over a store of these parts.

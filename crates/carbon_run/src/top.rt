@@ -41,6 +41,8 @@ use std::thread::Threads;
 /// | `--line-patience S` | `serve`: after how many seconds without a byte a link of metric lines is at its end, 0 to 86,400; 0: never. The net that is handed in keeps to it | 900 |
 /// | `--links N` | `serve`: how many links each port gives before it closes, to 1,000,000,000; 0: it never does | 0 |
 /// | `--answer-bytes N` | `serve`: how many bytes the series, names and text of a question may take, 1,048,576 to 1,099,511,627,776, a sixteenth of them the names | 268,435,456 |
+/// | `--drainers N` | `serve`: how many threads drain what is pending, 1 to 16 | 1 |
+/// | `--pace N`, `--creates N` | `serve`: how many drains each of them begins, and how many ring files it makes, in a second at most, to 1,000,000; 0: as many as it can | 0 |
 ///
 /// | Status | Comes |
 /// |---|---|
@@ -57,7 +59,7 @@ use std::thread::Threads;
 ///
 /// At each status but 0 and 7 the last line that is written says the fault. All sixteen shards have started before the first byte of
 /// the input is taken or a port is bound. A disk that fails at a command of the script is told in the reply, and the script goes on; one that fails
-/// at a request is told in the reply, and the drainer of `serve` tries again. A run that 6, 7, 8 or 10 ends before its last drain makes none.
+/// at a request is told in the reply, and a drainer of `serve` tries again. A run that 6, 7, 8 or 10 ends before its last drain makes none.
 /// A script looks at neither clock nor net, and neither `serve` nor `sample` at the input.
 pub fn run<
     R: Threads + Wait + Sync,

@@ -1,3 +1,4 @@
+mod PaceLemmas
 mod WorkLemmas
 mod LineLemmas
 mod HttpLemmas

@@ -109,12 +109,10 @@ behind_all workers all old new none behind =
     (sym (append-nil behind.added) ∙ (ap (λ (ws : List Worker). behind.added ++ reverse (passes_of ws)) (sym none) ∙ behind.split)) behind.adds
 
 -- a crew that mustered
-pub mustered : (front : List PassValue) (last own : PassValue) (first mid new : MusterValue) → first.served ≡ [] → first.own ≡ own → first.is_spent ≡ false
-    → Adds front first mid → Adds (last ∷ []) mid new → Musters (front ++ last ∷ []) own new
-mustered front last own first mid new none same unspent adds next =
-    let all : Adds (front ++ last ∷ []) first new = adds_then front (last ∷ []) first mid new adds next in record {
-      served = all.served ∙ ap (λ (ps : List PassValue). ps ++ (front ++ last ∷ [])) none;
-      learned = all.learned;
-      own = subst (λ (pass : PassValue). OnlySaw pass new.own) same all.own;
-      spent = all.spent ∙ ap (λ (b : Bool). b || list_any lacks_room (front ++ last ∷ [])) unspent;
-    }
+pub mustered : (passes : List PassValue) (own : PassValue) (first new : MusterValue) → first.served ≡ [] → first.own ≡ own → first.is_spent ≡ false → Adds passes first new → Musters passes own new
+mustered passes own first new none same unspent all = record {
+  served = all.served ∙ ap (λ (ps : List PassValue). ps ++ passes) none;
+  learned = all.learned;
+  own = subst (λ (pass : PassValue). OnlySaw pass new.own) same all.own;
+  spent = all.spent ∙ ap (λ (b : Bool). b || list_any lacks_room passes) unspent;
+}

@@ -91,13 +91,8 @@ each_ready table (worker ∷ workers) all =
     (each_ready table workers (all_behind (OfTable table) (pass_list worker.pass) (passes_of workers) all))
 
 -- all workers are ready whose passes are of the table
-pub all_ready : (table : TableId) (workers : List Worker) (drainer : PassValue) → All (OfTable table) (in_order workers drainer) → All (IsReady table) workers
-all_ready table workers drainer all =
-    each_ready table workers (all_reversed (OfTable table) (passes_of workers) (all_front (OfTable table) (reverse (passes_of workers)) (drainer ∷ []) all))
-
-pub drainer_ready : (table : TableId) (workers : List Worker) (drainer : PassValue) → All (OfTable table) (in_order workers drainer) → drainer.table ≡ table
-drainer_ready table workers drainer all =
-    All-head (OfTable table) drainer [] (all_behind (OfTable table) (reverse (passes_of workers)) (drainer ∷ []) all)
+pub all_ready : (table : TableId) (workers : List Worker) → All (OfTable table) (in_order workers) → All (IsReady table) workers
+all_ready table workers all = each_ready table workers (all_reversed (OfTable table) (passes_of workers) all)
 
 -- ---- work
 
@@ -128,9 +123,6 @@ passes_went moments start (worker ∷ workers) (worker' ∷ workers') all =
       each = λ k few d. all.each (suc k) (omega (arith, few)) d;
     }))
 
--- all passes went on where those of the workers did, and the drainer's
-pub all_went : (moments : ℕ → Type 0) (start : State) (old new : List Worker) (drainer drainer' : PassValue) → AllWork moments start old new → Works moments start drainer drainer'
-    → AllWent moments start (in_order old drainer) (in_order new drainer')
-all_went moments start old new drainer drainer' all works =
-    AllZip-push (Works moments start) (reverse (passes_of old)) (reverse (passes_of new)) drainer drainer'
-    (zip_reversed (Works moments start) (passes_of old) (passes_of new) (passes_went moments start old new all)) works
+-- all passes went on where those of the workers did
+pub all_went : (moments : ℕ → Type 0) (start : State) (old new : List Worker) → AllWork moments start old new → AllWent moments start (in_order old) (in_order new)
+all_went moments start old new all = zip_reversed (Works moments start) (passes_of old) (passes_of new) (passes_went moments start old new all)

@@ -4,14 +4,17 @@ use Rattle.std.proofs.Common.{◌≡◌, ◌∙◌, ℕ, ◌≤◌, true, arith,
 use Rattle.std.specs.Prelude.{All}
 use Rattle.std.proofs.lemmas.List.Elements.{All-append, All-cons, All-nil}
 use mathlib.Core.List.{IsPrefix}
+use Rattle.carbon_history.specs.Entries.{listed}
 use Rattle.carbon_history.specs.declared.entry.Entry.{Entry}
 use Rattle.carbon_history.specs.declared.entry.Entry.TheVariants as entry
 use Rattle.carbon_model.specs.State.{State}
+use Rattle.shard_core.specs.declared.planned.Wrote.{Wrote}
+use Rattle.shard_core.specs.declared.planned.Wrote.TheVariants as wrote
 use Rattle.shared_history.specs.Parts.{PassValue, own_entries}
 use Rattle.shared_history.proofs.ListLemmas.{prefix_more, prefix_self}
 use Rattle.fixed_num.specs.Moment.{is_moment}
 use Rattle.shared_store.specs.Passes.{Enters}
-use Rattle.shared_store.specs.Steps.{StepsTo}
+use Rattle.shared_store.specs.Steps.{StepsTo, write_entry}
 use Rattle.shared_store.specs.declared.step.Step.{Step}
 use Rattle.shared_store.specs.declared.step.Step.TheVariants as step
 use Rattle.carbon_serve.specs.Workers.{HasMoment, Works}
@@ -82,3 +85,12 @@ step_works moments start passes class now step.Idle old new told steps = sees_wo
 step_works moments start passes class now step.DiskFault old new told steps =
     enters_works moments start passes (entry.Fault old.number class ∷ []) old new steps.0 (one_told moments (entry.Fault old.number class) tt)
 step_works moments start passes class now step.NoMemory old new told steps = sees_works moments start passes old new steps.0
+
+-- the write of a run
+pub write_works : (moments : ℕ → Type 0) (start : State) (passes class : ℕ) (came : Wrote) (old new : PassValue) → Enters start passes (listed (write_entry old.number class came)) old new
+    → Works moments start old new
+write_works moments start passes class wrote.Run old new enters = sees_works moments start passes old new enters
+write_works moments start passes class wrote.Finished old new enters = sees_works moments start passes old new enters
+write_works moments start passes class wrote.Nothing old new enters = sees_works moments start passes old new enters
+write_works moments start passes class wrote.DiskFault old new enters =
+    enters_works moments start passes (entry.Fault old.number class ∷ []) old new enters (one_told moments (entry.Fault old.number class) tt)

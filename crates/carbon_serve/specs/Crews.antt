@@ -1,5 +1,5 @@
 -- The passes of a crew.
-use Rattle.std.specs.Prelude.{◌≡◌, ◌≤◌, ◌+◌, ◌^◌, ◌||◌, ℕ, nat_lt, All, Bool, true, false, List, [], ◌∷◌, ◌++◌, length, reverse, Option, Some, None, IfSome, if◌then◌else◌}
+use Rattle.std.specs.Prelude.{◌≡◌, ◌≤◌, ◌+◌, ◌-◌, ◌^◌, ◌||◌, ℕ, nat_lt, All, Bool, true, false, List, [], ◌∷◌, ◌++◌, length, reverse, Option, Some, None, IfSome, if◌then◌else◌}
 use Rattle.std.specs.List.{AllZip, list_any}
 use mathlib.Core.List.{IsPrefix}
 use Rattle.atomic_table.specs.Seated.{TableId}
@@ -9,6 +9,7 @@ use Rattle.shared_store.specs.Drains.{DrainsTo}
 use Rattle.shared_store.specs.declared.drain_end.DrainEnd.{DrainEnd}
 use Rattle.shared_store.specs.declared.drain_end.DrainEnd.TheVariants.{Spent}
 use Rattle.carbon_serve.specs.Workers.{Works}
+use Rattle.carbon_serve.specs.declared.crew.Duties.{Duties}
 use Rattle.carbon_serve.specs.declared.workers.Role.{Role}
 use Rattle.carbon_serve.specs.declared.workers.Role.TheVariants as role
 use Rattle.carbon_serve.specs.declared.workers.Worker.{Worker}
@@ -21,27 +22,25 @@ abbrev pub passes_of : List Worker → List PassValue
 passes_of [] = []
 passes_of (worker ∷ workers) = pass_list worker.pass ++ passes_of workers
 
--- the links that a worker serves whose pass has this number, where so many workers are receivers
-abbrev pub role_of : ℕ → ℕ → ℕ → Role
-role_of number receivers answer_bytes =
-    if nat_lt number receivers then role.Receiver else role.Renderer answer_bytes
+-- What a worker does whose pass has this number: the first ones receive, those behind them render, and all others drain.
+abbrev pub role_of : ℕ → Duties → Role
+role_of number duties =
+    if nat_lt number duties.receivers then role.Receiver else
+    (if nat_lt (number - duties.receivers) duties.renderers then role.Renderer duties.answer_bytes else role.Drainer duties.pace)
 
--- a worker serves those of its pass's number
-abbrev pub HasRole : ℕ → ℕ → Worker → Type 0
-HasRole receivers answer_bytes worker =
-    IfSome worker.pass (λ pass. worker.role ≡ role_of pass.number receivers answer_bytes)
+-- a worker does what the number of its pass says
+abbrev pub HasRole : Duties → Worker → Type 0
+HasRole duties worker = IfSome worker.pass (λ pass. worker.role ≡ role_of pass.number duties)
 
--- The passes of workers and of a drainer, in order of their numbers: the last worker has the first
--- one.
-abbrev pub in_order : List Worker → PassValue → List PassValue
-in_order workers drainer = reverse (passes_of workers) ++ drainer ∷ []
+-- The passes of workers, in order of their numbers: the last worker has the first one.
+abbrev pub in_order : List Worker → List PassValue
+in_order workers = reverse (passes_of workers)
 
 -- each of these passes went on
 abbrev pub AllWent : (ℕ → Type 0) → State → List PassValue → List PassValue → Type 0
 AllWent moments start old new = AllZip (Works moments start) old new
 
--- what contracts see of a crew: the passes of its workers and of its drainer, in order of their
--- numbers, and its own
+-- what contracts see of a crew: the passes of its workers, in order of their numbers, and its own
 pub record CrewValue : Type 0 where
   pub served : List PassValue
   pub own : PassValue

@@ -1,4 +1,6 @@
 pub mod Workers
+pub mod Rates
+pub mod Paces
 pub mod Rounds
 pub mod Crews
 pub mod Serves

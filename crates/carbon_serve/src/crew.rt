@@ -1,8 +1,9 @@
 //! The passes of those who serve a store: handed to the workers, and taken back from them.
-ghost use Rattle.std.specs.Prelude.{◌≡◌, ◌<◌, ◌≤◌, ◌∷◌, ◌++◌, [], All, Some, IfOk, OnOk, reverse, vec_capacity, vec_len};
+ghost use Rattle.std.specs.Prelude.{◌≡◌, ◌<◌, ◌≤◌, ◌∷◌, ◌++◌, [], All, Some, IfOk, OnOk, vec_capacity, vec_len};
 ghost use mathlib.Core.List.{IsPrefix};
-ghost use Rattle.carbon_serve.specs.Crews.{HasRole, OnlySaw, lacks_room, passes_of, role_of};
+ghost use Rattle.carbon_serve.specs.Crews.{HasRole, OnlySaw, in_order, lacks_room, role_of};
 
+use crate::pace::Pace;
 use crate::workers::{Role, Worker, moment, work_all};
 use outside_io::{Clock, Disk, Net};
 use shared_history::Pass;
@@ -12,13 +13,26 @@ use std::marker::Model;
 use std::sync::Wait;
 use std::thread::Threads;
 
-/// Who serves a store: workers that serve links, one that drains, and who ends the store.
+/// How those who serve a store share the work. The passes are numbered from 0: the first ones
+/// receive, those behind them render, all others but the last drain, and the last is the crew's own.
+#[derive(Clone, Copy, Debug, PartialEq, Eq)]
+pub struct Duties {
+    /// How many receive metric lines.
+    pub receivers: u32,
+    /// How many answer requests.
+    pub renderers: u32,
+    /// How many bytes the answer to a question may take.
+    pub answer_bytes: u64,
+    /// How fast each of those goes that drain.
+    pub pace: Pace,
+}
+
+/// Who serves a store: workers that serve links or drain, and who ends the store.
 #[derive(Drop)]
 pub struct Crew {
     // The last one has the first pass, and so on.
     workers: Vec<Worker>,
-    // It has the pass behind those of the workers, and the crew itself the last one.
-    drainer: Pass,
+    // The crew itself has the pass behind those of the workers.
     own: Pass,
     // Room for the passes when they come back.
     places: Vec<Pass>,
@@ -30,10 +44,10 @@ impl Model for Crew {
 
     ghost Value = { CrewValue };
 
-    ghost view = { λ c. record { served = in_order c.workers.items c.drainer; own = c.own } };
+    ghost view = { λ c. record { served = in_order c.workers.items; own = c.own } };
 
     ghost invariant = { λ c. (0 < vec_len c.workers) × ((vec_len c.places ≡ 0)
-        × (vec_len c.workers + 2 ≤ vec_capacity c.places)) };
+        × (vec_len c.workers + 1 ≤ vec_capacity c.places)) };
 }
 
 /// A crew whose workers have ended.
@@ -65,28 +79,18 @@ impl Crew {
     ghost use Rattle.std.specs.Prelude.{◌≡◌, ◌<◌, ◌≤◌, ◌∷◌, ◌++◌, [], All, IfOk, vec_len};
     ghost use Rattle.carbon_serve.specs.Crews.{AllWent, Musters};
 
-    /// A crew with these passes: so many workers receive metric lines, one drains, the crew itself
-    /// has the last pass, and all others answer requests, of which the answer to a question may take so many bytes.
-    pub fn new(
-        alloc: Global,
-        passes: Vec<Pass>,
-        receivers: u32,
-        answer_bytes: u64,
-    ) -> Result<Crew, AllocError>
-        requires { 3 ≤ vec_len passes }
+    /// A crew with these passes and duties.
+    pub fn new(alloc: Global, passes: Vec<Pass>, duties: Duties) -> Result<Crew, AllocError>
+        requires { 2 ≤ vec_len passes }
         ensures { IfOk result (λ crew. crew.served ++ crew.own ∷ [] ≡ passes.items) }
     {
         let mut passes = passes;
         let Some(own) = passes.pop() else {
             unreachable!()
         };
-        let Some(drainer) = passes.pop() else {
-            unreachable!()
-        };
-        let workers = workers_of(alloc, &mut passes, receivers, answer_bytes)?;
+        let workers = workers_of(alloc, &mut passes, duties)?;
         Ok(Crew {
             workers,
-            drainer,
             own,
             places: passes,
         })
@@ -106,15 +110,7 @@ impl Crew {
         ensures went { AllWent (C.moments clock.now) N.start self.old.served self.new.served }
         ensures own { self.new.own ≡ self.old.own }
     {
-        work_all(
-            rt,
-            alloc,
-            store,
-            clock,
-            net,
-            &mut self.drainer,
-            self.workers.as_mut_slice(),
-        );
+        work_all(rt, alloc, store, clock, net, self.workers.as_mut_slice());
     }
 
     /// Takes all passes back. The crew's own pass learns what they have seen.
@@ -126,7 +122,6 @@ impl Crew {
     {
         let Crew {
             workers,
-            drainer,
             own,
             places,
         } = self;
@@ -136,7 +131,6 @@ impl Crew {
             is_spent: false,
         };
         muster.add_workers(rt, store, workers);
-        muster.add(rt, store, drainer);
         muster
     }
 }
@@ -145,48 +139,52 @@ impl Crew {
 fn workers_of(
     alloc: Global,
     passes: &mut Vec<Pass>,
-    receivers: u32,
-    answer_bytes: u64,
+    duties: Duties,
 ) -> Result<Vec<Worker>, AllocError>
-    ensures workers { IfOk result (λ workers. reverse (passes_of workers.items) ≡ passes.old.items) }
+    ensures workers { IfOk result (λ workers. in_order workers.items ≡ passes.old.items) }
     ensures count { IfOk result (λ workers. vec_len workers ≡ vec_len passes.old) }
-    ensures roles { IfOk result (λ workers. All (HasRole receivers answer_bytes) workers.items) }
+    ensures roles { IfOk result (λ workers. All (HasRole duties) workers.items) }
     ensures none { OnOk result (vec_len passes.new ≡ 0) }
     ensures room { vec_capacity passes.old ≤ vec_capacity passes.new }
 {
     let mut workers = Vec::with_capacity(alloc, passes.len())?;
     while let Some(pass) = passes.pop() {
-        workers.push(worker_of(pass, receivers, answer_bytes))?;
+        workers.push(worker_of(pass, duties))?;
     }
     Ok(workers)
 }
 
 // The worker that a pass makes.
-fn worker_of(pass: Pass, receivers: u32, answer_bytes: u64) -> Worker
+fn worker_of(pass: Pass, duties: Duties) -> Worker
     ensures pass { result.pass ≡ Some pass }
-    ensures role { HasRole receivers answer_bytes result }
+    ensures role { HasRole duties result }
 {
     Worker {
-        role: role_of(pass.number(), receivers, answer_bytes),
+        role: role_of(pass.number(), duties),
         pass: Some(pass),
     }
 }
 
-// The links that it serves, by the number of its pass.
-fn role_of(number: u32, receivers: u32, answer_bytes: u64) -> Role
-    ensures { result ≡ role_of number receivers answer_bytes }
+// What it does, by the number of its pass.
+fn role_of(number: u32, duties: Duties) -> Role
+    ensures { result ≡ role_of number duties }
 {
-    if number < receivers {
+    if number < duties.receivers {
         return Role::Receiver;
     }
-    Role::Renderer { answer_bytes }
+    if number - duties.receivers < duties.renderers {
+        return Role::Renderer {
+            answer_bytes: duties.answer_bytes,
+        };
+    }
+    Role::Drainer { pace: duties.pace }
 }
 
 impl Muster {
-    ghost use Rattle.std.specs.Prelude.{◌≡◌, ◌<◌, ◌≤◌, ◌+◌, ◌||◌, ◌∷◌, ◌++◌, [], All, reverse, vec_len};
+    ghost use Rattle.std.specs.Prelude.{◌≡◌, ◌<◌, ◌≤◌, ◌+◌, ◌||◌, ◌∷◌, ◌++◌, [], All, vec_len};
     ghost use mathlib.Core.List.{IsPrefix};
     ghost use Rattle.shared_store.specs.Passes.{HasRoom, LooksOn};
-    ghost use Rattle.carbon_serve.specs.Crews.{Adds, Finishes, OnlySaw, lacks_room, pass_list, passes_of};
+    ghost use Rattle.carbon_serve.specs.Crews.{Adds, Finishes, OnlySaw, in_order, lacks_room, pass_list};
     ghost use Rattle.carbon_serve.specs.Workers.{IsReady};
 
     // The passes of workers, the last worker's first.
@@ -200,7 +198,7 @@ impl Muster {
         requires ready { All (IsReady N.table) workers.items }
         requires own { self.old.own.table ≡ N.table }
         requires places { vec_len workers ≤ self.old.places }
-        ensures { Adds (reverse (passes_of workers.items)) self.old self.new }
+        ensures { Adds (in_order workers.items) self.old self.new }
     {
         let mut workers = workers;
         while let Some(worker) = workers.pop() {

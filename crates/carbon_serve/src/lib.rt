@@ -1,11 +1,15 @@
 //! A store that is served by many threads: some put what links of metric lines bring, some answer
-//! links of HTTP requests, and one drains what is pending. Once the net is closed all is drained,
+//! links of HTTP requests, and some drain what is pending. Once the net is closed all is drained,
 //! and the store ends.
 #![tactic(auto)]
 
 mod crew;
+mod drainers;
+mod pace;
+mod pacing;
 mod serving;
 mod workers;
 
-pub use crew::Crew;
+pub use crew::{Crew, Duties};
+pub use pace::Pace;
 pub use serving::{Served, serve};

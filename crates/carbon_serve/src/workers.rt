@@ -1,31 +1,41 @@
 //! The workers of a server, each with a pass of its own for all that it does.
 ghost use Rattle.std.specs.Prelude.{◌≡◌, ◌<◌, true, length, All};
 ghost use Rattle.fixed_num.specs.Moment.{is_moment};
-ghost use Rattle.carbon_serve.specs.Rounds.{gets_on};
 ghost use Rattle.carbon_serve.specs.Workers.{AllWork, IsReady, Works, WorksBy};
 
+use crate::pace::Pace;
 use http_front::{HttpEnd, serve_http};
 use line_front::{LineCause, Served as ServedLines, serve_lines};
-use metric_path::CLASSES;
 use outside_io::{Clock, Disk, Net};
 use shared_history::Pass;
-use shared_store::{Named, Step, Store, has_room};
+use shared_store::{Named, Store};
 use std::alloc::Global;
 use std::sync::Wait;
-use std::sync::atomic::{AtomicBool, Ordering};
+use std::sync::atomic::{AtomicU32, AtomicUsize, Ordering};
 use std::thread;
 use std::thread::Threads;
 
-/// Which links a worker serves.
+/// Which links a worker serves, or what else it does.
 #[derive(Clone, Copy, Debug, PartialEq, Eq)]
 pub(crate) enum Role {
     /// Those that bring metric lines.
     Receiver,
     /// Those that bring HTTP requests, of which the answer to a question may take so many bytes.
     Renderer { answer_bytes: u64 },
+    /// None: it drains what is pending, within a pace.
+    Drainer { pace: Pace },
 }
 
-/// A worker that serves links.
+impl Role {
+    fn serves_links(self) -> bool {
+        match self {
+            Role::Receiver | Role::Renderer { .. } => true,
+            Role::Drainer { .. } => false,
+        }
+    }
+}
+
+/// A worker.
 #[derive(Drop)]
 pub(crate) struct Worker {
     pub(crate) role: Role,
@@ -41,6 +51,10 @@ pub(crate) struct Server<'a, R: Wait, D: Disk, N: Named, C: Clock, E: Net> {
     pub(crate) store: &'a Store<D, N>,
     pub(crate) clock: &'a C,
     pub(crate) net: &'a E,
+    // How many workers serve links: once there are none the drainers end.
+    pub(crate) link_workers: &'a AtomicUsize,
+    // A bit for each class that a drainer is at.
+    pub(crate) taken: &'a AtomicU32,
 }
 
 impl<'a, R: Wait, D: Disk, N: Named, C: Clock, E: Net> Server<'a, R, D, N, C, E>
@@ -48,12 +62,10 @@ where
     E::L: Drop + Send,
 {
     ghost use Rattle.std.specs.Prelude.{◌≡◌, ◌<◌, true};
-    ghost use Rattle.shared_store.specs.Passes.{HasRoom};
     ghost use Rattle.carbon_serve.specs.Workers.{IsReady, Works, WorksBy};
-    ghost use Rattle.carbon_serve.specs.Rounds.{StepsOnce, TriesClass, gets_on};
 
     /// Serves links of the worker's kind, one after the other, until the net is closed or the pass
-    /// is spent.
+    /// is spent; or drains until nobody serves links any more.
     pub(crate) fn work(&self, worker: &mut Worker)
         requires one { IsReady N.table worker.old }
         ensures works { WorksBy (C.moments self.now.clock.now) N.start worker.old.pass worker.new.pass }
@@ -62,6 +74,9 @@ where
             return;
         };
         worker.pass = Some(self.work_by(worker.role, pass));
+        if worker.role.serves_links() {
+            self.link_workers.fetch_sub(1, Ordering::SeqCst);
+        }
     }
 
     fn work_by(&self, role: Role, pass: Pass) -> Pass
@@ -72,6 +87,7 @@ where
         match role {
             Role::Receiver => return self.receive(pass),
             Role::Renderer { answer_bytes } => self.render(&mut pass, answer_bytes),
+            Role::Drainer { pace } => self.drain(&mut pass, pace),
         }
         pass
     }
@@ -137,76 +153,6 @@ where
             answer_bytes,
         )
     }
-
-    /// Drains what is pending, step by step, until the others have ended or the pass is spent. It
-    /// pauses after a round in which no class got on.
-    #[tactic(auto, using(crate::proofs::WorkLemmas::works_same, crate::proofs::WorkLemmas::works_then))]
-    pub(crate) fn drain(&self, ended: &AtomicBool, pass: &mut Pass)
-        requires one { pass.old.table ≡ N.table }
-        ensures works { Works (C.moments self.now.clock.now) N.start pass.old pass.new }
-    {
-        for _round in self.rt.forever() {
-            if ended.load(Ordering::SeqCst) || !has_room(pass) {
-                return;
-            }
-            if !self.drain_round(pass) {
-                self.clock.pause();
-            }
-        }
-        unreachable!()
-    }
-
-    // One step of each class: whether some class got on.
-    #[tactic(auto, using(crate::proofs::WorkLemmas::works_same, crate::proofs::WorkLemmas::works_then))]
-    fn drain_round(&self, pass: &mut Pass) -> bool
-        requires one { pass.old.table ≡ N.table }
-        ensures works { Works (C.moments self.now.clock.now) N.start pass.old pass.new }
-    {
-        let mut moved = false;
-        for class in 0..CLASSES {
-            moved |= self.drain_class(pass, class);
-        }
-        moved
-    }
-
-    // One step of a class, where the pass has room for it: whether the class got on.
-    #[tactic(auto, using(crate::proofs::WorkLemmas::works_same))]
-    fn drain_class(&self, pass: &mut Pass, class: u32) -> bool
-        requires class { class < 16 }
-        requires one { pass.old.table ≡ N.table }
-        ensures works { Works (C.moments self.now.clock.now) N.start pass.old pass.new }
-        ensures tries { TriesClass (C.moments self.now.clock.now) N.start N.passes class result
-            pass.old pass.new }
-    {
-        if !has_room(pass) {
-            return false;
-        }
-        let came = self.step(pass, class);
-        gets_on(came)
-    }
-
-    #[tactic(auto, using(crate::proofs::WorkLemmas::step_works))]
-    fn step(&self, pass: &mut Pass, class: u32) -> Step
-        requires class { class < 16 }
-        requires one { pass.old.table ≡ N.table }
-        requires room { HasRoom pass.old }
-        ensures works { Works (C.moments self.now.clock.now) N.start pass.old pass.new }
-        ensures steps { StepsOnce (C.moments self.now.clock.now) N.start N.passes class result
-            pass.old pass.new }
-    {
-        self.store
-            .drain_step(self.rt, pass, class, moment(self.clock))
-    }
-}
-
-// Whether a class got on by a step that came to this.
-fn gets_on(came: Step) -> bool
-    ensures { result ≡ gets_on came }
-{
-    match came {
-        Step::Took | Step::Wrote | Step::Finished => true,
-        Step::Idle | Step::DiskFault | Step::NoMemory => false,
-    }
 }
 
 /// The moment that a clock tells.
@@ -218,71 +164,17 @@ pub(crate) fn moment<C: Clock>(clock: &C) -> u32
     clock.now() as u32
 }
 
-/// Serves the links of a net and drains, by all workers and a drainer at once: each of them has a
-/// thread of its own, where threads can be made. It ends when the net is closed, or the passes are
-/// spent. Where the drainer has no thread it comes last, and does nothing.
+/// Serves the links of a net and drains, by all workers at once: each of them has a thread of its
+/// own, where threads can be made. It ends when the net is closed, or the passes are spent. The
+/// workers that have no thread of their own come one after the other, the last one first: those that
+/// drain stand first, and find that nobody serves links any more.
 pub(crate) fn work_all<
     R: Threads + Wait + Sync,
     D: Disk + Send,
     N: Named + Send + Sync,
     C: Clock + Sync,
     E: Net + Sync,
->(
-    rt: &R,
-    alloc: Global,
-    store: &Store<D, N>,
-    clock: &C,
-    net: &E,
-    drainer: &mut Pass,
-    workers: &mut [Worker],
-)
-where
-    E::L: Drop + Send,
-    requires some { 0 < length workers.old }
-    requires one { drainer.old.table ≡ N.table }
-    requires ready { All (IsReady N.table) workers.old }
-    ensures drainer { Works (C.moments clock.now) N.start drainer.old drainer.new }
-    ensures workers { AllWork (C.moments clock.now) N.start workers.old workers.new }
-{
-    let ended = AtomicBool::new(false);
-    thread::join_mut(
-        rt,
-        &mut ||
-            requires { drainer.now.table ≡ N.table }
-            ensures { Works (C.moments clock.entry.now) N.start drainer.entry.now drainer.exit.now }
-        {
-            let server = Server {
-                rt,
-                alloc,
-                store,
-                clock,
-                net,
-            };
-            server.drain(&ended, drainer)
-        },
-        &mut ||
-            requires { (0 < length workers.now) × All (IsReady N.table) workers.now }
-            ensures { AllWork (C.moments clock.entry.now) N.start workers.entry.now workers.exit.now }
-        { work_links(rt, alloc, store, clock, net, &ended, workers) },
-    );
-}
-
-// Serves the links, and tells when there are no more.
-fn work_links<
-    R: Threads + Wait + Sync,
-    D: Disk + Send,
-    N: Named + Send + Sync,
-    C: Clock + Sync,
-    E: Net + Sync,
->(
-    rt: &R,
-    alloc: Global,
-    store: &Store<D, N>,
-    clock: &C,
-    net: &E,
-    ended: &AtomicBool,
-    workers: &mut [Worker],
-)
+>(rt: &R, alloc: Global, store: &Store<D, N>, clock: &C, net: &E, workers: &mut [Worker])
 where
     E::L: Drop + Send,
     requires some { 0 < length workers.old }
@@ -290,6 +182,8 @@ where
     ensures workers { AllWork (C.moments clock.now) N.start workers.old workers.new }
 {
     let threads = workers.len();
+    let link_workers = AtomicUsize::new(count_link_workers(workers));
+    let taken = AtomicU32::new(0);
     thread::for_each_mut(
         rt,
         workers,
@@ -304,9 +198,18 @@ where
                 store,
                 clock,
                 net,
+                link_workers: &link_workers,
+                taken: &taken,
             };
             server.work(worker)
         },
     );
-    ended.store(true, Ordering::SeqCst);
+}
+
+// How many workers serve links.
+fn count_link_workers(workers: &[Worker]) -> usize {
+    workers
+        .iter()
+        .filter(|worker| worker.role.serves_links())
+        .count()
 }

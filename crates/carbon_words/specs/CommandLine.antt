@@ -12,6 +12,7 @@ use Rattle.clap.specs.Walk.{Row, Rule, Text, first_of}
 use Rattle.clap.specs.declared.parser.matches.ArgMatches.{ArgMatches}
 use Rattle.carbon_words.specs.declared.command.Command.{Command}
 use Rattle.carbon_words.specs.declared.command.Command.TheVariants.{Sample, Script, Serve}
+use Rattle.carbon_words.specs.declared.command.DrainOptions.{DrainOptions}
 use Rattle.carbon_words.specs.declared.command.Options.{Options}
 use Rattle.carbon_words.specs.declared.command.SampleOptions.{SampleOptions}
 use Rattle.carbon_words.specs.declared.command.ServeOptions.{ServeOptions}
@@ -47,13 +48,16 @@ script_app = command_app (codes "script")
 -- the words behind `serve`
 unfoldable pub serve_app : App
 serve_app =
-    with_option (codes "answer-bytes")
+    with_option (codes "creates")
+    (with_option (codes "pace")
+    (with_option (codes "drainers")
+    (with_option (codes "answer-bytes")
     (with_option (codes "links")
     (with_option (codes "line-patience")
     (with_option (codes "renderers")
     (with_option (codes "receivers")
     (with_option (codes "http-port")
-    (with_option (codes "line-port") (command_app (codes "serve"))))))))
+    (with_option (codes "line-port") (command_app (codes "serve")))))))))))
 
 -- the words behind `sample`: its start, and how many metric lines it has
 unfoldable pub sample_app : App
@@ -111,11 +115,23 @@ options_in rows =
     option_and_then (λ limit. option_map (λ order. record { limit = limit; order = order }) (order_in rows))
     (number_in (choice 1 10000000 262144) (codes "limit") rows)
 
+-- how what is pending goes to the disk
+unfoldable pub drain_options_in : List Row → Option DrainOptions
+drain_options_in rows =
+    option_and_then (λ drainers. option_and_then (λ pace. option_map (λ creates. record {
+      drainers = drainers;
+      pace = pace;
+      creates = creates;
+    })
+    (number_in (choice 0 1000000 0) (codes "creates") rows))
+    (number_in (choice 0 1000000 0) (codes "pace") rows))
+    (number_in (choice 1 16 1) (codes "drainers") rows)
+
 -- what `serve` may say besides
 unfoldable pub serve_options_in : List Row → Option ServeOptions
 serve_options_in rows =
     option_and_then (λ lines. option_and_then (λ http. option_and_then (λ receivers. option_and_then (λ renderers.
-    option_and_then (λ patience. option_and_then (λ links. option_map (λ bytes. record {
+    option_and_then (λ patience. option_and_then (λ links. option_and_then (λ bytes. option_map (λ drains. record {
       line_port = lines;
       http_port = http;
       receivers = receivers;
@@ -123,7 +139,9 @@ serve_options_in rows =
       line_patience = patience;
       links = links;
       answer_bytes = bytes;
+      drains = drains;
     })
+    (drain_options_in rows))
     (number_in (choice 1048576 1099511627776 268435456) (codes "answer-bytes") rows))
     (number_in (choice 0 1000000000 0) (codes "links") rows))
     (number_in (choice 0 86400 900) (codes "line-patience") rows))
@@ -171,12 +189,18 @@ pub record FindsWords (words : List Text) (matches : ArgMatches) : Type 0 where
 abbrev pub HasLimit : Options → Type 0
 HasLimit options = 0 < options.limit
 
--- there are workers of both kinds, and no more than 512
+-- there are threads that drain, one for each class at most
+pub record HasDrainers (options : DrainOptions) : Type 0 where
+  pub some : 1 ≤ options.drainers
+  pub few : options.drainers ≤ 16
+
+-- there are workers of all kinds, and no more than 528
 pub record HasWorkers (options : ServeOptions) : Type 0 where
   pub some_receivers : 1 ≤ options.receivers
   pub few_receivers : options.receivers ≤ 256
   pub some_renderers : 1 ≤ options.renderers
   pub few_renderers : options.renderers ≤ 256
+  pub drainers : HasDrainers options.drains
 
 -- there are metric lines, and no more than 1,000,000
 pub record HasCount (options : SampleOptions) : Type 0 where

@@ -43,7 +43,10 @@ fn serve<'a>(alloc: Global) -> Result<Command<'a>, AllocError>
         .arg(option(alloc, "renderers"))?
         .arg(option(alloc, "line-patience"))?
         .arg(option(alloc, "links"))?
-        .arg(option(alloc, "answer-bytes"))
+        .arg(option(alloc, "answer-bytes"))?
+        .arg(option(alloc, "drainers"))?
+        .arg(option(alloc, "pace"))?
+        .arg(option(alloc, "creates"))
 }
 
 // The words behind `sample`.

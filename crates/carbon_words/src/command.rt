@@ -27,6 +27,19 @@ pub struct ServeOptions {
     pub links: u64,
     /// How many bytes the series, names and text of a question may take.
     pub answer_bytes: u64,
+    /// How what is pending goes to the disk.
+    pub drains: DrainOptions,
+}
+
+/// How what is pending goes to the disk.
+#[derive(Clone, Copy, Debug, PartialEq, Eq)]
+pub struct DrainOptions {
+    /// How many threads drain.
+    pub drainers: u32,
+    /// How many drains each of them begins in a second at most; 0: as many as it can.
+    pub pace: u32,
+    /// How many ring files each of them makes in a second at most; 0: as many as it can.
+    pub creates: u32,
 }
 
 /// What `sample` says besides.

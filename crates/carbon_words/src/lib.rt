@@ -7,5 +7,5 @@ mod command;
 mod reading;
 
 pub use arguments::words;
-pub use command::{Command, Options, SampleOptions, ServeOptions};
+pub use command::{Command, DrainOptions, Options, SampleOptions, ServeOptions};
 pub use reading::{WordsFault, read_words};

@@ -2,10 +2,10 @@
 ghost use Rattle.std.specs.Prelude.{◌≡◌, ◌≢◌, ◌≤◌, [], IfOk, IfErr, IfSome, map, string_bytes};
 ghost use Rattle.clap.specs.Faults.{fault_of};
 ghost use Rattle.clap.specs.Words.{found_of, kind_of, rows_of, subcommand_rows_of};
-ghost use Rattle.carbon_words.specs.CommandLine.{FindsWords, HasCount, HasLimit, HasWorkers, IsSound, between, carbon, command_in, command_met, command_of, number_given, number_in, options_in, order_in, order_of, sample_options_in, serve_options_in};
+ghost use Rattle.carbon_words.specs.CommandLine.{FindsWords, HasCount, HasDrainers, HasLimit, HasWorkers, IsSound, between, carbon, command_in, command_met, command_of, drain_options_in, number_given, number_in, options_in, order_in, order_of, sample_options_in, serve_options_in};
 
 use crate::app::carbon;
-use crate::command::{Command, Options, SampleOptions, ServeOptions};
+use crate::command::{Command, DrainOptions, Options, SampleOptions, ServeOptions};
 use clap::error::ErrorKind;
 use clap::{ArgMatches, Error};
 use drain_order::Strategy;
@@ -73,6 +73,19 @@ const ANSWER_BYTES: Choice = Choice {
     least: 1_048_576,
     most: 1_099_511_627_776,
     other: 268_435_456,
+};
+
+const DRAINERS: Choice = Choice {
+    least: 1,
+    most: 16,
+    other: 1,
+};
+
+// How often a second.
+const RATE: Choice = Choice {
+    least: 0,
+    most: 1_000_000,
+    other: 0,
 };
 
 /// What the words behind the program's name say. They are refused exactly where they are no command.
@@ -159,6 +172,7 @@ fn serve_options_in(values: &ArgMatches<'_>) -> Option<ServeOptions>
     let line_patience = number_in(values, "line-patience", LINE_PATIENCE)?;
     let links = number_in(values, "links", LINKS)?;
     let answer_bytes = number_in(values, "answer-bytes", ANSWER_BYTES)?;
+    let drains = drain_options_in(values)?;
     Some(ServeOptions {
         line_port: line_port as u16,
         http_port: http_port as u16,
@@ -167,6 +181,22 @@ fn serve_options_in(values: &ArgMatches<'_>) -> Option<ServeOptions>
         line_patience: line_patience as u32,
         links,
         answer_bytes,
+        drains,
+    })
+}
+
+#[tactic(auto, unfolding(crate::specs::CommandLine::drain_options_in))]
+fn drain_options_in(values: &ArgMatches<'_>) -> Option<DrainOptions>
+    ensures said { result ≡ drain_options_in (rows_of (found_of values.now)) }
+    ensures drainers { IfSome result HasDrainers }
+{
+    let drainers = number_in(values, "drainers", DRAINERS)?;
+    let pace = number_in(values, "pace", RATE)?;
+    let creates = number_in(values, "creates", RATE)?;
+    Some(DrainOptions {
+        drainers: drainers as u32,
+        pace: pace as u32,
+        creates: creates as u32,
     })
 }
 

@@ -1,6 +1,8 @@
 //! Words of the command line.
 
-use carbon_words::{Command, Options, SampleOptions, ServeOptions, WordsFault, read_words, words};
+use carbon_words::{
+    Command, DrainOptions, Options, SampleOptions, ServeOptions, WordsFault, read_words, words,
+};
 use case_lines::{Case, CaseFault};
 use drain_order::Strategy;
 use std::alloc::{AllocError, Global};
@@ -106,7 +108,13 @@ fn push_serve(told: &mut String, more: ServeOptions) -> Result<(), AllocError> {
         " patience {} links {}",
         more.line_patience, more.links
     )?;
-    write!(told, " answer {}", more.answer_bytes)
+    write!(told, " answer {}", more.answer_bytes)?;
+    push_drains(told, more.drains)
+}
+
+fn push_drains(told: &mut String, drains: DrainOptions) -> Result<(), AllocError> {
+    write!(told, " drainers {}", drains.drainers)?;
+    write!(told, " pace {} creates {}", drains.pace, drains.creates)
 }
 
 fn push_sample(told: &mut String, more: SampleOptions) -> Result<(), AllocError> {

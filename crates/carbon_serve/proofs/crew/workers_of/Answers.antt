@@ -12,7 +12,7 @@ loop-pass-preserved c = record {
       ∙ worker_more c.loop-pass.passes.items c.pop.new.self.items c.args.passes.now.items c.in-Some.pass c.loop-pass.workers.items c.worker_of.result c.in-Some.ensures.items
       c.worker_of.ensures.pass c.loop-pass.invariant.all;
   count = search rules;
-  roles = subst (λ (ws : List Worker). All (HasRole c.args.receivers c.args.answer_bytes) ws) (sym c.in_ok-push.ensures.items)
-      (All-push (HasRole c.args.receivers c.args.answer_bytes) c.loop-pass.workers.items c.worker_of.result c.loop-pass.invariant.roles c.worker_of.ensures.role);
+  roles = subst (λ (ws : List Worker). All (HasRole c.args.duties) ws) (sym c.in_ok-push.ensures.items)
+      (All-push (HasRole c.args.duties) c.loop-pass.workers.items c.worker_of.result c.loop-pass.invariant.roles c.worker_of.ensures.role);
   room = search rules;
 }

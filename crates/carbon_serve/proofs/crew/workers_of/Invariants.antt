@@ -7,7 +7,7 @@ abbrev pub invariant-loop-pass : goal.invariant-loop-pass
 invariant-loop-pass l = record {
   all : l.passes.items ++ reverse (passes_of l.workers.items) ≡ l.fn.passes.items;
   count : vec_len l.passes + vec_len l.workers ≡ vec_len l.fn.passes;
-  roles : All (HasRole l.receivers l.answer_bytes) l.workers.items;
+  roles : All (HasRole l.duties) l.workers.items;
   room : vec_capacity l.fn.passes ≤ vec_capacity l.passes;
 }
 

@@ -13,5 +13,8 @@ returns c =
     let renderers = option_added (codes "renderers") _ _ _ _ c.in_ok-arg-4.ensures c.option-4.ensures.local c.option-4.ensures.rule receivers in
     let patience = option_added (codes "line-patience") _ _ _ _ c.in_ok-arg-5.ensures c.option-5.ensures.local c.option-5.ensures.rule renderers in
     let links = option_added (codes "links") _ _ _ _ c.in_ok-arg-6.ensures c.option-6.ensures.local c.option-6.ensures.rule patience in
-    IfOk-weaker c.arg-7.result _ _
-    (λ r added. option_added (codes "answer-bytes") _ _ _ _ added c.option-7.ensures.local c.option-7.ensures.rule links) c.arg-7.ensures
+    let bytes = option_added (codes "answer-bytes") _ _ _ _ c.in_ok-arg-7.ensures c.option-7.ensures.local c.option-7.ensures.rule links in
+    let drainers = option_added (codes "drainers") _ _ _ _ c.in_ok-arg-8.ensures c.option-8.ensures.local c.option-8.ensures.rule bytes in
+    let pace = option_added (codes "pace") _ _ _ _ c.in_ok-arg-9.ensures c.option-9.ensures.local c.option-9.ensures.rule drainers in
+    IfOk-weaker c.arg-10.result _ _
+    (λ r added. option_added (codes "creates") _ _ _ _ added c.option-10.ensures.local c.option-10.ensures.rule pace) c.arg-10.ensures

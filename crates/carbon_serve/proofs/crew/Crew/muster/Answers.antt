@@ -1,35 +1,24 @@
-use Rattle.std.proofs.Common.{◌≡◌, ◌-◌, [], false, refl, sym, subst, arith, reverse, vec_len, vec_capacity}
+use Rattle.std.proofs.Common.{◌≡◌, ◌-◌, [], false, refl, sym, subst, arith, vec_len, vec_capacity}
 use Rattle.std.specs.Prelude.{All}
 use Rattle.shared_history.specs.Parts.{PassValue}
-use Rattle.carbon_serve.specs.Crews.{CrewValue, MusterValue, Musters, passes_of}
-use Rattle.carbon_serve.proofs.MusterLemmas.{adds_one, mustered}
-use Rattle.carbon_serve.proofs.OrderLemmas.{all_ready, drainer_ready, none_there, reversed_few}
+use Rattle.carbon_serve.specs.Crews.{CrewValue, MusterValue, Musters, in_order}
+use Rattle.carbon_serve.proofs.MusterLemmas.{mustered}
+use Rattle.carbon_serve.proofs.OrderLemmas.{all_ready, none_there, reversed_few}
 use Rattle.carbon_serve.proofs.crew.Crew.muster.Goals as goal
 
 pub add_workers-requires-clause-ready : goal.add_workers-requires-clause-ready
 add_workers-requires-clause-ready g c =
-    all_ready g.N.Named.table c.self.inside.workers.items c.self.inside.drainer
+    all_ready g.N.Named.table c.self.inside.workers.items
     (subst (λ (crew : CrewValue). All (λ (pass : PassValue). pass.table ≡ g.N.Named.table) crew.served) (sym c.self.view_is) c.requires.one)
-
-pub add-requires-clause-one : goal.add-requires-clause-one
-add-requires-clause-one g c =
-    drainer_ready g.N.Named.table c.self.inside.workers.items c.self.inside.drainer
-    (subst (λ (crew : CrewValue). All (λ (pass : PassValue). pass.table ≡ g.N.Named.table) crew.served) (sym c.self.view_is) c.requires.one)
-
-pub add-requires-clause-places : goal.add-requires-clause-places
-add-requires-clause-places g c =
-    omega (arith, c.add_workers.ensures.places, reversed_few c.self.inside.workers.items, c.self.invariant.1.0, c.self.invariant.1.1, c.self.inside.workers.ok.0)
 
 pub returns-clause-musters : goal.returns-clause-musters
 returns-clause-musters g c =
     let first : MusterValue =
     record { served = c.self.inside.places.items; own = c.self.inside.own; is_spent = false; places = vec_capacity c.self.inside.places - vec_len c.self.inside.places } in
     let none : c.self.inside.places.items ≡ [] = none_there c.self.inside.places.items (omega (arith, c.self.invariant.1.0, c.self.inside.places.ok.0)) in
-    let e = c.add.ensures in
-    subst (λ (crew : CrewValue). Musters crew.served crew.own c.add.new.self) c.self.view_is
-    (mustered (reverse (passes_of c.self.inside.workers.items)) c.self.inside.drainer c.self.inside.own first c.add_workers.new.self c.add.new.self none refl refl c.add_workers.ensures
-    (adds_one c.self.inside.drainer c.add_workers.new.self c.add.new.self e.served e.learned e.own e.spent e.places))
+    subst (λ (crew : CrewValue). Musters crew.served crew.own c.add_workers.new.self) c.self.view_is
+    (mustered (in_order c.self.inside.workers.items) c.self.inside.own first c.add_workers.new.self none refl refl c.add_workers.ensures)
 
 pub returns-clause-places : goal.returns-clause-places
 returns-clause-places g c =
-    omega (arith, c.add.ensures.places, c.add_workers.ensures.places, reversed_few c.self.inside.workers.items, c.self.invariant.1.0, c.self.invariant.1.1, c.self.inside.workers.ok.0)
+    omega (arith, c.add_workers.ensures.places, reversed_few c.self.inside.workers.items, c.self.invariant.1.0, c.self.invariant.1.1, c.self.inside.workers.ok.0)

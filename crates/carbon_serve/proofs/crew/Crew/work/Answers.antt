@@ -10,9 +10,9 @@ use Rattle.carbon_serve.proofs.crew.Crew.work.Goals as goal
 pub work_all-requires-clause-ready : goal.work_all-requires-clause-ready
 work_all-requires-clause-ready g c κs within =
     let same : c.as_mut_slice.result.now ≡ c.self.inside.workers.items = search rules in
-    let all : All (λ (pass : PassValue). pass.table ≡ g.N.Named.table) (in_order c.self.inside.workers.items c.self.inside.drainer) =
+    let all : All (λ (pass : PassValue). pass.table ≡ g.N.Named.table) (in_order c.self.inside.workers.items) =
     subst (λ (crew : CrewValue). All (λ (pass : PassValue). pass.table ≡ g.N.Named.table) crew.served) (sym c.self.view_is) c.requires.one in
-    subst (λ (workers : List Worker). All (IsReady g.N.Named.table) workers) (sym same) (all_ready g.N.Named.table c.self.inside.workers.items c.self.inside.drainer all)
+    subst (λ (workers : List Worker). All (IsReady g.N.Named.table) workers) (sym same) (all_ready g.N.Named.table c.self.inside.workers.items all)
 
 pub returns-clause-went : goal.returns-clause-went
 returns-clause-went g c =
@@ -25,6 +25,6 @@ returns-clause-went g c =
     let len : c.self.inside.workers.len ≡ length old = omega (arith, c.self.inside.workers.ok.0) in
     let back : take c.self.inside.workers.len (now ++ drop (length now) old) ≡ now =
     ap (λ (n : ℕ). take n (now ++ drop (length now) old)) len ∙ taken_back now old work.count in
-    subst (λ (crew : CrewValue). AllWent moments g.N.Named.start crew.served (in_order (take c.self.inside.workers.len (now ++ drop (length now) old)) c.work_all.new.drainer)) c.self.view_is
-    (subst (λ (workers : List Worker). AllWent moments g.N.Named.start (in_order old c.self.inside.drainer) (in_order workers c.work_all.new.drainer)) (sym back)
-    (all_went moments g.N.Named.start old now c.self.inside.drainer c.work_all.new.drainer work c.work_all.ensures.drainer))
+    subst (λ (crew : CrewValue). AllWent moments g.N.Named.start crew.served (in_order (take c.self.inside.workers.len (now ++ drop (length now) old)))) c.self.view_is
+    (subst (λ (workers : List Worker). AllWent moments g.N.Named.start (in_order old) (in_order workers)) (sym back)
+    (all_went moments g.N.Named.start old now work))
