@@ -13,6 +13,7 @@ import shutil
 import socket
 import sys
 import tempfile
+import threading
 import time
 
 from live import MEMORY, need_program, write_rules
@@ -42,6 +43,7 @@ def last_write(process, before):
 
 
 def send(port, metrics, value):
+    """Sends a point of each metric, and waits until the daemon has taken them."""
     now = int(time.time())
     with socket.create_connection(("127.0.0.1", port)) as link:
         link.sendall(b"".join(b"drained.m%05d %d %d\n" % (k, value, now) for k in range(metrics)))
@@ -59,8 +61,10 @@ def make_files(place, metrics, preload):
 def measure(place, preload, drainers, milliseconds, metrics):
     daemon = Daemon(place, preload, milliseconds, "--drainers", str(drainers))
     before = writes_of(daemon.process)
-    send(daemon.lines, metrics, drainers)
+    sender = threading.Thread(target=send, args=(daemon.lines, metrics, drainers))
+    sender.start()
     begun, ended = last_write(daemon.process, before)
+    sender.join()
     daemon.stop()
     return metrics / (ended - begun)
 

@@ -514,6 +514,23 @@ def a_pace_comes_to_every_class():
 
 
 @case
+def new_files_come_to_every_class():
+    """Also while the metrics of some classes that have their files get points all the time."""
+    old = [name for name in ("old.n%d" % k for k in range(1000)) if class_of(name.encode()) < 10]
+    new = [name for name in ("new.n%d" % k for k in range(1000)) if class_of(name.encode()) >= 10]
+    made = lambda: sum(os.path.isdir(os.path.join(place, "data", "%02d" % k, "new")) for k in range(16))
+    with folder() as place:
+        want(script(place, "".join(point(name) for name in old))[0], 0, "the script")
+        with serving("--creates", "1", place=place) as daemon:
+            daemon.send("".join(point(name) for name in new))
+            for _ in range(24):
+                daemon.send("".join(point(name) for name in old))
+                if settled(lambda: made() == 6, 0.5):
+                    break
+            want(made(), 6, "classes with a new file after twelve seconds of a file a second")
+
+
+@case
 def files_that_are_there_are_drained_without_the_pace_of_new_ones():
     with folder() as place:
         want(script(place, "".join(point("o.n%d" % k) for k in range(100)))[0], 0, "the script")

@@ -3,13 +3,14 @@
 
 Usage: bench/slow_disk.py [SECONDS [MILLISECONDS..]]      (5 seconds, and 0, 1, 5 and 20 milliseconds, where none are named)
 
-Runs `carbon serve` in a folder in memory with a library before the system's `pwrite` that waits first. One connection brings lines of 10,000
-metrics as fast as they are taken, for so many seconds; beside it one client asks, over one connection and without a pause, for a metric that is
-not there and for one of the metrics, in turn. Prints for each delay the lines a second, the milliseconds of both questions
-(half of them took at most so long, and 99 of 100), and how many ring files were made a second. Nothing timed here is a test. Wants a C compiler, `cc`.
-Run ./carbon build first.
+Runs `carbon serve` in a folder in memory with a library before the system's `pwrite` that waits first. One connection of a process of its own
+brings lines of 10,000 metrics as fast as they are taken, for so many seconds; beside it one client asks, over one connection and without a pause, for a metric that is
+not there, for one of which all points are pending while the disk is slow, and for one that is drained early, in turn. Prints for each delay the
+lines a second that the system took of the sender, the milliseconds of the three questions (half of them took at most so long, and 99 of 100), how many ring files were made a
+second, and whether the second metric had none until the end. Nothing timed here is a test. Wants a C compiler, `cc`. Run ./carbon build first.
 """
 import http.client
+import multiprocessing
 import os
 import re
 import socket
@@ -19,12 +20,14 @@ import tempfile
 import threading
 import time
 
-from live import HERE, PROGRAM, folder, need_program, write_rules
+from live import HERE, PROGRAM, class_of, folder, need_program, write_rules
 
 PORTS = re.compile(r"carbon: lines on (\d+), HTTP on (\d+)")
 RULES = b"[all]\npattern = .*\nretentions = 1s:1h\n"
 METRICS = 10_000
 PIECE = 1_000
+# The metric that is drained last, and one of the first.
+LAST, EARLY = "slow.m09999", "slow.m00007"
 
 
 def library(place):
@@ -53,15 +56,23 @@ class Daemon:
         self.process.communicate("stop\n")
 
 
+def lines_of(now):
+    """Lines of each metric with two values in turn, so that each is another point, cut into pieces."""
+    lines = [b"slow.m%05d %d %d\n" % (k, k + value, now) for value in range(2) for k in range(METRICS)]
+    return [b"".join(lines[at : at + PIECE]) for at in range(0, len(lines), PIECE)]
+
+
 def send(port, until, sent):
+    """Sends until then; `sent` gets the number of lines."""
     with socket.create_connection(("127.0.0.1", port)) as link:
-        number = 0
+        number, moment, pieces = 0, 0, []
         while time.monotonic() < until:
-            now = int(time.time())
-            lines = b"".join(b"slow.m%05d %d %d\n" % ((number + k) % METRICS, k, now) for k in range(PIECE))
-            link.sendall(lines)
+            if int(time.time()) != moment:
+                moment = int(time.time())
+                pieces = lines_of(moment)
+            link.sendall(pieces[number // PIECE % len(pieces)])
             number += PIECE
-            sent[0] = number
+    sent.value = number
 
 
 def ask(port, until, targets):
@@ -79,6 +90,10 @@ def ask(port, until, targets):
     return took
 
 
+def file_of(place, metric):
+    return os.path.join(place, "data", "%02d" % class_of(metric.encode()), metric.replace(".", "/") + ".ring")
+
+
 def at(list, part):
     ordered = sorted(list)
     return ordered[min(len(ordered) - 1, int(len(ordered) * part))] if ordered else float("nan")
@@ -88,18 +103,17 @@ def measure(seconds, milliseconds, preload):
     with folder() as place:
         write_rules(place, RULES)
         daemon = Daemon(place, preload, milliseconds)
-        sent, took = [0], []
+        sent = multiprocessing.Value("q", 0)
         until = time.monotonic() + seconds
-        sender = threading.Thread(target=send, args=(daemon.lines, until, sent))
-        asker = threading.Thread(target=lambda: took.extend(ask(daemon.http, until, ["slow.none", "slow.m00007"])))
+        sender = multiprocessing.Process(target=send, args=(daemon.lines, until, sent))
         sender.start()
-        asker.start()
+        took = ask(daemon.http, until, ["slow.none", LAST, EARLY])
         sender.join()
-        asker.join()
-        drained = sum(len(files) for _, _, files in os.walk(os.path.join(place, "data")))
+        made = sum(len(files) for _, _, files in os.walk(os.path.join(place, "data")))
+        is_pending = not os.path.exists(file_of(place, LAST))
         daemon.process.kill()
         daemon.process.wait()
-        return sent[0] / seconds, took, drained / seconds
+        return sent.value / seconds, took, made / seconds, is_pending
 
 
 def main():
@@ -108,14 +122,11 @@ def main():
     seconds, delays = (words[0] if words else 5), (words[1:] or [0, 1, 5, 20])
     with tempfile.TemporaryDirectory() as made:
         preload = library(made)
-        print("ms a write | lines a second | nothing: half, 99 of 100 | one metric: half, 99 of 100 | new files a second")
+        print("ms a write | lines a second | nothing: half, 99 of 100 | pending: the same | drained: the same | new files a second | pending to the end")
         for delay in delays:
-            lines, took, drained = measure(seconds, delay, preload)
-            print(
-                "%g | %d | %.2f, %.2f ms | %.2f, %.2f ms | %d"
-                % (delay, lines, at(took[0], 0.5), at(took[0], 0.99), at(took[1], 0.5), at(took[1], 0.99), drained),
-                flush=True,
-            )
+            lines, took, made, is_pending = measure(seconds, delay, preload)
+            times = " | ".join("%.2f, %.2f ms" % (at(times, 0.5), at(times, 0.99)) for times in took)
+            print("%g | %d | %s | %d | %s" % (delay, lines, times, made, "yes" if is_pending else "no"), flush=True)
 
 
 if __name__ == "__main__":

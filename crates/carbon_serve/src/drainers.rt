@@ -3,6 +3,7 @@ ghost use Rattle.std.specs.Prelude.{◌≡◌, ◌<◌};
 ghost use Rattle.carbon_serve.specs.Rounds.{gets_on, writes_on};
 
 use crate::pace::{Pace, Pacer, Permit};
+use crate::pacing::next_class;
 use crate::workers::{Server, moment};
 use metric_path::CLASSES;
 use outside_io::{Clock, Disk, Net};
@@ -24,40 +25,36 @@ where
     ghost use Rattle.carbon_serve.specs.Workers.{Works};
 
     /// Drains what is pending, step by step and within its pace, until no worker serves links any
-    /// more or the pass is spent. A round begins behind the class that got on last, so that a pace
-    /// comes to all of them. It pauses after a round in which no class got on.
+    /// more or the pass is spent. A round begins behind the class that last did what is bounded, so that a
+    /// pace comes to all of them. It pauses after a round in which no class got on.
     #[tactic(auto, using(crate::proofs::WorkLemmas::works_same, crate::proofs::WorkLemmas::works_then))]
     pub(crate) fn drain(&self, pass: &mut Pass, pace: Pace)
         requires one { pass.old.table ≡ N.table }
         ensures works { Works (C.moments self.now.clock.now) N.start pass.old pass.new }
     {
         let mut pacer = Pacer::new(pace, moment(self.clock));
-        let mut first = 0;
         for _round in self.rt.forever() {
             if self.link_workers.load(Ordering::SeqCst) == 0 || !has_room(pass) {
                 return;
             }
-            match self.drain_round(pass, &mut pacer, first) {
-                Some(class) => first = next_class(class),
-                None => self.clock.pause(),
+            if !self.drain_round(pass, &mut pacer) {
+                self.clock.pause();
             }
         }
         unreachable!()
     }
 
-    // One turn of each class, this one first: the class that got on last, if one did.
+    // One turn of each class: whether one got on.
     #[tactic(auto, using(crate::proofs::WorkLemmas::works_same, crate::proofs::WorkLemmas::works_then))]
-    fn drain_round(&self, pass: &mut Pass, pacer: &mut Pacer, first: u32) -> Option<u32>
-        requires class { first < 16 }
+    fn drain_round(&self, pass: &mut Pass, pacer: &mut Pacer) -> bool
         requires one { pass.old.table ≡ N.table }
         ensures works { Works (C.moments self.now.clock.now) N.start pass.old pass.new }
-        ensures class { IfSome result (λ class. class < 16) }
     {
-        let mut moved = None;
-        let mut class = first;
+        let mut moved = false;
+        let mut class = pacer.first_class();
         for _turn in 0..CLASSES {
             if self.drain_turn(pass, pacer, class) {
-                moved = Some(class);
+                moved = true;
             }
             class = next_class(class);
         }
@@ -170,18 +167,10 @@ where
         let now = moment(self.clock);
         let came = self.store.drain_step(self.rt, pass, class, now);
         if came == Step::Took {
-            pacer.count(permit);
+            pacer.count(permit, class);
         }
         came
     }
-}
-
-// The class behind this one, the first one behind the last.
-fn next_class(class: u32) -> u32
-    requires { class < 16 }
-    ensures { result < 16 }
-{
-    if class + 1 < CLASSES { class + 1 } else { 0 }
 }
 
 // Whether a class got on by a step that came to this.

@@ -1,20 +1,30 @@
 -- How the reads of a question end.
-use Rattle.std.proofs.Common.{◌≡◌, ◌⊎◌, inl, inr, ◌∙◌, ℕ, ℤ, ◌≤◌, List, [], ◌∷◌, ◌++◌, length, Option, refl, sym, subst}
+use Rattle.std.proofs.Common.{◌≡◌, ◌⊎◌, inl, inr, ◌∙◌, ℕ, ℤ, true, ◌≤◌, List, [], ◌∷◌, ◌++◌, length, Option, None, Some, IfSome, refl, sym, ap, subst}
 use Rattle.std.specs.Prelude.{All, Contains, IfOk, IsErrAnd, Result, Ok, Err}
 use Rattle.outside_io.specs.Image.{Image}
 use Rattle.metric_path.specs.Class.{class_of}
 use Rattle.carbon_history.specs.declared.entry.Entry.{Entry}
-use Rattle.carbon_model.specs.State.{State}
+use Rattle.carbon_model.specs.State.{Kept, State, no_rings, rings_of}
 use Rattle.carbon_model.specs.Replay.{replay}
 use Rattle.render_need.specs.declared.need.Need.{Need}
 use Rattle.render_need.specs.Rows.{AreRows, Rows}
 use Rattle.found_rows.specs.Rows.{FindsFew, IsReadFor}
 use Rattle.series_funcs.specs.Combined.{most_series}
+use Rattle.ring_format.specs.Layout.{LayoutValue}
+use Rattle.ring_format.specs.Patch.{PatchValue}
+use Rattle.ring_archive.specs.Ring.{ReadsAs, Rings}
+use Rattle.ring_archive.specs.View.{OnRing}
+use Rattle.ring_archive.specs.declared.view.RingView.{RingView}
+use Rattle.series_fetch.specs.Fetched.{Fetches}
+use Rattle.series_fetch.specs.Shown.{shown}
+use Rattle.series_fetch.specs.Window.{HasBuckets}
+use Rattle.series_fetch.specs.declared.range.Window.{Window}
 use Rattle.series_set.specs.Series.{SeriesValue}
 use Rattle.shard_core.specs.Looks.{looked_paths}
 use Rattle.shard_core.specs.declared.looked.Looked.{Looked}
 use Rattle.shard_core.specs.declared.looked.LookFault.{LookFault}
 use Rattle.shard_core.specs.declared.looked.LookFault.TheVariants as look
+use Rattle.shard_core.proofs.ReadingLemmas.{fresh_is_empty, no_cells}
 use Rattle.shared_history.specs.Parts.{PassValue}
 use Rattle.shared_store.specs.declared.ask_fault.AskFault.{AskFault}
 use Rattle.shared_store.specs.declared.ask_fault.AskFault.TheVariants.{DiskFault, TooManySeries, TooManyPoints, NoMemory}
@@ -23,7 +33,7 @@ use Rattle.shared_store.specs.declared.try_end.TryEnd.TheVariants.{Moved, Ended}
 use Rattle.std.specs.declared.sync.MutexGuard.{MutexGuard}
 use Rattle.shared_store.specs.Held.{AreFilesOf, IsHeld, KeepsFilesHeld}
 use Rattle.shared_store.specs.Locks.{FilesValue}
-use Rattle.shared_store.specs.Asking.{AnswersTry, Counts, EndsAs, HasNotMoved, IsLookAt, IsNoMove, IsSeriesAt, IsSeriesOf, IsShortLook, IsWithin, OnlyLooks, Pairwise, ReadsAll, ReadsAt, ReadsOne, ReadsSet, ReadsWell, ShowsAt, Stops, all_series}
+use Rattle.shared_store.specs.Asking.{AnswersTry, Counts, EndsAs, HasNotMoved, IsLookAt, IsNoMove, IsSeriesAt, IsSeriesOf, IsShortLook, IsWithin, OnlyLooks, Pairwise, ReadsAll, ReadsAt, ReadsOne, ReadsSet, ReadsWell, ShowsAt, ShowsBare, Stops, all_series}
 use Rattle.shared_store.proofs.AskFoundLemmas.{FoundOf, are_rows, few_found, found_within, has_rows, pairwise_more, path_in}
 use Rattle.shared_store.proofs.AskPassLemmas.{fault_behind, only_both}
 
@@ -76,6 +86,43 @@ reads_one start told passes looked (Err look.DiskFault) result old new is reads 
     subst (λ (r : Result (List (Option ℤ)) TryEnd). ReadsOne start told passes looked r old new) (sym is) (record { path = looked.path; one = refl; here = refl; fault = reads })
 reads_one start told passes looked (Err look.NoMemory) result old new is reads =
     subst (λ (r : Result (List (Option ℤ)) TryEnd). ReadsOne start told passes looked r old new) (sym is) reads
+
+-- what is fetched of a file that is yet to be made
+bare_told : (view : RingView) (patch : PatchValue) (path : List ℕ) (layout : LayoutValue) (known : Option Image) (pending : List (ℕ × ℤ)) (window : Window) (values : List (Option ℤ))
+    → patch ≡ no_cells path layout true → OnRing view patch.fresh known (λ file. (rings : Rings) → ReadsAs patch file rings → values ≡ shown view.layout rings pending window)
+    → values ≡ shown view.layout no_rings pending window
+bare_told view patch path layout known pending window values is told =
+    subst (λ (p : PatchValue). OnRing view p.fresh known (λ file. (rings : Rings) → ReadsAs p file rings → values ≡ shown view.layout rings pending window)) is told
+    no_rings (fresh_is_empty path layout)
+
+pub bare_fetched : (view : RingView) (patch : PatchValue) (path : List ℕ) (known : Option Image) (pending : List (ℕ × ℤ)) (looked : Looked) (values shows : List (Option ℤ))
+    → patch ≡ no_cells path looked.layout true → view.layout ≡ looked.layout → pending ≡ looked.pending → shows ≡ values
+    → Fetches view patch known pending looked.window values → ShowsBare looked shows
+bare_fetched view patch path known pending looked values shows is layout points same fetches =
+    subst (ShowsBare looked) (sym same) (record {
+      count = subst (λ (l : LayoutValue). HasBuckets l looked.window (length values)) layout fetches.count;
+      bare = bare_told view patch path looked.layout known pending looked.window values is fetches.told
+          ∙ (λ i. shown (layout i) no_rings (points i) looked.window);
+    })
+
+-- nothing is kept of a metric: its pending points are all that it shows
+pub shows_bare : (told : ℕ → Option Image) (s : State) (looked : Looked) (values : List (Option ℤ)) → s.kept looked.path ≡ None → ShowsBare looked values → ShowsAt told s looked values
+shows_bare told s looked values none shows = record {
+  pending = record { count = shows.count; some = (no_rings, shows.bare) };
+  bare = λ none. shows.bare;
+  kept = over (told (class_of looked.path));
+}
+  where
+    over : (opening : Option Image) → IfSome opening (λ opening. values ≡ shown looked.layout (rings_of (s.kept looked.path)) looked.pending looked.window)
+    over None = tt
+    over (Some image) = shows.bare ∙ ap (λ (o : Option Kept). shown looked.layout (rings_of o) looked.pending looked.window) (sym none)
+
+-- a read behind a look of the pass
+pub one_behind : (start : State) (told : ℕ → Option Image) (passes : ℕ) (looked : Looked) (result : Result (List (Option ℤ)) TryEnd) (old mid new : PassValue) → OnlyLooks old mid
+    → ReadsOne start told passes looked result mid new → ReadsOne start told passes looked result old new
+one_behind start told passes looked (Ok values) old mid new only reads =
+    (only_both old mid new only reads.0, subst (λ (l : List Entry). ShowsAt told (replay start l) looked values) only.seen reads.1)
+one_behind start told passes looked (Err end) old mid new only reads = stops_behind start passes (λ path. looked.path ≡ path) end old mid new only reads
 
 -- ---- a series
 

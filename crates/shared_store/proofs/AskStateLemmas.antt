@@ -1,5 +1,5 @@
 -- What the entries behind a question leave of a metric, and what is read of it then.
-use Rattle.std.proofs.Common.{◌≡◌, ◌≢◌, ◌⊎◌, inl, inr, ◌∙◌, ℕ, ℤ, suc, ◌<◌, ◌==◌, Bool, true, false, List, [], ◌∷◌, ◌++◌, length, Option, Some, None, IfSome, IsSome, refl, sym, ap, subst, arith, length-append, unwrap_or, option_map, if◌then◌else◌}
+use Rattle.std.proofs.Common.{◌≡◌, ◌≢◌, ◌⊎◌, inl, inr, ◌∙◌, ℕ, ℤ, suc, ◌<◌, ◌==◌, Bool, true, false, List, [], ◌∷◌, ◌++◌, Option, Some, None, IfSome, IsSome, refl, sym, ap, subst, arith, unwrap_or, option_map, if◌then◌else◌}
 use Rattle.std.specs.Prelude.{Contains, IsSomeAnd}
 use Rattle.std.specs.Map.{lookup, remove_entry}
 use Rattle.std.specs.Str.{bytes_eq}
@@ -8,7 +8,6 @@ use Rattle.std.proofs.lemmas.Bool.Decides.{eqb_tells}
 use Rattle.std.proofs.lemmas.List.Elements.{Contains-append_right}
 use Rattle.std.proofs.lemmas.Slice.Eq.{bytes_eq-Decides}
 use mathlib.Core.List.{IsPrefix}
-use Rattle.atomic_table.specs.Seated.{TableId}
 use Rattle.indexmap.specs.IndexMap.{insert_entry}
 use Rattle.outside_io.specs.Image.{Image}
 use Rattle.metric_path.specs.Class.{class_of}
@@ -29,16 +28,17 @@ use Rattle.carbon_model.specs.RingFiles.{IsOfClass}
 use Rattle.carbon_model.specs.Replay.{after, replay}
 use Rattle.carbon_model.proofs.HistoryLemmas.{replay-append}
 use Rattle.carbon_model.proofs.PartLemmas.{replay_alike, same_part}
-use Rattle.shard_core.specs.Shard.{Holds, Inside, KnowsAs}
+use Rattle.shard_core.specs.Halves.{DeskInside, FilesInside, both}
+use Rattle.shard_core.specs.Shard.{Holds}
 use Rattle.shard_core.specs.Looks.{MayRead}
-use Rattle.shard_core.specs.Reads.{Shows}
-use Rattle.shard_core.specs.Table.{IsEntry, Lists, drains_in, layout_kept}
+use Rattle.shard_core.specs.Reads.{IsKept, Shows}
+use Rattle.shard_core.specs.Table.{IsEntry, Lists, Table, drains_in, layout_kept}
 use Rattle.shard_core.specs.declared.looked.Looked.{Looked}
 use Rattle.shard_core.proofs.FileLemmas.{same_text}
 use Rattle.shared_history.specs.Parts.{PassValue, TailValue}
 use Rattle.shared_history.specs.Views.{look_at}
 use Rattle.shared_store.specs.Asking.{IsLookAt, MarksClass, ShowsAt, WasDrained}
-use Rattle.shared_store.specs.Desks.{KeepsClass}
+use Rattle.shared_store.specs.Locks.{HoldsDesk}
 
 -- ---- two states that agree in a class
 
@@ -267,10 +267,10 @@ not_kept : (known : Known) (b : Bool) → known.is_kept ≡ b → (if b then Som
 not_kept known true is none = absurd (cc none)
 not_kept known false is none = is
 
-knows_pending : (class : ℕ) (shard : Inside) (path : List ℕ) (o : Option Known) → IsSome o → layout_kept o ≡ None
-    → IfSome o (IsEntry class shard.rules shard.cache.metrics path) → IsSomeAnd o (λ known. known.layout ≡ layout_by shard.rules path)
-knows_pending class shard path None some none entry = absurd (false≢true some)
-knows_pending class shard path (Some known) some none entry = entry.given (not_kept known known.is_kept refl none)
+knows_pending : (desk : DeskInside) (path : List ℕ) (o : Option Known) → IsSome o → layout_kept o ≡ None
+    → IfSome o (IsEntry desk.class desk.rules desk.cache.metrics path) → IsSomeAnd o (λ known. known.layout ≡ layout_by desk.rules path)
+knows_pending desk path None some none entry = absurd (false≢true some)
+knows_pending desk path (Some known) some none entry = entry.given (not_kept known known.is_kept refl none)
 
 no_kept : (o : Option Kept) → o ≡ None → IsSome o → ⊥
 no_kept o none some = false≢true (subst (λ (k : Option Kept). IsSome k) none some)
@@ -279,31 +279,41 @@ has_points : (s : State) (path : List ℕ) → s.kept path ≡ None → IsKnown 
 has_points s path none (inl some) = some
 has_points s path none (inr kept) = absurd (no_kept (s.kept path) none kept)
 
-knows_as : (told : Option Image) (shard : Inside) (s : State) (path : List ℕ) → Lists shard.class shard.rules shard.cache.metrics shard.table → Holds told shard s
-    → IsOfClass shard.class path → IsKnown s path → KnowsAs shard path (layout_of s path)
-knows_as told shard s path lists holds one known = by (s.kept path) refl
+-- a table knows a metric, and has it in this layout
+abbrev HasAs : Table → List ℕ → LayoutValue → Type 0
+HasAs table path layout = IsSomeAnd (entry_of table path) (λ known. known.layout ≡ layout)
+
+knows_as : (desk : DeskInside) (s : State) (path : List ℕ) → Lists desk.class desk.rules desk.cache.metrics desk.table → HoldsDesk desk s
+    → IsOfClass desk.class path → IsKnown s path → HasAs desk.table path (layout_of s path)
+knows_as desk s path lists holds one known = by (s.kept path) refl
   where
-    metrics : s.pending (class_of path) ≡ shard.cache.metrics
+    metrics : s.pending (class_of path) ≡ desk.cache.metrics
     metrics = ap s.pending one.here ∙ sym holds.pending
 
-    by : (o : Option Kept) → s.kept path ≡ o → KnowsAs shard path (layout_of s path)
+    by : (o : Option Kept) → s.kept path ≡ o → HasAs desk.table path (layout_of s path)
     by (Some kept) is =
-        subst (λ (layout : LayoutValue). KnowsAs shard path layout) (sym (ap (λ (o : Option Kept). layout_or (s.rules path) o) is))
-        (knows_kept (entry_of shard.table path) kept.layout (holds.kept.layouts path one ∙ ap (λ (o : Option Kept). option_map (λ k. k.layout) o) is))
+        subst (λ (layout : LayoutValue). HasAs desk.table path layout) (sym (ap (λ (o : Option Kept). layout_or (s.rules path) o) is))
+        (knows_kept (entry_of desk.table path) kept.layout (holds.layouts path one ∙ ap (λ (o : Option Kept). option_map (λ k. k.layout) o) is))
     by None is =
         let some = lists.pending path (subst (λ (ms : Metrics). points_of ms path ≢ []) metrics (has_points s path is known)) in
-        let none = holds.kept.layouts path one ∙ ap (λ (o : Option Kept). option_map (λ k. k.layout) o) is in
-        subst (λ (layout : LayoutValue). KnowsAs shard path layout) (sym (ap (λ (o : Option Kept). layout_or (s.rules path) o) is ∙ holds.rules path one.here))
-        (knows_pending shard.class shard path (entry_of shard.table path) some none (lists.entries path))
+        let none = holds.layouts path one ∙ ap (λ (o : Option Kept). option_map (λ k. k.layout) o) is in
+        subst (λ (layout : LayoutValue). HasAs desk.table path layout) (sym (ap (λ (o : Option Kept). layout_or (s.rules path) o) is ∙ holds.rules path one.here))
+        (knows_pending desk path (entry_of desk.table path) some none (lists.entries path))
+
+-- ---- nothing is kept of a metric
+
+bare_entry : (o : Option Known) → IsSomeAnd o (λ known. known.is_kept ≡ false) → layout_kept o ≡ None
+bare_entry None is = absurd is
+bare_entry (Some known) is = rw is refl
+
+no_layout : (o : Option Kept) → option_map (λ k. k.layout) o ≡ None → o ≡ None
+no_layout None none = refl
+no_layout (Some kept) none = absurd (cc none)
 
 -- ---- a read behind the entry of a try
 
-no_entry : (list rest : List Entry) (e : Entry) → list ++ rest ≡ list → Contains rest e → ⊥
-no_entry list [] e is c = absurd (omega (arith, c.1))
-no_entry list (x ∷ rest) e is c = absurd (omega (arith, sym (length-append list (x ∷ rest)) ∙ ap length is))
-
-module _ (table : TableId) (told : ℕ → Option Image) (start : State) (earlier : ℕ → ℕ) (shard : Inside) (failed : ℕ) (tail : TailValue) (keeps : KeepsClass table told start earlier shard failed tail)
-    (lists : Lists shard.class shard.rules shard.cache.metrics shard.table) (old : PassValue) (looked : Looked) (begins : IsPrefix (about_class tail.class old.seen) tail.list)
+module _ (start : State) (desk : DeskInside) (tail : TailValue) (class : tail.class ≡ desk.class) (holds : HoldsDesk desk (replay start tail.list))
+    (lists : Lists desk.class desk.rules desk.cache.metrics desk.table) (old : PassValue) (looked : Looked) (begins : IsPrefix (about_class tail.class old.seen) tail.list)
     (found : IsLookAt (replay start old.seen) looked) (here : class_of looked.path ≡ tail.class) where
   abbrev path : List ℕ
   path = looked.path
@@ -323,40 +333,52 @@ module _ (table : TableId) (told : ℕ → Option Image) (start : State) (earlie
   is_later : later ≡ replay first begins.0
   is_later = ap (replay start) (sym begins.1) ∙ replay-append start (about_class tail.class old.seen) begins.0
 
-  one : IsOfClass shard.class path
-  one = record { legal = look.legal; here = here ∙ keeps.class }
+  one : IsOfClass desk.class path
+  one = record { legal = look.legal; here = here ∙ class }
 
-  pub may_read : MayRead shard looked
-  may_read = record {
+  pub known_at : HasAs desk.table path looked.layout
+  known_at =
+      subst (λ (layout : LayoutValue). HasAs desk.table path layout)
+      (ap (λ (s : State). layout_of s path) is_later ∙ (layout_later first begins.0 path ∙ sym look.layout))
+      (knows_as desk later path lists holds one (subst (λ (s : State). IsKnown s path) (sym is_later) (known_later first begins.0 path look.known)))
+
+  pub may_read : (files : FilesInside) → MayRead (both desk files) looked
+  may_read files = record {
     here = one.here;
-    known = subst (λ (layout : LayoutValue). KnowsAs shard path layout)
-        (ap (λ (s : State). layout_of s path) is_later ∙ (layout_later first begins.0 path ∙ sym look.layout))
-        (knows_as (told shard.class) shard later path lists keeps.holds one (subst (λ (s : State). IsKnown s path) (sym is_later) (known_later first begins.0 path look.known)));
+    known = known_at;
     window = look.readable.window;
     rising = look.readable.rising;
     moments = look.readable.moments;
   }
 
-  drains_are : drains_in shard.table path ≡ later.drains path
-  drains_are = keeps.holds.drains path one
+  drains_are : drains_in desk.table path ≡ later.drains path
+  drains_are = holds.drains path one
 
-  pub shows_at : (values : List (Option ℤ)) → drains_in shard.table path ≡ looked.drains → Shows shard looked values → ShowsAt told (replay start old.seen) looked values
-  shows_at values same shows =
+  -- not drained since the look: what is kept is what was kept then
+  kept_at : drains_in desk.table path ≡ looked.drains → later.kept path ≡ (replay start old.seen).kept path
+  kept_at same =
       let as_before : (replay first begins.0).drains path ≡ first.drains path =
       ap (λ (s : State). s.drains path) (sym is_later) ∙ (sym drains_are ∙ (same ∙ look.drains)) in
-      let kept : later.kept path ≡ (replay start old.seen).kept path =
-      ap (λ (s : State). s.kept path) is_later ∙ (kept_still first begins.0 path as_before ∙ sym (alike.kept path here)) in record {
+      ap (λ (s : State). s.kept path) is_later ∙ (kept_still first begins.0 path as_before ∙ sym (alike.kept path here))
+
+  pub bare_at : drains_in desk.table path ≡ looked.drains → IsKept desk.table path false → (replay start old.seen).kept path ≡ None
+  bare_at same bare = sym (kept_at same) ∙ no_layout (later.kept path) (sym (holds.layouts path one) ∙ bare_entry (entry_of desk.table path) bare)
+
+  pub shows_at : (told : ℕ → Option Image) (files : FilesInside) → Holds (told desk.class) (both desk files) later → (values : List (Option ℤ)) → drains_in desk.table path ≡ looked.drains
+      → Shows (both desk files) looked values → ShowsAt told (replay start old.seen) looked values
+  shows_at told files stands values same shows =
+      let kept : later.kept path ≡ (replay start old.seen).kept path = kept_at same in record {
         pending = shows.pending;
-        bare = λ none. shows.bare (keeps.holds.kept.layouts path one ∙ ap (λ (o : Option Kept). option_map (λ k. k.layout) o) (kept ∙ none));
+        bare = λ none. shows.bare (holds.layouts path one ∙ ap (λ (o : Option Kept). option_map (λ k. k.layout) o) (kept ∙ none));
         kept = subst (λ (k : ℕ). IfSome (told k) (λ opening. values ≡ shown looked.layout (rings_of ((replay start old.seen).kept path)) looked.pending looked.window)) (sym one.here)
-            (subst (λ (o : Option Kept). IfSome (told shard.class) (λ opening. values ≡ shown looked.layout (rings_of o) looked.pending looked.window)) kept
-            (shows.kept (told shard.class) later keeps.holds));
+            (subst (λ (o : Option Kept). IfSome (told desk.class) (λ opening. values ≡ shown looked.layout (rings_of o) looked.pending looked.window)) kept
+            (shows.kept (told desk.class) later stands));
       }
 
-  drained : (drains_in shard.table path ≡ looked.drains → ⊥) → (by : ℕ) × (at : ℕ) × Contains begins.0 (Drain by path at)
+  drained : (drains_in desk.table path ≡ looked.drains → ⊥) → (by : ℕ) × (at : ℕ) × Contains begins.0 (Drain by path at)
   drained apart = drained_in first begins.0 path (λ same. apart (drains_are ∙ (ap (λ (s : State). s.drains path) is_later ∙ (same ∙ sym look.drains))))
 
-  pub was_drained : (new : PassValue) → MarksClass tail.class tail.list old new → (drains_in shard.table path ≡ looked.drains → ⊥) → WasDrained path new
+  pub was_drained : (new : PassValue) → MarksClass tail.class tail.list old new → (drains_in desk.table path ≡ looked.drains → ⊥) → WasDrained path new
   was_drained new marks apart =
       let it = drained apart in
       record {
@@ -367,8 +389,3 @@ module _ (table : TableId) (told : ℕ → Option Image) (start : State) (earlie
         at = it.1;
         drained = it.2;
       }
-
-  pub not_drained : tail.list ≡ about_class tail.class old.seen → (drains_in shard.table path ≡ looked.drains → ⊥) → ⊥
-  not_drained all apart =
-      let it = drained apart in
-      no_entry (about_class tail.class old.seen) begins.0 (Drain it.0 path it.1) (begins.1 ∙ all) it.2

@@ -1,5 +1,5 @@
 -- What the lock of a class keeps stays so with an entry, a run and a settled drain more.
-use Rattle.std.proofs.Common.{◌≡◌, ◌↔◌, ◌∙◌, ℕ, ℤ, ◌<◌, ◌≤◌, ◌+◌, ◌*◌, Bool, true, false, cond, List, [], ◌∷◌, ◌++◌, length, drop, Option, Some, None, IfSome, refl, sym, ap, subst, arith, append_assoc, length-append}
+use Rattle.std.proofs.Common.{◌≡◌, ◌↔◌, ◌∙◌, ℕ, ◌<◌, ◌≤◌, ◌+◌, ◌*◌, Bool, true, false, cond, List, [], ◌∷◌, ◌++◌, length, drop, Option, Some, None, IfSome, refl, sym, ap, subst, arith, append_assoc, length-append}
 use Rattle.std.specs.Prelude.{count_by, filter, is_some, IsSome}
 use Rattle.std.proofs.lemmas.List.Elements.{filter-append}
 use Rattle.std.proofs.lemmas.List.Sums.{sum_by-append}
@@ -8,19 +8,15 @@ use Rattle.atomic_table.specs.Seated.{TableId}
 use Rattle.outside_io.specs.Image.{Image}
 use Rattle.outside_io.specs.Faults.{Rose}
 use Rattle.metric_path.specs.Class.{class_of}
-use Rattle.point_cache.specs.declared.put.Put.{Put}
-use Rattle.point_cache.specs.declared.put.Put.TheVariants as put
 use Rattle.write_shelf.specs.Shelf.{DrainValue, drain_with, marked}
 use Rattle.write_shelf.specs.declared.run.Run.{Run}
 use Rattle.carbon_history.specs.declared.entry.Entry.{Entry}
 use Rattle.carbon_history.specs.declared.entry.Entry.TheVariants as entry
-use Rattle.carbon_history.specs.declared.entry.PutEnd.TheVariants as ends
 use Rattle.carbon_history.specs.Entries.{drains, is_drain}
 use Rattle.carbon_model.specs.State.{State, picked}
 use Rattle.carbon_model.specs.Replay.{after, replay}
 use Rattle.carbon_model.proofs.HistoryLemmas.{replay-append}
 use Rattle.shard_core.specs.Shard.{Holds, Inside, Stays}
-use Rattle.shard_core.specs.Puts.{TakesPoint}
 use Rattle.shard_core.specs.Plans.{Begins, IsUnwritten, PlansTo}
 use Rattle.shard_core.specs.Writes.{WritesTo}
 use Rattle.shard_core.specs.declared.planned.Planned.{Planned}
@@ -31,7 +27,7 @@ use Rattle.shared_history.specs.Parts.{PassValue, TailValue, tail_ran, tail_sett
 use Rattle.shared_history.specs.Rule.{OneOwed}
 use Rattle.shared_store.specs.Desks.{KeepsClass, LastDrains, runs_ahead}
 use Rattle.shared_store.specs.Passes.{HasRoom}
-use Rattle.shared_store.specs.Steps.{plan_entry, put_entry, write_entry}
+use Rattle.shared_store.specs.Steps.{plan_entry, write_entry}
 use Rattle.shared_store.specs.Tails.{MayTell, Owes, OwesBegun, OwesRun, tail_begun, tail_told, tail_wrote}
 use Rattle.shared_store.specs.Tallies.{capped, is_fault}
 

@@ -1,5 +1,5 @@
 -- The metric of a class that goes next and of which nothing is kept.
-use Rattle.std.proofs.Common.{◌≡◌, ◌∙◌, ℕ, ℤ, Bool, true, false, List, Option, Some, None, IfSome, refl, sym, ap, subst}
+use Rattle.std.proofs.Common.{◌≡◌, ◌∙◌, Bool, true, false, List, Option, None, IfSome, refl, sym, ap, subst}
 use Rattle.std.specs.Prelude.{not}
 use Rattle.std.proofs.lemmas.Bool.{false≢true}
 use Rattle.metric_path.specs.Path.{path_fault}
@@ -9,7 +9,7 @@ use Rattle.point_cache.specs.Pending.{points_of}
 use Rattle.drain_order.specs.Pick.{pick}
 use Rattle.carbon_history.specs.declared.entry.Entry.{Entry}
 use Rattle.carbon_history.specs.Entries.{about_class}
-use Rattle.carbon_model.specs.State.{Metrics, SamePart, State, picked, points_in}
+use Rattle.carbon_model.specs.State.{Metrics, SamePart, State, points_in}
 use Rattle.carbon_model.specs.Replay.{replay}
 use Rattle.carbon_model.proofs.PartLemmas.{replay_alike, same_part}
 use Rattle.shared_history.specs.Parts.{TailValue}

@@ -23,3 +23,5 @@ mod FindLemmas
 mod FilesLemmas
 mod BothLemmas
 mod CreateLemmas
+mod PlannedLemmas
+mod WrittenLemmas

@@ -16,7 +16,7 @@ use Rattle.ring_format.specs.Layout.{LayoutValue}
 use Rattle.archive_update.specs.Batch.{step_of}
 use Rattle.series_fetch.specs.declared.range.Window.{Window}
 use Rattle.series_fetch.specs.declared.range.Window.TheVariants.{Empty, Range}
-use Rattle.series_fetch.specs.Window.{IsWindow}
+use Rattle.series_fetch.specs.Window.{HasBuckets, IsWindow}
 use Rattle.series_fetch.specs.Shown.{shown}
 use Rattle.carbon_history.specs.declared.entry.Entry.{Entry}
 use Rattle.carbon_history.specs.declared.entry.Entry.TheVariants.{Drain, Fault}
@@ -227,6 +227,12 @@ pub record ShowsAt (told : ℕ → Option Image) (s : State) (looked : Looked)
   pub kept : IfSome (told (class_of looked.path))
       (λ opening. values
       ≡ shown looked.layout (rings_of (s.kept looked.path)) looked.pending looked.window)
+
+-- The values of a metric of which nothing is kept: what its pending points show, as many as the
+-- window has buckets.
+pub record ShowsBare (looked : Looked) (values : List (Option ℤ)) : Type 0 where
+  pub count : HasBuckets looked.layout looked.window (length values)
+  pub bare : values ≡ shown looked.layout no_rings looked.pending looked.window
 
 -- what each answer of a read tells
 abbrev pub ReadsAt : State → (ℕ → Option Image) → ℕ → Looked

@@ -8,13 +8,14 @@ use shared_history::{Pass, agree, enter_ask, mark, see};
 use std::alloc::AllocError;
 
 impl<N: Named> ClassDesk<N> {
-    ghost use Rattle.std.specs.Prelude.{◌≡◌, ◌≤◌, All, IfOk};
+    ghost use Rattle.std.specs.Prelude.{◌≡◌, ◌≤◌, false, All, IfErr, IfOk, None, Ok};
     ghost use Rattle.metric_index.specs.Found.{IsFitted};
+    ghost use Rattle.metric_path.specs.Class.{class_of};
     ghost use Rattle.path_glob.specs.Faults.{Said};
     ghost use Rattle.carbon_history.specs.Entries.{about_class};
     ghost use Rattle.carbon_model.specs.Replay.{replay};
     ghost use Rattle.shard_core.specs.Looks.{FindsFor, Looks};
-    ghost use Rattle.shared_store.specs.Asking.{IsReadable, MarksClass};
+    ghost use Rattle.shared_store.specs.Asking.{IsLookAt, IsReadable, MarksClass, OnlyLooks, WasDrained};
 
     /// The entries of the class are those that the history has about it. Nothing changes.
     pub(crate) fn agree(&mut self, order: &mut OrderDesk<N>)
@@ -32,6 +33,22 @@ impl<N: Named> ClassDesk<N> {
         ensures desk { self.new ≡ self.old }
     {
         mark(&mut self.tail, pass);
+    }
+
+    /// Whether something is kept of a metric of the class that was looked at when the pass had seen what it sees
+    /// now. At `Err` it was drained since. The pass looks at the class.
+    pub(crate) fn recall(&mut self, pass: &mut Pass, looked: &Looked) -> Result<bool, u64>
+        requires here { class_of looked.now.path ≡ self.old.class }
+        requires one { pass.old.table ≡ N.table }
+        requires look { IsLookAt (replay N.start pass.old.seen) looked.now }
+        ensures looks { OnlyLooks pass.old pass.new }
+        ensures bare { result ≡ Ok false
+            → (replay N.start pass.old.seen).kept looked.now.path ≡ None }
+        ensures moved { IfErr result (λ _. WasDrained looked.now.path pass.new) }
+        ensures desk { self.new ≡ self.old }
+    {
+        mark(&mut self.tail, pass);
+        self.desk.recall(looked)
     }
 
     /// The known metrics of the class that a need's glob fits, in byte order of their paths.

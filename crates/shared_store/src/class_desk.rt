@@ -14,7 +14,7 @@ use std::marker::{Model, PhantomData};
 use std::sync::{Mutex, MutexGuard, Wait};
 
 /// The desk of a class, with its pending points, and the entries about the class. No disk is called while
-/// its lock is held.
+/// its lock is held, but at the last try of a plan.
 #[derive(Drop)]
 pub(crate) struct ClassDesk<N: Named> {
     pub(crate) desk: Desk,

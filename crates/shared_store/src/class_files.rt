@@ -14,7 +14,7 @@ use std::marker::{Model, PhantomData};
 use std::sync::{Mutex, Wait};
 
 /// The files of a class: its disk, and the drain that is being written. Its lock is taken before that of the
-/// class's desk, and a disk is called under it alone.
+/// class's desk, and a disk is called under it, alone but for the last try of a plan.
 #[derive(Drop)]
 pub(crate) struct ClassFiles<D: Disk, N: Named> {
     pub(crate) files: Files<D>,

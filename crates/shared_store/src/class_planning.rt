@@ -13,6 +13,10 @@ use shard_core::Planned;
 use shared_history::{Pass, mark};
 use std::sync::{Mutex, Wait};
 
+/// How often the patch of a drain is made with the desk given back, where points of its metric come meanwhile. Each
+/// time it reads the disk anew; after that the desk is kept while it does, and points of the class wait for it.
+const TRIES_APART: u32 = 8;
+
 impl<D: Disk, N: Named> ClassFiles<D, N> {
     ghost use Rattle.std.specs.Prelude.{◌≡◌, ◌≢◌, false, true, None, IfSome, length};
     ghost use Rattle.carbon_history.specs.Entries.{listed};
@@ -21,7 +25,7 @@ impl<D: Disk, N: Named> ClassFiles<D, N> {
 
     /// Begins the drain of the metric that goes next. The desk is given back while the disk is read, and the
     /// drain begins only if that metric still goes next with the same points. Else it is made again, and
-    /// the third time with the desk locked throughout.
+    /// at last with the desk locked throughout.
     pub(crate) fn plan(
         &mut self,
         rt: &impl Wait,
@@ -43,13 +47,39 @@ impl<D: Disk, N: Named> ClassFiles<D, N> {
         if self.shelved() {
             return self.plan_held(rt, desks, order, pass, now);
         }
-        if let Some(planned) = self.plan_apart(rt, desks, order, pass, now) {
-            return planned;
-        }
-        if let Some(planned) = self.plan_apart(rt, desks, order, pass, now) {
+        if let Some(planned) = self.plan_often(rt, desks, order, pass, now) {
             return planned;
         }
         self.plan_held(rt, desks, order, pass, now)
+    }
+
+    // Begins the drain of the metric that goes next, where none is being written, if that comes to pass at one of
+    // some tries with the desk given back while the disk is read. `None` where it does not. Nothing is entered then.
+    fn plan_often(
+        &mut self,
+        rt: &impl Wait,
+        desks: &[Mutex<ClassDesk<N>>],
+        order: &Mutex<OrderDesk<N>>,
+        pass: &mut Pass,
+        now: u32,
+    ) -> Option<Planned>
+        requires shelved { self.old.shelved ≡ false }
+        requires sixteen { length desks.now ≡ 16 }
+        requires one { pass.old.table ≡ N.table }
+        requires room { HasRoom pass.old }
+        ensures plans { IfSome result (λ planned. PlansAs N.start N.passes self.old.class now
+            planned pass.old pass.new) }
+        ensures busy { IfSome result (λ planned. planned ≢ Planned.Busy) }
+        ensures still { result ≡ None → (pass.new ≡ pass.old) × (self.new ≡ self.old) }
+        ensures class { self.new.class ≡ self.old.class }
+    {
+        for _try in 0..TRIES_APART {
+            match self.plan_apart(rt, desks, order, pass, now) {
+                Some(planned) => return Some(planned),
+                None => {}
+            }
+        }
+        None
     }
 
     // Begins the drain of the metric that goes next, where none is being written, if it goes next still and has

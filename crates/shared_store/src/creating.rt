@@ -45,7 +45,7 @@ impl<D: Disk, N: Named> Store<D, N> {
 
     /// Whether the drain of a class that would begin now makes a ring file: the metric that goes next has
     /// none, in all that the pass sees from now on. A drain that is being written, nothing pending and want
-    /// of memory count as no. No disk is called.
+    /// of memory count as no. No disk is called, and the files of the class are waited for.
     pub fn makes_file_next(&self, rt: &impl Wait, pass: &mut Pass, class: u32) -> bool
         requires class { class < 16 }
         requires one { pass.old.table ≡ N.table }

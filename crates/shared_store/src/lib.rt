@@ -5,6 +5,7 @@
 
 mod ask_fault;
 mod asking;
+mod bare_reading;
 mod call_room;
 mod class_asking;
 mod class_desk;

@@ -6,6 +6,7 @@ ghost use Rattle.found_rows.specs.Rows.{most_points};
 ghost use Rattle.shared_store.specs.Asking.{EndsAs, IsSeriesOf, buckets_of};
 
 use crate::ask_fault::AskFault;
+use crate::bare_reading::values_of_pending;
 use crate::class_files::ClassFiles;
 use crate::found_set::FoundSet;
 use crate::named::Named;
@@ -50,14 +51,47 @@ fn series_of(alloc: Global, looked: &Looked, values: Values) -> Result<Series, A
 }
 
 impl<D: Disk, N: Named> Store<D, N> {
-    ghost use Rattle.std.specs.Prelude.{◌≡◌, ◌<◌, ◌≤◌, ◌+◌, ◌^◌, All, IfOk, length, vec_len};
+    ghost use Rattle.std.specs.Prelude.{◌≡◌, ◌<◌, ◌≤◌, ◌+◌, ◌^◌, false, All, IfErr, IfOk, None, Ok, length, vec_len};
     ghost use Rattle.carbon_model.specs.Replay.{replay};
     ghost use Rattle.shared_history.specs.Parts.{own_entries};
-    ghost use Rattle.shared_store.specs.Asking.{IsLookAt, IsNoMove, IsShortLook, ReadsAll, ReadsOne, ReadsSet};
+    ghost use Rattle.shared_store.specs.Asking.{IsLookAt, IsNoMove, IsShortLook, OnlyLooks, ReadsAll, ReadsOne, ReadsSet, WasDrained};
     ghost use Rattle.shared_store.specs.Held.{AreFilesOf, IsHeld, KeepsFilesHeld};
 
+    // Reads a metric where no lock is held. Where nothing is kept of it, the files of its class are not waited for.
+    fn read_free(
+        &self,
+        rt: &impl Wait,
+        alloc: Global,
+        pass: &mut Pass,
+        looked: &Looked,
+    ) -> Result<Values, TryEnd>
+        requires one { pass.old.table ≡ N.table }
+        requires room { length (own_entries pass.old) + 1 ≤ 2 ^ 48 }
+        requires look { IsLookAt (replay N.start pass.old.seen) looked.now }
+        ensures { ReadsOne N.start N.told N.passes looked.now result pass.old pass.new }
+    {
+        match self.recall(rt, pass, looked) {
+            Ok(true) => self.read_files(rt, pass, looked),
+            Ok(false) => Ok(values_of_pending(alloc, looked)?),
+            Err(_drains) => Err(TryEnd::Moved),
+        }
+    }
+
+    // Whether something is kept of a metric that was looked at. At `Err` it was drained since.
+    fn recall(&self, rt: &impl Wait, pass: &mut Pass, looked: &Looked) -> Result<bool, u64>
+        requires one { pass.old.table ≡ N.table }
+        requires look { IsLookAt (replay N.start pass.old.seen) looked.now }
+        ensures looks { OnlyLooks pass.old pass.new }
+        ensures bare { result ≡ Ok false
+            → (replay N.start pass.old.seen).kept looked.now.path ≡ None }
+        ensures moved { IfErr result (λ _. WasDrained looked.now.path pass.new) }
+    {
+        let mut desk = self.lock_class(rt, looked.path.class());
+        desk.recall(pass, looked)
+    }
+
     // Reads a metric under the lock of the files of its class alone.
-    fn read_free(&self, rt: &impl Wait, pass: &mut Pass, looked: &Looked) -> Result<Values, TryEnd>
+    fn read_files(&self, rt: &impl Wait, pass: &mut Pass, looked: &Looked) -> Result<Values, TryEnd>
         requires one { pass.old.table ≡ N.table }
         requires room { length (own_entries pass.old) + 1 ≤ 2 ^ 48 }
         requires look { IsLookAt (replay N.start pass.old.seen) looked.now }
@@ -97,6 +131,7 @@ impl<D: Disk, N: Named> Store<D, N> {
     fn read_one(
         &self,
         rt: &impl Wait,
+        alloc: Global,
         held: &mut Vec<MutexGuard<'_, ClassFiles<D, N>>>,
         pass: &mut Pass,
         looked: &Looked,
@@ -110,7 +145,7 @@ impl<D: Disk, N: Named> Store<D, N> {
         ensures held { IfOk result (λ values. KeepsFilesHeld pass.old.seen held.old.items held.new.items) }
     {
         if held.is_empty() {
-            return self.read_free(rt, pass, looked);
+            return self.read_free(rt, alloc, pass, looked);
         }
         self.read_held(rt, held, pass, looked)
     }
@@ -135,7 +170,7 @@ impl<D: Disk, N: Named> Store<D, N> {
     {
         let mut set = SeriesSet::new(alloc);
         for looked in found {
-            let values = self.read_one(rt, held, pass, looked)?;
+            let values = self.read_one(rt, alloc, held, pass, looked)?;
             set.push(series_of(alloc, looked, values)?)?;
         }
         Ok(set)

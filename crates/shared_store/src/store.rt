@@ -18,7 +18,7 @@ use std::sync::{Mutex, MutexGuard, Wait};
 /// The desk and the files of each class, each behind a lock of its own, and their one history behind
 /// another. Locks are taken in this order: those of files in rising class, those of desks in rising
 /// class, and that of the history. No disk is called while that of a desk or of the history is held,
-/// but for the ring file that a plan reads.
+/// but for the ring file that a plan reads at its last try.
 #[derive(Drop)]
 pub struct Store<D: Disk, N: Named> {
     pub(crate) order: Mutex<OrderDesk<N>>,

@@ -437,12 +437,17 @@ const B_AND_R: &[&[u8]] = &[b"b", b"r"];
 
 const ASKS_B_AND_R: [Row; 1] = [(Deed::Ask(B_AND_R), End::Shown(&[&[LATER_B], &[R]], 1))];
 
-// Points of the drained metric and of another one are put meanwhile, and their names are asked for.
-const PUTS_HERE: [Row; 5] = [
+const ONLY_R: &[&[u8]] = &[b"r"];
+
+// Points of the drained metric and of another one are put meanwhile, and their names are asked for, the series
+// of the other one, of which nothing is kept, and one that is not there.
+const PUTS_HERE: [Row; 7] = [
     (Deed::Await(0), End::Up),
     (Deed::Put("b", 1, 2), End::Put(Put::Stored)),
     (Deed::PutAll(&[("r", 0, 3)]), End::PutAll(ONE_STORED)),
     (Deed::Names, End::Names(&["b", "r"])),
+    (Deed::Ask(ONLY_R), End::Shown(&[&[R]], 1)),
+    (Deed::Ask(&[b"none"]), End::Shown(&[&[]], 1)),
     (Deed::Raise(1), End::Up),
 ];
 
@@ -454,7 +459,7 @@ const ONE_STORED: PutCounts = PutCounts {
 };
 
 #[test]
-fn points_of_a_class_are_put_while_its_disk_makes_or_writes_a_file(
+fn points_of_a_class_are_put_and_shown_while_its_disk_makes_or_writes_a_file(
     rt: HostRuntime,
 ) -> Result<(), Fail> {
     for stop in [Stop::Create(5), Stop::Write(5)] {
@@ -463,7 +468,7 @@ fn points_of_a_class_are_put_while_its_disk_makes_or_writes_a_file(
             before: &WRITES,
             first: &ASKS_B_AND_R,
             second: &PUTS_HERE,
-            entries: 6,
+            entries: 8,
             tally: tally(3, 1),
         };
         assert_case(&rt, rt.alloc(), &case)?;
@@ -471,18 +476,21 @@ fn points_of_a_class_are_put_while_its_disk_makes_or_writes_a_file(
     Ok(())
 }
 
-// The next drain reads the file, and waits. The point that comes meanwhile is drained with it.
+// The next drain reads the file, and waits. The point that comes meanwhile is drained with it. Meanwhile a metric of
+// which nothing is kept is asked for.
 const PLANS_WITH_LATER: [Row; 4] = [
     (Deed::Plan(5), End::Planned("b")),
     (Deed::Write(5), End::Wrote(Wrote::Finished)),
-    (Deed::Plan(5), End::Planned("idle")),
+    (Deed::Plan(5), End::Planned("r")),
     (Deed::Ask(ONLY_B), End::Shown(&[&[LAST_B]], 1)),
 ];
 
-const PUTS_LATER: [Row; 4] = [
+const PUTS_LATER: [Row; 6] = [
     (Deed::Await(0), End::Up),
     (Deed::Put("b", 2, 7), End::Put(Put::Stored)),
     (Deed::Names, End::Names(&["b"])),
+    (Deed::Put("r", 0, 3), End::Put(Put::Stored)),
+    (Deed::Ask(ONLY_R), End::Shown(&[&[R]], 1)),
     (Deed::Raise(1), End::Up),
 ];
 
@@ -493,8 +501,8 @@ fn a_point_is_put_while_the_plan_of_its_metric_reads(rt: HostRuntime) -> Result<
         before: &PUT_AGAIN,
         first: &PLANS_WITH_LATER,
         second: &PUTS_LATER,
-        entries: 7,
-        tally: tally(3, 2),
+        entries: 10,
+        tally: tally(4, 3),
     };
     assert_case(&rt, rt.alloc(), &case)
 }

@@ -4,13 +4,12 @@ use Rattle.std.specs.Sync.Mutex.{mutex_guard_value, mutex_guard_with_value}
 use Rattle.std.specs.declared.sync.MutexGuard.{MutexGuard}
 use Rattle.std.proofs.lemmas.List.{length-set}
 use Rattle.carbon_history.specs.declared.entry.Entry.{Entry}
-use Rattle.carbon_history.specs.Entries.{about_class}
 use Rattle.shared_store.specs.Asking.{AreDesksOf, IsDeskOf}
 use Rattle.shared_store.specs.Desks.{DeskValue}
 use Rattle.shared_store.specs.Held.{IsFilesOf}
 use Rattle.shared_store.specs.Locks.{FilesValue, OnlyPuts}
 use Rattle.shared_store.proofs.AskPassLemmas.{below_apart, put_one}
-use Rattle.shared_store.proofs.HeldLemmas.{as_many, desk_there}
+use Rattle.shared_store.proofs.HeldLemmas.{as_many}
 use Rattle.shared_store.proofs.asking.meet_all.Goals as goal
 
 pub loop-i-preserved : goal.loop-i-preserved

@@ -1,5 +1,4 @@
-use Rattle.std.proofs.Common.{rules, ◌≡◌, ◌∙◌, ℕ, refl, sym, subst}
-use Rattle.shared_history.specs.Parts.{TailValue}
+use Rattle.std.proofs.Common.{rules, ◌≡◌, ◌∙◌, ℕ, sym}
 use Rattle.shard_core.specs.Halves.{DeskInside, FilesInside, both, desk_of, files_of}
 use Rattle.shared_store.specs.Desks.{KeepsClass}
 use Rattle.shared_store.proofs.BothLemmas.{both_keep}

@@ -1,4 +1,4 @@
-use Rattle.std.proofs.Common.{◌≡◌, ℕ, List, [], ◌∷◌, ◌++◌, take, sym, subst}
+use Rattle.std.proofs.Common.{ℕ, List, [], ◌∷◌, ◌++◌, take, sym, subst}
 use Rattle.carbon_model.specs.Replay.{replay}
 use Rattle.carbon_model.specs.State.{State}
 use Rattle.render_need.specs.declared.need.Need.{Need}

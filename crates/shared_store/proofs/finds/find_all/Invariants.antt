@@ -1,4 +1,4 @@
-use Rattle.std.proofs.Common.{◌≡◌, ℕ, List, take}
+use Rattle.std.proofs.Common.{◌≡◌, List, take}
 use Rattle.std.specs.Prelude.{All}
 use Rattle.carbon_history.specs.declared.entry.Entry.{Entry}
 use Rattle.shared_store.specs.Asking.{AreDesksOf}

@@ -1,4 +1,4 @@
-use Rattle.std.proofs.Common.{rules, ◌≡◌, ℕ, Option, Some, None, sym, subst}
+use Rattle.std.proofs.Common.{rules, ◌≡◌, Option, Some, None, sym, subst}
 use Rattle.metric_path.specs.Path.{path_fault}
 use Rattle.carbon_model.specs.Replay.{replay}
 use Rattle.shared_history.specs.Parts.{TailValue}

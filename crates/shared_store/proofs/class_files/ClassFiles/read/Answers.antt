@@ -1,44 +1,29 @@
-use Rattle.std.proofs.Common.{rules, ◌≡◌, ◌≢◌, ◌∙◌, ℕ, ◌<◌, List, Option, refl, sym, ap, subst}
-use Rattle.std.specs.Prelude.{IsSomeAnd}
+use Rattle.std.proofs.Common.{rules, ◌≡◌, ◌∙◌, ℕ, List, refl, sym, ap, subst}
 use Rattle.metric_path.specs.Class.{class_of}
-use Rattle.metric_index.specs.Index.{entry_of}
 use Rattle.carbon_history.specs.declared.entry.Entry.{Entry}
-use Rattle.carbon_history.specs.declared.entry.Entry.TheVariants.{Fault}
 use Rattle.carbon_history.specs.Entries.{about_class}
 use Rattle.carbon_model.specs.Replay.{replay}
 use Rattle.class_halves.specs.Parts.{HalfValue, half_with, stand_of}
-use Rattle.shared_history.specs.Parts.{TailValue, tail_with}
+use Rattle.shared_history.specs.Parts.{TailValue}
 use Rattle.shard_core.specs.Halves.{AreHalves, DeskInside, FilesInside, both, desk_of, files_of}
 use Rattle.shard_core.specs.Looks.{MayRead}
-use Rattle.shard_core.specs.Reads.{MayFetch}
 use Rattle.shard_core.specs.Shard.{Holds}
-use Rattle.shard_core.specs.Table.{drains_in}
-use Rattle.shared_store.specs.Asking.{MarksClass}
 use Rattle.shared_store.specs.Desks.{KeepsClass}
 use Rattle.shared_store.specs.Locks.{KeepsDesk, KeepsFiles, OnlyPuts}
 use Rattle.shared_store.proofs.AskPassLemmas.{enters_fault, fault_behind, marks_class}
-use Rattle.shared_store.proofs.AskStateLemmas.{may_read, shows_at, was_drained}
+use Rattle.shared_store.proofs.AskStateLemmas.{known_at, may_read, shows_at, was_drained}
 use Rattle.shared_store.proofs.BothLemmas.{both_halves, both_keep, desk_keeps, files_keep}
 use Rattle.shared_store.proofs.ClassLemmas.{keeps_fault}
-use Rattle.shared_store.proofs.HeldLemmas.{drains_held, files_read}
+use Rattle.shared_store.proofs.HeldLemmas.{drains_held}
 use Rattle.shared_store.proofs.class_files.ClassFiles.read.Goals as goal
 
 pub recall-recalled-requires : goal.recall-recalled-requires
 recall-recalled-requires g c =
     let n = g.N.Named in
-    let f = c.self.inside in
     let d = c.desk.inside in
-    let desk : DeskInside = desk_of d.desk in
-    let files : FilesInside = files_of {d = g.D.Disk} f.files in
-    let failed : ℕ = g.D.Disk.faults f.files.disk in
     let looked = c.args.looked.now in
-    let here : f.files.class ≡ d.desk.class = search rules in
     let at : class_of looked.path ≡ d.tail.class = search rules in
-    let keeps : KeepsClass n.table n.told n.start n.faults (both desk files) failed d.tail =
-    both_keep n.table n.halves n.told n.start n.faults desk files failed d.half f.half d.tail here c.meet.ensures.same c.desk.invariant c.self.invariant in
-    let may : MayRead (both desk files) looked =
-    may_read n.table n.told n.start n.faults (both desk files) failed d.tail keeps d.desk.listed c.args.pass.now looked c.mark.ensures.begins c.requires.look at in
-    may.known
+    known_at n.start (desk_of d.desk) d.tail c.desk.invariant.class c.desk.invariant.holds d.desk.listed c.args.pass.now looked c.mark.ensures.begins c.requires.look at
 
 pub fetch_looked-requires : goal.fetch_looked-requires
 fetch_looked-requires g c =
@@ -51,10 +36,8 @@ fetch_looked-requires g c =
     let looked = c.args.looked.now in
     let here : f.files.class ≡ d.desk.class = search rules in
     let at : class_of looked.path ≡ d.tail.class = search rules in
-    let keeps : KeepsClass n.table n.told n.start n.faults (both desk files) failed d.tail =
-    both_keep n.table n.halves n.told n.start n.faults desk files failed d.half f.half d.tail here c.meet.ensures.same c.desk.invariant c.self.invariant in
     let may : MayRead (both desk files) looked =
-    may_read n.table n.told n.start n.faults (both desk files) failed d.tail keeps d.desk.listed c.args.pass.now looked c.mark.ensures.begins c.requires.look at in
+    may_read n.start desk d.tail c.desk.invariant.class c.desk.invariant.holds d.desk.listed c.args.pass.now looked c.mark.ensures.begins c.requires.look at files in
     let halves : AreHalves desk files = both_halves n.table n.halves n.told n.start n.faults desk files failed d.half f.half d.tail here c.meet.ensures.same c.desk.invariant c.self.invariant in
     record { desk = desk; may = record { halves = halves; may = may; kept = c.in-Ok.ensures.kept } }
 
@@ -72,31 +55,24 @@ returns-in-Ok-fetch_looked-clause-reads g c =
     let keeps : KeepsClass n.table n.told n.start n.faults (both desk files) failed d.tail =
     both_keep n.table n.halves n.told n.start n.faults desk files failed d.half f.half d.tail here c.meet.ensures.same c.desk.invariant c.self.invariant in
     let may : MayRead (both desk files) looked =
-    may_read n.table n.told n.start n.faults (both desk files) failed d.tail keeps d.desk.listed c.args.pass.now looked c.mark.ensures.begins c.requires.look at in
+    may_read n.start desk d.tail c.desk.invariant.class c.desk.invariant.holds d.desk.listed c.args.pass.now looked c.mark.ensures.begins c.requires.look at files in
     let halves : AreHalves desk files = both_halves n.table n.halves n.told n.start n.faults desk files failed d.half f.half d.tail here c.meet.ensures.same c.desk.invariant c.self.invariant in
     let marks = marks_class d.tail c.args.pass.now c.mark.new.pass c.mark.ensures.pass c.mark.ensures.later in (
       marks.only,
-      shows_at n.table n.told n.start n.faults (both desk files) failed d.tail keeps d.desk.listed c.args.pass.now looked c.mark.ensures.begins
-          c.requires.look at c.in-Ok-fetch_looked.values c.in-Ok.ensures.same
+      shows_at n.start desk d.tail c.desk.invariant.class c.desk.invariant.holds d.desk.listed c.args.pass.now looked c.mark.ensures.begins
+          c.requires.look at n.told files keeps.holds c.in-Ok-fetch_looked.values c.in-Ok.ensures.same
           (c.in-Ok-fetch_looked.ensures.shows desk (record { halves = halves; may = may; kept = c.in-Ok.ensures.kept })),
     )
 
 pub returns-in-Err-clause-reads : goal.returns-in-Err-clause-reads
 returns-in-Err-clause-reads g c =
     let n = g.N.Named in
-    let f = c.self.inside in
     let d = c.desk.inside in
-    let desk : DeskInside = desk_of d.desk in
-    let files : FilesInside = files_of {d = g.D.Disk} f.files in
-    let failed : ℕ = g.D.Disk.faults f.files.disk in
     let looked = c.args.looked.now in
-    let here : f.files.class ≡ d.desk.class = search rules in
     let at : class_of looked.path ≡ d.tail.class = search rules in
-    let keeps : KeepsClass n.table n.told n.start n.faults (both desk files) failed d.tail =
-    both_keep n.table n.halves n.told n.start n.faults desk files failed d.half f.half d.tail here c.meet.ensures.same c.desk.invariant c.self.invariant in
     let marks = marks_class d.tail c.args.pass.now c.mark.new.pass c.mark.ensures.pass c.mark.ensures.later in (
       marks.only,
-      was_drained n.table n.told n.start n.faults (both desk files) failed d.tail keeps d.desk.listed c.args.pass.now looked c.mark.ensures.begins
+      was_drained n.start (desk_of d.desk) d.tail c.desk.invariant.class c.desk.invariant.holds d.desk.listed c.args.pass.now looked c.mark.ensures.begins
           c.requires.look at c.mark.new.pass marks (λ same. c.in-Err.ensures.moved.1 (sym c.in-Err.ensures.moved.0 ∙ same)),
     )
 

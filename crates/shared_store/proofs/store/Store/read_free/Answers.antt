@@ -1,12 +1,7 @@
-use Rattle.std.proofs.Common.{rules, ◌≡◌, ℕ, subst}
-use Rattle.metric_path.specs.Class.{class_of}
-use Rattle.shared_store.specs.Asking.{EndsAs}
-use Rattle.shared_store.proofs.AskReadLemmas.{reads_one}
+use Rattle.shared_store.proofs.AskReadLemmas.{one_behind}
 use Rattle.shared_store.proofs.store.Store.read_free.Goals as goal
 
-pub returns : goal.returns
-returns g c =
+pub returns-in-Ok-true : goal.returns-in-Ok-true
+returns-in-Ok-true g c =
     let n = g.N.Named in
-    let here : c.class-class.result ≡ class_of c.args.looked.now.path = search rules in
-    reads_one n.start n.told n.passes c.args.looked.now c.read-read.result c.end_of.result c.args.pass.now c.read-read.new.pass
-    (subst (λ (k : ℕ). EndsAs k c.read-read.result c.end_of.result) here c.end_of.ensures) c.read-read.ensures.reads
+    one_behind n.start n.told n.passes c.args.looked.now c.read_files.result c.args.pass.now c.recall.new.pass c.read_files.new.pass c.recall.ensures.looks c.read_files.ensures
