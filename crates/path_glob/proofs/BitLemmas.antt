@@ -68,10 +68,10 @@ both_bits (suc zero) (suc zero) p q = refl
 both_bits (suc (suc x)) y p q = absurd (omega (arith, p))
 both_bits x (suc (suc y)) p q = absurd (omega (arith, q))
 
-either_held : (x y i : ℕ) → (bit_at (bit_or x y) i == 1) ≡ ((bit_at x i == 1) || (bit_at y i == 1))
+pub either_held : (x y i : ℕ) → (bit_at (bit_or x y) i == 1) ≡ ((bit_at x i == 1) || (bit_at y i == 1))
 either_held x y i = ap (λ (b : ℕ). b == 1) (bit_at_or x y i) ∙ either_bit (bit_at x i) (bit_at y i) (bit_at-lt x i) (bit_at-lt y i)
 
-both_held : (x y i : ℕ) → (bit_at (bit_and x y) i == 1) ≡ ((bit_at x i == 1) && (bit_at y i == 1))
+pub both_held : (x y i : ℕ) → (bit_at (bit_and x y) i == 1) ≡ ((bit_at x i == 1) && (bit_at y i == 1))
 both_held x y i = ap (λ (b : ℕ). b == 1) (bit_at_and x y i) ∙ both_bits (bit_at x i) (bit_at y i) (bit_at-lt x i) (bit_at-lt y i)
 
 pub joined_word : (f : ℕ → ℕ → ℕ) (xs ys : List ℕ) (k : ℕ) → f 0 0 ≡ 0 → length xs ≡ length ys → get_or (joined f xs ys) k 0 ≡ f (get_or xs k 0) (get_or ys k 0)
@@ -146,7 +146,7 @@ done_more test old new i here others done = (
 )
 
 -- words that have no bit
-no_bits : (x y : ℕ) → bit_or x y ≡ 0 → (x ≡ 0) × (y ≡ 0)
+pub no_bits : (x y : ℕ) → bit_or x y ≡ 0 → (x ≡ 0) × (y ≡ 0)
 no_bits x y e = (omega (arith, e, le_or_l x y), omega (arith, e, le_or_r x y))
 
 pub none_of_four : (ws : List ℕ) (j : ℕ) → j < 256 → bit_or (bit_or (bit_or (get_or ws 0 0) (get_or ws 1 0)) (get_or ws 2 0)) (get_or ws 3 0) ≡ 0 → bit_of ws j ≡ false
@@ -265,7 +265,7 @@ BitBefore ws j = (i : ℕ) × (i ≤ j) × (bit_of ws i ≡ true)
 is_set : (n : ℕ) → n ≡ 1 → (n == 1) ≡ true
 is_set n e = ap (λ (x : ℕ). x == 1) e
 
-past_of : (before w : ℕ) → 0 < bit_or before w → (0 < before) ⊎ (0 < w)
+pub past_of : (before w : ℕ) → 0 < bit_or before w → (0 < before) ⊎ (0 < w)
 past_of (suc before) w e = inl (omega arith)
 past_of zero w e = inr (subst (λ (n : ℕ). 0 < n) (or_zero_l w) e)
 

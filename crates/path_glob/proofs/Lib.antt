@@ -8,3 +8,8 @@ mod PlaceLemmas
 mod PositionLemmas
 mod SearchLemmas
 pub mod StretchLemmas
+mod WordLemmas
+mod StateLemmas
+mod RunLemmas
+mod TableLemmas
+mod GroupLemmas

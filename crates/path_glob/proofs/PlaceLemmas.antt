@@ -18,7 +18,7 @@ any_default [] i d e within = absurd (omega (arith, within))
 any_default (x ∷ xs) zero d e within = refl
 any_default (x ∷ xs) (suc i) d e within = any_default xs i d e (omega (arith, within))
 
-differs : (x y : ℕ) → (x ≡ y → ⊥) → (x == y) ≡ false
+pub differs : (x y : ℕ) → (x ≡ y → ⊥) → (x == y) ≡ false
 differs x y other = at (x == y) refl where
   at : (same : Bool) → (x == y) ≡ same → (x == y) ≡ false
   at true e = absurd (other (eqb-true x y e))

@@ -12,7 +12,7 @@ use Rattle.path_glob.specs.Glob.{Simple, AnyRow, Piece, Plain, Braces, Covers, N
 use Rattle.path_glob.specs.Positions.{Adds, Leads}
 
 -- what stands before the rest of a node is as long as the way to it
-lengths : (node bytes : List ℕ) (i j : ℕ) → i ≤ length node → j ≤ length node → drop i node ≡ bytes ++ drop j node → i + length bytes ≡ j
+pub lengths : (node bytes : List ℕ) (i j : ℕ) → i ≤ length node → j ≤ length node → drop i node ≡ bytes ++ drop j node → i + length bytes ≡ j
 lengths node bytes i j low high is =
     omega (arith, ap length is, length-append bytes (drop j node), length-drop i node, length-drop j node)
 
@@ -108,11 +108,11 @@ leads_none node a none j within = (
 abbrev pub OneByte : (ℕ → Bool) → List ℕ → Type 0
 OneByte test bytes = (b : ℕ) × (bytes ≡ b ∷ []) × (test b ≡ true)
 
-and_true : (x y : Bool) → (x && y) ≡ true → (x ≡ true) × (y ≡ true)
+pub and_true : (x y : Bool) → (x && y) ≡ true → (x ≡ true) × (y ≡ true)
 and_true true y e = (refl, e)
 and_true false y e = absurd cc
 
-both_true : (x y : Bool) → x ≡ true → y ≡ true → (x && y) ≡ true
+pub both_true : (x y : Bool) → x ≡ true → y ≡ true → (x && y) ≡ true
 both_true x y e f = rw e f
 
 -- what one byte is that comes before the rest of a node
@@ -139,12 +139,12 @@ leads_one_byte test node a b first next (suc k) within =
           ap b e ∙ here ∙ both_true (a k) (test (get_or node k 0)) (subst (λ (i : ℕ). a i ≡ true) place w.3) (ap test byte ∙ w.5.2),
     )
 
-to_piece : (set : ByteSet) (bytes : List ℕ) → OneByte (covers_byte set) bytes → Covers (simple_said (Byte set)) bytes
+pub to_piece : (set : ByteSet) (bytes : List ℕ) → OneByte (covers_byte set) bytes → Covers (simple_said (Byte set)) bytes
 to_piece (One x) bytes (b, is, same) = is ∙ ap (λ (y : ℕ). y ∷ []) (eqb-true b x same)
 to_piece Any bytes (b, is, same) = (b, is)
 to_piece (Members members) bytes (b, is, same) = (b, is, same)
 
-from_piece : (set : ByteSet) (bytes : List ℕ) → Covers (simple_said (Byte set)) bytes → OneByte (covers_byte set) bytes
+pub from_piece : (set : ByteSet) (bytes : List ℕ) → Covers (simple_said (Byte set)) bytes → OneByte (covers_byte set) bytes
 from_piece (One x) bytes is = (x, is, same_byte x)
 from_piece Any bytes (b, is) = (b, is, refl)
 from_piece (Members members) bytes (b, is, same) = (b, is, same)
@@ -155,11 +155,11 @@ pub leads_byte : (set : ByteSet) (node : List ℕ) (a b : ℕ → Bool) → b 0 
 leads_byte set node a b first next =
     leads_alike node a b (to_piece set) (from_piece set) (leads_one_byte (covers_byte set) node a b first next)
 
-either_true : (x y : Bool) → (x || y) ≡ true → (x ≡ true) ⊎ (y ≡ true)
+pub either_true : (x y : Bool) → (x || y) ≡ true → (x ≡ true) ⊎ (y ≡ true)
 either_true true y e = inl refl
 either_true false y e = inr e
 
-one_true : (x y : Bool) → (x ≡ true) ⊎ (y ≡ true) → (x || y) ≡ true
+pub one_true : (x y : Bool) → (x ≡ true) ⊎ (y ≡ true) → (x || y) ≡ true
 one_true x y (inl e) = rw e refl
 one_true true y (inr e) = refl
 one_true false y (inr e) = e

@@ -8,3 +8,7 @@ pub mod Steps
 pub mod Laws
 pub mod Stretch
 pub mod Search
+pub mod States
+pub mod Bits
+pub mod Tables
+pub mod Groups

@@ -130,8 +130,8 @@ fn after_node(pieces: &[u8], node: &Node<'_>, start: Positions) -> Positions
     after_row(rest, node, reached)
 }
 
-// The same over what one of the values between braces covers.
-fn after_values(values: &[u8], node: &Node<'_>, start: Positions) -> Positions
+/// The same over what one of the values between braces covers.
+pub(crate) fn after_values(values: &[u8], node: &Node<'_>, start: Positions) -> Positions
     requires { length node.now ≤ 240 }
     ensures { Leads (SomeCovers (values_of values.now)) node.now (held start) (held result) }
 {
@@ -144,8 +144,8 @@ fn after_values(values: &[u8], node: &Node<'_>, start: Positions) -> Positions
     reached.with(after_row(rest, node, start))
 }
 
-// The same over what a row of simple pieces covers.
-fn after_row(row: &[u8], node: &Node<'_>, start: Positions) -> Positions
+/// The same over what a row of simple pieces covers.
+pub(crate) fn after_row(row: &[u8], node: &Node<'_>, start: Positions) -> Positions
     requires { length node.now ≤ 240 }
     ensures { Leads (RowCovers (row_of row.now)) node.now (held start) (held result) }
 {

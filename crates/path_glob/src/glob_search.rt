@@ -13,8 +13,8 @@ use metric_path::MetricPath;
 use std::alloc::{AllocError, Global};
 use std::marker::Model;
 
-/// One glob over many paths: each node of a path is tried once, and what came of it is remembered where the
-/// glob's node is long and has wildcards; and the work is counted.
+/// One glob over many paths: a long pattern of a node is made ready once and then goes over the bytes of each node;
+/// of one with many short parts what came of each node that was tried is remembered; and the work is counted.
 #[derive(Drop)]
 pub struct GlobSearch<'a> {
     glob: &'a Glob,
@@ -52,8 +52,8 @@ impl<'a> GlobSearch<'a> {
     /// is spent; the search is as before, and may go on.
     ///
     /// Each node of the path that is looked at takes work, 4 at least: as much as its pattern has bytes where it is held against it, and more
-    /// where these are lists or few, or less where it is remembered. No work is taken where the path begins otherwise than the glob up to its
-    /// first wildcard.
+    /// where these are lists or few, or less where it is remembered; a long pattern takes some of its bytes for each byte of the node, and more
+    /// the first time. No work is taken where the path begins otherwise than the glob up to its first wildcard.
     pub fn matches(&mut self, work: &mut Work, path: &MetricPath) -> Result<bool, AllocError>
         ensures fits { IfOk result (λ fits. IsTrue fits ↔ Fits self.old.nodes (nodes_of path.now)) }
         ensures same { self.new ≡ self.old }

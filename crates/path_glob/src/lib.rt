@@ -10,19 +10,25 @@
 //! - `{` values `}`, one of the values, which commas separate: each is a row of the pieces above, and may
 //!   have none.
 //!
-//! [`Glob::matches`] holds a glob against one path. [`GlobSearch`] holds it against many, remembers what came of
-//! the nodes whose trying takes long, and counts its [`Work`].
+//! [`Glob::matches`] holds a glob against one path. [`GlobSearch`] holds it against many, makes long patterns ready
+//! for that or remembers what came of the nodes whose trying takes long, and counts its [`Work`].
 
+mod automaton;
+mod bits;
 mod check;
 mod cover;
 mod cut;
 mod fault;
 mod glob;
 mod glob_search;
+mod groups;
+mod hold_work;
 mod laws;
 mod node_search;
 mod places;
 mod positions;
+mod states;
+mod tables;
 #[cfg(test)]
 mod tests;
 mod work;

@@ -3,7 +3,9 @@ ghost use Rattle.std.specs.Prelude.{◌≡◌, ◌+◌, ◌≤◌, ◌↔◌, If
 ghost use Rattle.path_glob.specs.Glob.{NodeCovers};
 ghost use Rattle.path_glob.specs.Reading.{pieces_of};
 
-use crate::cover::{MANY_PIECES, literal_front, node_fits};
+use crate::cover::{literal_front, node_fits};
+use crate::groups::Groups;
+use crate::hold_work::{HoldWork, long_groups, ready_work};
 use crate::work::Work;
 use std::alloc::{AllocError, Global};
 use std::collections::HashMap;
@@ -18,26 +20,31 @@ const NODE_WORK: u64 = 4;
 // What it takes to look for a node among those that were tried, or to enter it there.
 const TRIED_WORK: u64 = 32;
 
-/// A node of a glob, with what came of the nodes of paths that were tried, where trying takes long.
+/// A node of a glob. Where trying takes long, the long groups of its pattern are made ready for many nodes of
+/// paths; where it has none, what came of those that were tried is kept.
 #[derive(Drop)]
 pub(crate) struct NodeSearch<'a> {
     alloc: Global,
     pieces: &'a [u8],
+    is_long: bool,
     is_kept: bool,
-    work: u64,
-    wide: u64,
+    work: HoldWork,
+    groups: Option<Groups<'a>>,
     tried: HashMap<Vec<u8>, bool>,
 }
 
 impl<'a> Model for NodeSearch<'a> {
-    ghost use Rattle.std.specs.Prelude.{List, ℕ};
+    ghost use Rattle.std.specs.Prelude.{IfSome, List, ℕ};
+    ghost use Rattle.path_glob.specs.Groups.{AreGroups};
+    ghost use Rattle.path_glob.specs.Reading.{pieces_of};
     ghost use Rattle.path_glob.specs.Search.{AreVerdicts};
 
     ghost Value = { List ℕ };
 
     ghost view = { λ s. s.pieces.now };
 
-    ghost invariant = { λ s. AreVerdicts s.pieces.now s.tried.entries };
+    ghost invariant = { λ s. AreVerdicts s.pieces.now s.tried.entries
+        × IfSome s.groups (λ groups. AreGroups groups (pieces_of s.pieces.now)) };
 }
 
 impl<'a> NodeSearch<'a> {
@@ -45,20 +52,23 @@ impl<'a> NodeSearch<'a> {
     pub(crate) fn new(alloc: Global, pieces: &'a [u8]) -> NodeSearch<'a>
         ensures { result ≡ pieces.now }
     {
-        let is_literal = literal_front(pieces).len() == pieces.len();
+        let front = literal_front(pieces).len();
+        let is_long = long_groups(&pieces[front..]) > 0;
         NodeSearch {
             alloc,
             pieces,
-            is_kept: pieces.len() > MOST_UNKEPT_BYTES && !is_literal,
-            work: work_of_pieces(pieces),
-            wide: wide_bytes(pieces),
+            is_long,
+            is_kept: !is_long && front < pieces.len() && pieces.len() > MOST_UNKEPT_BYTES,
+            work: HoldWork::of_node(pieces),
+            groups: None,
             tried: HashMap::new(alloc),
         }
     }
 
     /// Whether the pieces cover a node. The work is at least 4, and grows with what is done: the node is cut out and
     /// looked for among those that were tried; or the bytes of the pieces, with one more for each value of braces, are held against it, some
-    /// of them against each of its bytes.
+    /// of them against each of its bytes; or, where these are many, the words that hold their states are. The first time the pieces are made
+    /// ready for that.
     pub(crate) fn covers(&mut self, work: &mut Work, node: &[u8]) -> Result<bool, AllocError>
         requires { length node.now ≤ 240 }
         ensures covers { IfOk result (λ covers. IsTrue covers
@@ -68,6 +78,10 @@ impl<'a> NodeSearch<'a> {
         ensures spends { OnOk result (work.new.left + 4 ≤ work.old.left) }
     {
         work.spend(work_of(node))?;
+        if self.is_long {
+            self.make_ready(work)?;
+            return self.hold_groups(work, node);
+        }
         if !self.is_kept {
             return self.hold(work, node);
         }
@@ -78,15 +92,44 @@ impl<'a> NodeSearch<'a> {
         self.try_node(work, node)
     }
 
-    // Whether the pieces cover a node, against which they are held.
+    // Makes the groups ready, where they are not.
+    fn make_ready(&mut self, work: &mut Work) -> Result<(), AllocError>
+        ensures same { self.new ≡ self.old }
+        ensures falls { work.new.left ≤ work.old.left }
+    {
+        if self.groups.is_some() {
+            return Ok(());
+        }
+        work.spend(ready_work(self.pieces))?;
+        let groups = Groups::new(self.alloc, self.pieces)?;
+        self.work = groups.work();
+        self.groups = Some(groups);
+        Ok(())
+    }
+
+    // Whether the pieces cover a node, against which they are held as groups.
+    fn hold_groups(&mut self, work: &mut Work, node: &[u8]) -> Result<bool, AllocError>
+        requires { length node.now ≤ 240 }
+        ensures covers { IfOk result (λ covers. IsTrue covers
+            ↔ NodeCovers (pieces_of self.old) node.now) }
+        ensures same { self.new ≡ self.old }
+        ensures falls { work.new.left ≤ work.old.left }
+    {
+        work.spend(self.work.for_bytes(node.len()))?;
+        match &mut self.groups {
+            Some(groups) => return Ok(groups.cover(node)),
+            None => return Ok(node_fits(self.pieces, node)),
+        }
+    }
+
+    // Whether the pieces cover a node, against which they are held as text.
     fn hold(&self, work: &mut Work, node: &[u8]) -> Result<bool, AllocError>
         requires { length node.now ≤ 240 }
         ensures covers { IfOk result (λ covers. IsTrue covers
             ↔ NodeCovers (pieces_of self.now) node.now) }
         ensures falls { work.new.left ≤ work.old.left }
     {
-        let wide = self.wide.saturating_mul(node.len() as u64) / 2;
-        work.spend(wide.saturating_add(self.work))?;
+        work.spend(self.work.for_bytes(node.len()))?;
         Ok(node_fits(self.pieces, node))
     }
 
@@ -110,26 +153,4 @@ fn work_of(node: &[u8]) -> u64
     ensures { 4 ≤ result }
 {
     NODE_WORK.saturating_add(node.len() as u64 / 4)
-}
-
-// What pieces take that are held against a node. A value of braces takes as long as a byte more.
-fn work_of_pieces(pieces: &[u8]) -> u64 {
-    let values = pieces.iter().filter(|b| **b == b',').count();
-    (pieces.len() as u64).saturating_add(values as u64)
-}
-
-// How many bytes of pieces are held against each byte of a node: where there are few, all but wildcards, and else those of lists. A text is
-// compared at once.
-fn wide_bytes(pieces: &[u8]) -> u64 {
-    let front = literal_front(pieces).len();
-    let is_short = pieces.len().saturating_sub(front) < MANY_PIECES;
-    let mut is_list = false;
-    let mut count = 0_u64;
-    for b in &pieces[front..] {
-        is_list = *b == b'[' || (is_list && *b != b']');
-        if is_list || (is_short && *b != b'*' && *b != b'?') {
-            count = count.saturating_add(1);
-        }
-    }
-    count
 }

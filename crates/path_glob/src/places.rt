@@ -72,6 +72,13 @@ impl<'a> Node<'a> {
         }
     }
 
+    /// Its bytes.
+    pub(crate) fn bytes(&self) -> &[u8]
+        ensures { result.now ≡ self.now }
+    {
+        self.bytes
+    }
+
     /// How many bytes it has.
     pub(crate) fn len(&self) -> usize
         ensures { result ≡ length self.now }

@@ -166,8 +166,8 @@ fn onward(before: u64, word: u64) -> u64
     u64::MAX << word.trailing_zeros()
 }
 
-// The bits of a word one place on, behind the last of the word before it.
-fn next_word(word: u64, before: u64) -> u64
+/// The bits of a word one place on, behind the last of the word before it.
+pub(crate) fn next_word(word: u64, before: u64) -> u64
     ensures first { bit_at result 0 ≡ bit_at before 63 }
     ensures next { (i : ℕ) → i < 63 → bit_at result (i + 1) ≡ bit_at word i }
 {
@@ -189,8 +189,8 @@ pub(crate) fn covered(bytes: ByteSet<'_>, node: &[u8]) -> Positions
     found
 }
 
-// Whether a byte is one of these.
-fn is_covered(bytes: ByteSet<'_>, b: u8) -> bool
+/// Whether a byte is one of these.
+pub(crate) fn is_covered(bytes: ByteSet<'_>, b: u8) -> bool
     ensures { result ≡ covers_byte bytes.entry b }
 {
     match bytes {

@@ -7,6 +7,9 @@ use std::test::Fail;
 // A node of 37 bytes with a wildcard.
 const LONG: &[u8] = b"{aaaaaaaaaa,bbbbbbbbbb,cccccccccc,*d}";
 
+// A node with long braces, whose six values are made ready as states of one word.
+const LONGER: &[u8] = b"{*aaaaaaaaaa,bbbbbbbbbb*,ccccc*ccccc,ddddd?ddddd,eeeeeeeeee[0-9],*d}";
+
 // How many of three questions for one path are answered so before the work is spent.
 fn answered(alloc: Global, glob: &[u8], work: u64, path: &[u8], fits: bool) -> Result<u32, Fail> {
     let glob = Glob::new(alloc, glob)?;
@@ -24,7 +27,7 @@ fn answered(alloc: Global, glob: &[u8], work: u64, path: &[u8], fits: bool) -> R
 
 #[test]
 fn a_search_answers_while_its_work_lasts(rt: HostRuntime) -> Result<(), Fail> {
-    let rows: [(&[u8], u64, &[u8], bool, u32); 12] = [
+    let rows: [(&[u8], u64, &[u8], bool, u32); 16] = [
         (b"servers.*.cpu", 23, b"servers.web.cpu", true, 0),
         (b"servers.*.cpu", 24, b"servers.web.cpu", true, 1),
         (b"servers.*.cpu", 72, b"servers.web.cpu", true, 3),
@@ -37,6 +40,10 @@ fn a_search_answers_while_its_work_lasts(rt: HostRuntime) -> Result<(), Fail> {
         (LONG, 148, b"xd", true, 2),
         (LONG, 184, b"xd", true, 3),
         (LONG, 184, b"xe", false, 3),
+        (LONGER, 9925, b"xd", true, 0),
+        (LONGER, 9926, b"xd", true, 1),
+        (LONGER, 9938, b"xd", true, 3),
+        (LONGER, 9938, b"xe", false, 3),
     ];
     for (glob, work, path, fits, wanted) in rows {
         assert_eq!(rt; answered(rt.alloc(), glob, work, path, fits)?, wanted);
@@ -54,5 +61,67 @@ fn a_search_goes_on_with_more_work(rt: HostRuntime) -> Result<(), Fail> {
     assert!(rt; work.left() == 0);
     work = Work::new(112);
     assert!(rt; search.matches(&mut work, &path).ok() == Some(true));
+    Ok(())
+}
+
+// Globs whose braces or rows are long: values beside others, empty ones, stars in a row, lists and any bytes.
+const LONG_GLOBS: [&[u8]; 5] = [
+    b"a{*aaaaaaaaaa,bbbbbbbbbb*,ccccc*ccccc,ddddd?ddddd,eeeeeeeeee[0-9],*d,}{,x}z",
+    b"{aaaaaaaaaaaaaaaaaaaaaaaaaaaaaaaaa,bbbbbbbbbbbbbbbbbbbbbbbbbbbbbbbbbb,a}{,a**b,aaaaaaaaaaaaaaaaaaaaaaaaaaaaaaaaaaaaaaaaaaaaaaaaaaaaaaaaa,??,[a-c]}",
+    b"**a*[a-cx]?*b***c*d*e*f*g*h*i*j*k*l*m*n*o*p*q*r*s*t*u*v*w*x*y*z*a*b*c*d*",
+    b"[a-zaaaaaaaaaaaaaaaaaaaaaaaaaaaaaaaaaaaaaaaaaaaaaaaaaaaaaaaaaaaaaaaaaaaaaaaaa-]{x,y}",
+    b"a.{*,aaaaaaaaaaaaaaaaaaaaaaaaaaaaaaaaaaaaaaaaaaaaaaaaaaaaaaaaaaaaaaaaaaaaaaaaa}.b",
+];
+
+const NODES: [&[u8]; 12] = [
+    b"a",
+    b"az",
+    b"aadz",
+    b"axz",
+    b"aeeeeeeeeee7xz",
+    b"adddddxdddddz",
+    b"aa",
+    b"aaxb",
+    b"bc",
+    b"axqbcdefghijklmnopqrstuvwxyzabcd",
+    b"-x",
+    b"a.q.b",
+];
+
+// Whether a search answers as the glob does that is held against one path.
+fn agrees(alloc: Global, glob: &[u8], path: &[u8]) -> Result<bool, Fail> {
+    let glob = Glob::new(alloc, glob)?;
+    let path = MetricPath::new(alloc, path)?;
+    let mut search = GlobSearch::new(alloc, &glob)?;
+    let mut work = Work::of_question();
+    Ok(search.matches(&mut work, &path).ok() == Some(glob.matches(&path)))
+}
+
+#[test]
+fn a_search_answers_as_its_glob_does(rt: HostRuntime) -> Result<(), Fail> {
+    for glob in LONG_GLOBS {
+        for path in NODES {
+            assert!(rt; agrees(rt.alloc(), glob, path)?);
+        }
+    }
+    Ok(())
+}
+
+// Braces of 4,096 bytes, whose values differ in their ends.
+fn longest_glob(alloc: Global) -> Result<Vec<u8>, Fail> {
+    let mut glob = Vec::from_slice(alloc, b"{")?;
+    for _ in 0..1364 {
+        glob.extend_from_slice(b"*w,")?;
+    }
+    glob.extend_from_slice(b"ab}")?;
+    Ok(glob)
+}
+
+#[test]
+fn the_longest_glob_is_held_against_the_longest_node(rt: HostRuntime) -> Result<(), Fail> {
+    let glob = longest_glob(rt.alloc())?;
+    let node = vec![in rt.alloc(); b'a'; 240]?;
+    assert!(rt; agrees(rt.alloc(), &glob, &node)?);
+    assert!(rt; agrees(rt.alloc(), &glob, b"aw")?);
     Ok(())
 }

@@ -7,4 +7,4 @@ use Rattle.path_glob.proofs.node_search.NodeSearch.covers.Goals as goal
 pub returns-in-Some-clause-covers : goal.returns-in-Some-clause-covers
 returns-in-Some-clause-covers c =
     subst (λ (pieces : List ℕ). Tells c.in-Some.covers.now (NodeCovers (pieces_of pieces) c.args.node.now)) c.self.view_is
-    (c.self.invariant c.args.node.now c.in-Some.covers.now (sym c.in-Some.ensures.value))
+    (c.self.invariant.0 c.args.node.now c.in-Some.covers.now (sym c.in-Some.ensures.value))

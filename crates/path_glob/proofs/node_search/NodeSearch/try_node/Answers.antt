@@ -12,4 +12,4 @@ invariant_of-self-2 c =
     let covers = c.in_ok-covers.covers in
     let held : Tells covers (NodeCovers (pieces_of pieces) c.args.node.now) = subst (λ (p : List ℕ). Tells covers (NodeCovers (pieces_of p) c.args.node.now)) (sym c.self.view_is) c.in_ok-covers.ensures.covers in
     let tells = subst (λ (node : List ℕ). Tells covers (NodeCovers (pieces_of pieces) node)) (sym c.in_ok-tried.ensures.items) held in
-    verdicts_kept pieces key covers c.self.inside.tried.entries c.insert.new.self.entries c.self.invariant tells c.in_ok-insert.ensures.updates.1 c.in_ok-insert.ensures.updates.3
+    (verdicts_kept pieces key covers c.self.inside.tried.entries c.insert.new.self.entries c.self.invariant.0 tells c.in_ok-insert.ensures.updates.1 c.in_ok-insert.ensures.updates.3, c.self.invariant.1)
