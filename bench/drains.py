@@ -39,11 +39,11 @@ ARCHIVES = [(60, 1440), (300, 8640), (3600, 43800)]  # 60s:1d,5m:30d,1h:5y
 
 def make_files(folder, metrics):
     """Empty ring files of three archives, average, half of the values known: sparse, as a drain makes them."""
-    head = struct.pack(">4I", 1, ARCHIVES[-1][0] * ARCHIVES[-1][1], 500_000, len(ARCHIVES))
+    head = struct.pack(">4I", 513, ARCHIVES[-1][0] * ARCHIVES[-1][1], 500_000, len(ARCHIVES))
     offset = 16 + 12 * len(ARCHIVES)
     for step, points in ARCHIVES:
         head += struct.pack(">3I", offset, step, points)
-        offset += 12 * points
+        offset += 20 * points
     for m in range(metrics):
         path = "servers.web%04d.load" % m
         name = os.path.join(folder, "data", "%02d" % class_of(path.encode()), path.replace(".", "/") + ".ring")

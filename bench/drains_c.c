@@ -53,19 +53,19 @@ static void drain(int number, int is_new) {
     int file = open(name, O_RDWR | O_CLOEXEC | O_NOCTTY | (is_new ? O_CREAT | O_TRUNC : 0), 0666);
     need(file >= 0);
     if (is_new) {
-        need(ftruncate(file, 646612) == 0);
+        need(ftruncate(file, 1077652) == 0);
     } else {
-        get(file, 12, 52);
-        get(file, 36, 17296);
-        get(file, 1224, 52);
-        get(file, 12, 17332);
-        get(file, 84, 120928);
-        get(file, 348, 17332);
-        get(file, 12, 121012);
+        get(file, 20, 52);
+        get(file, 60, 28792);
+        get(file, 2040, 52);
+        get(file, 20, 28852);
+        get(file, 140, 201512);
+        get(file, 580, 28852);
+        get(file, 20, 201652);
     }
-    put(file, 1200, 52);
-    put(file, 240, 17332);
-    put(file, 12, 121012);
+    put(file, 2000, 52);
+    put(file, 400, 28852);
+    put(file, 20, 201652);
     if (is_new) put(file, 52, 0);
     close(file);
 }

@@ -182,6 +182,50 @@ def a_file_that_is_put_back_while_it_serves_keeps_its_points():
         want(open(ring, "rb").read(), open(kept, "rb").read(), "the file that was put back")
 
 
+def cells_of(ring):
+    """The cells of a ring file of either version, each its bucket and its thousandths."""
+    with open(ring, "rb") as file:
+        data = file.read()
+    begin, width = 16 + 12 * int.from_bytes(data[12:16], "big"), 20 if data[2] else 12
+    cells = [data[at : at + width] for at in range(begin, len(data), width)]
+    return [(int.from_bytes(cell[:4], "big"), int.from_bytes(cell[4:], "big", signed=True)) for cell in cells]
+
+
+@case
+def files_of_version_1_are_made_anew_with_all_that_they_held():
+    metrics = ["old." + method for method in "average sum last max min avg_zero absmax absmin".split()] + ["ends.both", "ends.late"]
+    with folder() as place:
+        shutil.copytree(os.path.join(HERE, "..", "crates", "carbon", "data"), place, dirs_exist_ok=True)
+        os.rmdir(os.path.join(place, "data", "15", "p.ring"))
+        rings = [path_of(place, metric) for metric in metrics]
+        before = [cells_of(ring) for ring in rings]
+        with serving(place=place) as daemon:
+            # older than all that their archives reach back
+            daemon.send("".join("%s 1 1500000000\n" % metric for metric in metrics))
+            want(settled(lambda: all(open(ring, "rb").read(3) == b"\0\0\2" for ring in rings)), True, "the version of the files")
+            status, line, _ = daemon.stop()
+            want((status, line), (0, "stored 10 replaced 0 full 0 drains 10"), "the stop")
+        want([cells_of(ring) for ring in rings], before, "what the files hold")
+        want([len(cells) > 10 for cells in before], [True] * len(rings), "what they held")
+        with serving(place=place) as daemon:
+            want(daemon.stop()[0], 0, "another start")
+
+
+@case
+def a_file_of_version_1_that_is_put_back_while_it_serves_is_left_alone():
+    with folder() as place:
+        with serving(place=place) as daemon:
+            ring = path_of(place, "d")
+            os.makedirs(os.path.dirname(ring), exist_ok=True)
+            shutil.copy(os.path.join(HERE, "..", "crates", "carbon", "data", "data", "03", "d.ring"), ring)
+            kept = open(ring, "rb").read()
+            daemon.send(point("d"))
+            want(settled(lambda: "a file is there" in daemon.told()), True, "the reason on standard error")
+            want(open(ring, "rb").read(), kept, "the file")
+            daemon.stop()
+        want(open(ring, "rb").read(), kept, "the file behind the stop")
+
+
 @case
 def a_file_that_is_removed_while_it_serves_is_told_and_holds_up_its_class_alone():
     with folder() as place:

@@ -74,9 +74,9 @@ def write_tree(folder):
                 [
                     (MINUTE - 300, float("nan")),
                     (MINUTE - 240, float("-inf")),
-                    (MINUTE - 180, 1e16),
-                    (MINUTE - 120, 9223372036854774.0),
-                    (MINUTE - 60, -9223372036854774.0),
+                    (MINUTE - 180, 1e28),
+                    (MINUTE - 120, 1e27),
+                    (MINUTE - 60, -1e27),
                     (MINUTE, 5e-324),
                 ]
             ],
@@ -95,7 +95,7 @@ def write_tree(folder):
             file.write(data)
     b = [(hour - 7200, "100.0"), (hour - 3600, "0.1"), (coarse - 900, "7.0"), (coarse - 600, "8.25"), (MINUTE - 120, "1.5")]
     b += [(MINUTE - 60, "-0.001"), (MINUTE, "0.333")]
-    limits = [(MINUTE - 120, "9223372036854774.0"), (MINUTE - 60, "-9223372036854774.0"), (MINUTE, "0.0")]
+    limits = [(MINUTE - 120, "1%s.0" % ("0" * 27)), (MINUTE - 60, "-1%s.0" % ("0" * 27)), (MINUTE, "0.0")]
     lines = ["a.b %s %d\n" % (value, moment) for moment, value in b]
     lines += ["a.old 2.0 %d\n" % (coarse - 1200), "a.old 4.0 %d\n" % MINUTE]
     lines += ["limits %s %d\n" % (value, moment) for moment, value in limits]

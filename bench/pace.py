@@ -6,7 +6,7 @@ Usage: bench/pace.py [SECONDS [METRICS [PACE..]]]      (30 seconds, 10,000 metri
 Makes the ring files of so many metrics in a new folder in memory, then runs `carbon serve --pace PACE` there, and sends a point of each metric each
 second, for so many seconds. Prints for each pace how many points were written at once, how many calls that write there were for a point that was
 written, how many microseconds of the processor a point took that came, and which part of the points was pending at the end. A point that is written
-is a cell of twelve bytes, by which they are counted. Nothing timed here is a test. Run ./carbon build first.
+is a cell of twenty bytes, by which they are counted. Nothing timed here is a test. Run ./carbon build first.
 """
 import os
 import socket
@@ -19,7 +19,7 @@ from slow_disk import Daemon
 
 RULES = b"[all]\npattern = .*\nretentions = 1s:1h\n"
 TICKS = os.sysconf("SC_CLK_TCK")
-CELL = 12
+CELL = 20
 
 
 def send(link, metrics, moment):

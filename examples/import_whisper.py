@@ -101,10 +101,10 @@ def thousandths(value):
     if not math.isfinite(value):
         return None
     exact = decimal.Decimal(repr(value))
-    if exact.adjusted() > 18:
+    if exact.adjusted() > 30:
         return None
     rounded = int((exact * 1000).to_integral_value(decimal.ROUND_FLOOR))
-    if not -(2**63) <= rounded < 2**63:
+    if not -(10**30) <= rounded <= 10**30:
         return None
     sign, magnitude = "-" if rounded < 0 else "", abs(rounded)
     text = "%s%d.%03d" % (sign, magnitude // 1000, magnitude % 1000)

@@ -73,7 +73,7 @@ cleared_more old mid new i slots n before (inr over) = subst (λ new. IsCleared 
 -- ---- an empty archive
 
 cell_after : (old new : PatchValue) (i n : ℕ) (slots : List ℕ) (file : List ℕ) (place : ℕ × ℕ) → IsAlike old new → IsCleared old new i slots n
-    → (ring_cell new file place ≡ ring_cell old file place) ⊎ ((place.0 ≡ i) × (ring_cell new file place ≡ (0, pos 0)))
+    → (ring_cell new file place ≡ ring_cell old file place) ⊎ ((place.0 ≡ i) × (ring_cell new file place ≡ (0, Some (pos 0))))
 unfolding ring_cell
 cell_after old new i n slots file place alike cleared =
     elim (cleared.others place) [
@@ -85,11 +85,11 @@ zero_cell : (new : PatchValue) (file : List ℕ) (place : ℕ × ℕ) → cell_a
 unfolding ring_cell
 zero_cell new file place e = rw e refl
 
-zero_still : (old new : PatchValue) (i : ℕ) (file : List ℕ) (place : ℕ × ℕ) → (ring_cell new file place ≡ ring_cell old file place) ⊎ ((place.0 ≡ i) × (ring_cell new file place ≡ (0, pos 0))) → (ring_cell old file place).0 ≡ 0 → (ring_cell new file place).0 ≡ 0
-zero_still old new i file place (inl same) none = ap (λ (cell : ℕ × ℤ). cell.0) same ∙ none
-zero_still old new i file place (inr zeroed) none = ap (λ (cell : ℕ × ℤ). cell.0) zeroed.1
+zero_still : (old new : PatchValue) (i : ℕ) (file : List ℕ) (place : ℕ × ℕ) → (ring_cell new file place ≡ ring_cell old file place) ⊎ ((place.0 ≡ i) × (ring_cell new file place ≡ (0, Some (pos 0)))) → (ring_cell old file place).0 ≡ 0 → (ring_cell new file place).0 ≡ 0
+zero_still old new i file place (inl same) none = ap (λ (cell : ℕ × Option ℤ). cell.0) same ∙ none
+zero_still old new i file place (inr zeroed) none = ap (λ (cell : ℕ × Option ℤ). cell.0) zeroed.1
 
-not_laid : (cell : ℕ × ℤ) → is_laid cell ≡ false → cell.0 ≡ 0
+not_laid : (cell : ℕ × Option ℤ) → is_laid cell ≡ false → cell.0 ≡ 0
 not_laid cell e = elim (eqb_tells cell.0 0) [ inl none ↦ none.1 | inr some ↦ absurd (let clash : true ≡ false = rw some.0 at e in cc) ]
 
 stale_there : (patch : PatchValue) (file : List ℕ) (i : ℕ) (archive : Archive) → slice_get patch.layout.archives i ≡ Some archive
@@ -97,14 +97,14 @@ stale_there : (patch : PatchValue) (file : List ℕ) (i : ℕ) (archive : Archiv
 unfolding stale_slots
 stale_there patch file i archive e = rw e refl
 
-value_by_empty : (archives : List Archive) (cells : ℕ → ℕ × ℤ) (i bucket : ℕ) → (cells 0).0 ≡ 0 → value_by archives cells i bucket ≡ None
+value_by_empty : (archives : List Archive) (cells : ℕ → ℕ × Option ℤ) (i bucket : ℕ) → (cells 0).0 ≡ 0 → value_by archives cells i bucket ≡ None
 value_by_empty archives cells i bucket none = by (slice_get archives i)
   where
     by : (found : Option Archive) → option_and_then (λ archive. value_at archive cells bucket) found ≡ None
     by None = refl
     by (Some archive) = value_empty archive cells bucket none
 
-same_unless : (old new : PatchValue) (i k : ℕ) (file : List ℕ) (slot : ℕ) → k ≢ i → (ring_cell new file (k, slot) ≡ ring_cell old file (k, slot)) ⊎ ((k ≡ i) × (ring_cell new file (k, slot) ≡ (0, pos 0))) → ring_cell new file (k, slot) ≡ ring_cell old file (k, slot)
+same_unless : (old new : PatchValue) (i k : ℕ) (file : List ℕ) (slot : ℕ) → k ≢ i → (ring_cell new file (k, slot) ≡ ring_cell old file (k, slot)) ⊎ ((k ≡ i) × (ring_cell new file (k, slot) ≡ (0, Some (pos 0)))) → ring_cell new file (k, slot) ≡ ring_cell old file (k, slot)
 same_unless old new i k file slot apart (inl same) = same
 same_unless old new i k file slot apart (inr zeroed) = absurd (apart zeroed.0)
 
@@ -129,7 +129,7 @@ prepares_empty old new i slots file archive found alike none stale cleared =
     )
   where
     by : (slot : ℕ) → slot < archive.points → IsPlace old.layout (i, slot) → (b : Bool) → is_laid (ring_cell old file (i, slot)) ≡ b → slots ≡ filter (λ slot. is_laid (ring_cell old file (i, slot))) (range_with_len 0 archive.points)
-        → (ring_cell new file (i, slot) ≡ ring_cell old file (i, slot)) ⊎ ((i ≡ i) × (ring_cell new file (i, slot) ≡ (0, pos 0))) → (ring_cell new file (i, slot)).0 ≡ 0
+        → (ring_cell new file (i, slot) ≡ ring_cell old file (i, slot)) ⊎ ((i ≡ i) × (ring_cell new file (i, slot) ≡ (0, Some (pos 0)))) → (ring_cell new file (i, slot)).0 ≡ 0
     by slot within place true laid listed after =
         let at = found_in (λ slot. is_laid (ring_cell old file (i, slot))) 0 archive.points slot (omega arith) (omega arith) laid in
         let fits : at.0 < length slots = rw listed at.1 in

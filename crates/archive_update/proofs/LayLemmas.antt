@@ -7,7 +7,7 @@ use Rattle.ring_format.specs.declared.archive.Archive.{Archive}
 use Rattle.ring_format.specs.Layout.{LayoutValue, retention_of}
 use Rattle.ring_format.specs.Patch.{Cells, PatchValue, cell_at}
 use Rattle.ring_format.specs.Slot.{slot_of}
-use Rattle.ring_archive.specs.Ring.{Rings, base_of, is_bucket, ring_cell, value_for, value_in, value_of}
+use Rattle.ring_archive.specs.Ring.{Rings, base_of, is_bucket, laid_cell, ring_cell, value_for, value_in, value_of}
 use Rattle.archive_update.specs.Batch.{Values, all_written, step_of, written, with_values, with_writes}
 use Rattle.archive_update.specs.Laid.{IsAlike, IsBucketOf, IsLaid, Lays, Prepares, Writes}
 use Rattle.archive_update.proofs.SlotLemmas.{rebased, slot_agrees, slot_of_base, slot_within}
@@ -15,7 +15,7 @@ use Rattle.archive_update.proofs.SlotLemmas.{rebased, slot_agrees, slot_of_base,
 -- ---- the values of an archive from the cells of its slots
 
 abbrev pub Slots : Type 0
-Slots = ℕ → ℕ × ℤ
+Slots = ℕ → ℕ × Option ℤ
 
 abbrev pub value_at : Archive → Slots → ℕ → Option ℤ
 value_at archive cells bucket =
@@ -40,7 +40,7 @@ same_values old new file i bucket layout same =
 
 -- ---- one cell
 
-pub laid_here : (old new : PatchValue) (place : ℕ × ℕ) (cell : ℕ × ℤ) (file : List ℕ) → IsLaid old new place cell → ring_cell new file place ≡ cell
+pub laid_here : (old new : PatchValue) (place : ℕ × ℕ) (cell : ℕ × ℤ) (file : List ℕ) → IsLaid old new place cell → ring_cell new file place ≡ laid_cell cell
 unfolding ring_cell
 laid_here old new place cell file laid = rw laid.here refl
 
@@ -63,7 +63,7 @@ record Turns (archive : Archive) (old new : Slots) (b slot : ℕ) (place : ℕ �
   own : place b ≡ slot
   agrees : (k : ℕ) → is_bucket k archive ≡ true → (place k == place b) ≡ (k % retention_of archive == b % retention_of archive)
 
-value_for_other : (k : ℕ) (cell : ℕ × ℤ) → cell.0 ≡ 0 → 0 < k → value_for k cell ≡ None
+value_for_other : (k : ℕ) (cell : ℕ × Option ℤ) → cell.0 ≡ 0 → 0 < k → value_for k cell ≡ None
 value_for_other k cell none some = let other : (cell.0 == k) ≡ false = grind (arith, nat_tests) in rw other refl
 
 value_from_base : (archive : Archive) (cells : Slots) (k base : ℕ) → is_bucket k archive ≡ true → (cells 0).0 ≡ base → (base == 0) ≡ false → value_at archive cells k ≡ value_for k (cells (slot_of base k archive))
@@ -84,7 +84,7 @@ record Puts (archive : Archive) (old new : Slots) (base b slot : ℕ) (v : ℤ) 
   first : (old 0).0 ≡ base
   clear : base ≡ 0 → (k : ℕ) → k < archive.points → (old k).0 ≡ 0
   at : slot_of base b archive ≡ slot
-  here : new slot ≡ (b, v)
+  here : new slot ≡ (b, Some v)
   others : (k : ℕ) → k ≢ slot → new k ≡ old k
 
 turns_empty : (archive : Archive) (old new : Slots) (b slot : ℕ) (v : ℤ) → Puts archive old new 0 b slot v → Turns archive old new b slot (λ k. slot_of b k archive)
@@ -92,7 +92,7 @@ turns_empty archive old new b slot v puts =
     let own_bucket = bucket_facts b archive puts.bucket in
     let some = not_zero b own_bucket.0 in
     let first : 0 ≡ slot = puts.at in
-    let base : (new 0).0 ≡ b = ap (λ (k : ℕ). (new k).0) first ∙ ap (λ (cell : ℕ × ℤ). cell.0) puts.here in
+    let base : (new 0).0 ≡ b = ap (λ (k : ℕ). (new k).0) first ∙ ap (λ (cell : ℕ × Option ℤ). cell.0) puts.here in
     record {
       before = λ k bucket.
           let facts = bucket_facts k archive bucket in
@@ -106,7 +106,7 @@ turns_first : (archive : Archive) (old new : Slots) (base b : ℕ) (v : ℤ) →
 turns_first archive old new base b v puts some =
     let own_bucket = bucket_facts b archive puts.bucket in
     let some2 = not_zero b own_bucket.0 in
-    let first : (new 0).0 ≡ b = ap (λ (cell : ℕ × ℤ). cell.0) puts.here in
+    let first : (new 0).0 ≡ b = ap (λ (cell : ℕ × Option ℤ). cell.0) puts.here in
     record {
       before = λ k bucket. value_from_base archive old k base bucket puts.first some;
       after = λ k bucket. value_from_base archive new k b bucket first some2 ∙ ap (λ (s : ℕ). value_for k (new s)) (rebased base b k archive puts.step puts.points some some2 own_bucket.1 (bucket_facts k archive bucket).1 puts.at);
@@ -117,7 +117,7 @@ turns_first archive old new base b v puts some =
 turns_behind : (archive : Archive) (old new : Slots) (base b slot : ℕ) (v : ℤ) → Puts archive old new base b slot v → (base == 0) ≡ false → slot ≢ 0 → Turns archive old new b slot (λ k. slot_of base k archive)
 turns_behind archive old new base b slot v puts some far =
     let own_bucket = bucket_facts b archive puts.bucket in
-    let first : (new 0).0 ≡ base = ap (λ (cell : ℕ × ℤ). cell.0) (puts.others 0 (λ e. far (sym e))) ∙ puts.first in
+    let first : (new 0).0 ≡ base = ap (λ (cell : ℕ × Option ℤ). cell.0) (puts.others 0 (λ e. far (sym e))) ∙ puts.first in
     record {
       before = λ k bucket. value_from_base archive old k base bucket puts.first some;
       after = λ k bucket. value_from_base archive new k base bucket first some;
@@ -136,7 +136,7 @@ written_by archive old new base b slot v place puts turns k = by (is_bucket k ar
     in_slot : is_bucket k archive ≡ true → place k ≡ slot → value_at archive new k ≡ written (retention_of archive) (value_at archive old) (b, v) k
     in_slot bucket there =
         let shares : (k % retention_of archive == b % retention_of archive) ≡ true = sym (turns.agrees k bucket) ∙ grind (arith, nat_tests, turns.own) in
-        let value : value_at archive new k ≡ value_for k (b, v) = turns.after k bucket ∙ ap (λ (s : ℕ). value_for k (new s)) there ∙ ap (value_for k) puts.here in
+        let value : value_at archive new k ≡ value_for k (b, Some v) = turns.after k bucket ∙ ap (λ (s : ℕ). value_for k (new s)) there ∙ ap (value_for k) puts.here in
         value ∙ elim (eqb_tells k b) [
           | inl same ↦ let turned : (b == k) ≡ true = grind (arith, nat_tests) in rw (same.0, turned) refl
           | inr apart ↦ let turned : (b == k) ≡ false = grind (arith, nat_tests) in rw (apart.0, turned, shares) refl
@@ -186,10 +186,10 @@ empty_first base b archive slot at far none = far (sym at ∙ ap (λ (base : ℕ
 base_afterwards : (old new : PatchValue) (i base b slot later : ℕ) (v : ℤ) (file : List ℕ) → IsLaid old new (i, slot) (b, v) → base_of old file i ≡ base → IsBaseAfter base b slot later → base_of new file i ≡ later
 base_afterwards old new i base b slot later v file laid at (inl first) =
     let here = laid_here old new (i, slot) (b, v) file laid in
-    ap (λ (s : ℕ). (ring_cell new file (i, s)).0) (sym first.0) ∙ ap (λ (cell : ℕ × ℤ). cell.0) here ∙ sym first.1
+    ap (λ (s : ℕ). (ring_cell new file (i, s)).0) (sym first.0) ∙ ap (λ (cell : ℕ × Option ℤ). cell.0) here ∙ sym first.1
 base_afterwards old new i base b slot later v file laid at (inr behind) =
     let kept = laid_other old new (i, slot) (i, 0) (b, v) file laid (λ e. behind.0 (sym (ap (λ (p : ℕ × ℕ). p.1) e))) in
-    ap (λ (cell : ℕ × ℤ). cell.0) kept ∙ at ∙ sym behind.1
+    ap (λ (cell : ℕ × Option ℤ). cell.0) kept ∙ at ∙ sym behind.1
 
 some_base : (base b slot later : ℕ) (archive : Archive) → slot_of base b archive ≡ slot → 0 < b → IsBaseAfter base b slot later → later ≢ 0
 some_base base b slot later archive at some (inl first) none = omega arith

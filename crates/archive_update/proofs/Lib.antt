@@ -10,3 +10,4 @@ pub mod SpanLemmas
 pub mod WindowLemmas
 pub mod NearLemmas
 pub mod KnownLemmas
+pub mod CarryLemmas

@@ -1,5 +1,5 @@
 -- The points of one archive after another.
-use Rattle.std.proofs.Common.{◌≡◌, ℕ, ℤ, zero, suc, ◌+◌, ◌-◌, ◌<◌, ◌≤◌, Bool, true, false, cond, nat_le, Option, Some, None, All, inl, inr, List, [], ◌∷◌, length, refl, sym, ap, subst, ◌∙◌, arith}
+use Rattle.std.proofs.Common.{◌≡◌, ℕ, ℤ, zero, suc, ◌+◌, ◌-◌, ◌<◌, ◌≤◌, Bool, true, false, cond, nat_le, Option, Some, None, inl, inr, List, [], ◌∷◌, length, refl, sym, ap, subst, ◌∙◌, arith}
 use Rattle.std.specs.Prelude.{filter}
 use Rattle.std.proofs.lemmas.Bool.{cases_lt}
 use Rattle.std.proofs.lemmas.Bool.Decides.{eqb_tells}
@@ -9,7 +9,7 @@ use Rattle.ring_format.specs.declared.archive.Archive.{Archive}
 use Rattle.ring_format.specs.Layout.{LayoutValue, retention_of}
 use Rattle.ring_format.specs.Patch.{PatchValue}
 use Rattle.ring_archive.specs.Ring.{ReadsAs, Rings}
-use Rattle.archive_update.specs.Batch.{Values, archive_for, is_home, latest_of_each, points_home, step_of, buckets_of_writes, level_writes, bucket_writes, rolled_up, with_writes}
+use Rattle.archive_update.specs.Batch.{Values, archive_for, is_home, latest_of_each, points_home, step_of, buckets_of_writes, level_writes, bucket_writes, rolled_up, with_writes, HaveNoHome}
 use Rattle.archive_update.specs.Laid.{Writes}
 use Rattle.archive_update.specs.Rolled.{HasNoOwn, Plans, PlansFirst, RollsUp}
 use Rattle.archive_update.proofs.OwnLemmas.{some_latest}
@@ -62,24 +62,24 @@ homeless archives time now away = by (archive_for archives now time) refl
     by None e = e
     by (Some k) e = absurd (let at : is_home k (archive_for archives now time) ≡ true = rw e (at_home k) in let far = away k (position-Some (λ archive. nat_le now (time + retention_of archive)) archives k (record { step = 0; points = 0 }) e).0 in let clash : true ≡ false = sym at ∙ far in cc)
 
-pub no_homes : (archives : List Archive) (now : ℕ) (points : List (ℕ × ℤ)) → ((i : ℕ) → i < length archives → bucket_writes archives now i points ≡ []) → All (λ p. archive_for archives now p.0 ≡ None) points
+pub no_homes : (archives : List Archive) (now : ℕ) (points : List (ℕ × ℤ)) → ((i : ℕ) → i < length archives → bucket_writes archives now i points ≡ []) → HaveNoHome archives now points
 unfolding bucket_writes
 no_homes archives now points none = by points (λ i lt. not_latest (step_of archives i) (points_home archives now i points) (none i lt))
   where
-    by : (points : List (ℕ × ℤ)) → ((i : ℕ) → i < length archives → points_home archives now i points ≡ []) → All (λ p. archive_for archives now p.0 ≡ None) points
+    by : (points : List (ℕ × ℤ)) → ((i : ℕ) → i < length archives → points_home archives now i points ≡ []) → HaveNoHome archives now points
     by [] away = All-nil (λ (p : ℕ × ℤ). archive_for archives now p.0 ≡ None)
     by (p ∷ ps) away =
         All-cons (λ (p : ℕ × ℤ). archive_for archives now p.0 ≡ None) p ps
         (homeless archives p.0 now (λ i lt. (some_kept (λ (p : ℕ × ℤ). is_home i (archive_for archives now p.0)) p ps (away i lt)).0))
         (by ps (λ i lt. (some_kept (λ (p : ℕ × ℤ). is_home i (archive_for archives now p.0)) p ps (away i lt)).1))
 
-none_kept : (archives : List Archive) (now i : ℕ) (points : List (ℕ × ℤ)) → All (λ p. archive_for archives now p.0 ≡ None) points → points_home archives now i points ≡ []
+none_kept : (archives : List Archive) (now i : ℕ) (points : List (ℕ × ℤ)) → HaveNoHome archives now points → points_home archives now i points ≡ []
 none_kept archives now i [] all = refl
 none_kept archives now i (p ∷ ps) all =
     let here : archive_for archives now p.0 ≡ None = All-head (λ (p : ℕ × ℤ). archive_for archives now p.0 ≡ None) p ps all in
     rw here (none_kept archives now i ps (All-tail (λ (p : ℕ × ℤ). archive_for archives now p.0 ≡ None) p ps all))
 
-pub no_own : (archives : List Archive) (now i : ℕ) (points : List (ℕ × ℤ)) → All (λ p. archive_for archives now p.0 ≡ None) points → bucket_writes archives now i points ≡ []
+pub no_own : (archives : List Archive) (now i : ℕ) (points : List (ℕ × ℤ)) → HaveNoHome archives now points → bucket_writes archives now i points ≡ []
 unfolding bucket_writes
 no_own archives now i points all = ap (latest_of_each (step_of archives i)) (none_kept archives now i points all)
 

@@ -1,5 +1,5 @@
 -- The batch: what a drain of points makes of the archives of a metric. An archive is a map from buckets to values.
-use Rattle.std.specs.Prelude.{ℕ, zero, suc, ◌+◌, ◌-◌, ◌*◌, ◌/◌, ◌%◌, ◌==◌, ℤ, Bool, false, nat_le, List, [], ◌∷◌, length, map, filter, position, slice_get, unwrap_or, option_map, Option, Some, None, nat_eq, if◌then◌else◌}
+use Rattle.std.specs.Prelude.{◌≡◌, ℕ, zero, suc, ◌+◌, ◌-◌, ◌*◌, ◌/◌, ◌%◌, ◌==◌, ℤ, Bool, false, nat_le, List, [], ◌∷◌, length, map, filter, position, slice_get, unwrap_or, option_map, Option, Some, None, nat_eq, All, if◌then◌else◌}
 use Rattle.std.specs.List.{range_with_len, filter_map, fold, dedup}
 use Rattle.ring_format.specs.declared.archive.Archive.{Archive}
 use Rattle.ring_format.specs.Layout.{LayoutValue, retention_of}
@@ -35,6 +35,10 @@ with_writes archives rings i writes =
 -- the first archive that reaches back far enough from `now`: none for a point that is older than all retentions; the finest for one of the future
 abbrev pub archive_for : List Archive → ℕ → ℕ → Option ℕ
 archive_for archives now time = position (λ archive. nat_le now (time + retention_of archive)) archives
+
+-- none of these points goes to an archive: all are older than what the archives reach back to
+abbrev pub HaveNoHome : List Archive → ℕ → List (ℕ × ℤ) → Type 0
+HaveNoHome archives now points = All (λ p. archive_for archives now p.0 ≡ None) points
 
 abbrev pub is_home : ℕ → Option ℕ → Bool
 is_home i None = false

@@ -1,4 +1,5 @@
 pub mod Batch
+pub mod Carried
 pub mod Laid
 pub mod Buckets
 pub mod Rolled

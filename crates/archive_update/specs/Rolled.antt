@@ -93,11 +93,6 @@ Plans layout now points old new i file = (rings : Rings) → ReadsAs old file ri
 abbrev pub PlansFirst : LayoutValue → ℕ → List (ℕ × ℤ) → PatchValue → PatchValue → ℕ → List ℕ → Type 0
 PlansFirst layout now points old new n file = (rings : Rings) → ReadsAs old file rings → ReadsAs new file (batch_of_first layout now points rings n)
 
--- a patch of a layout that lays nothing yet
-pub record IsUnlaid (given : LayoutValue) (patch : PatchValue) : Type 0 where
-  pub layout : patch.layout ≡ given
-  pub empty : patch.cells ≡ []
-
 -- cells are laid exactly where there are writes
 pub record LaysIf (old new : PatchValue) (writes : List (ℕ × ℤ)) : Type 0 where
   pub filled : new.cells ≡ [] → writes ≡ []

@@ -8,7 +8,7 @@ ghost use Rattle.ring_archive.specs.View.{IsThere, OnRing};
 ghost use Rattle.archive_update.specs.Batch.{step_of};
 ghost use Rattle.archive_update.specs.Laid.{HasWritten, IsAlike, IsBucketOf, IsCleared, IsLaid, IsRing, IsZeroed, Lays, Prepares};
 
-use fixed_num::Milli;
+use fixed_num::{Milli, zero};
 use outside_io::Disk;
 use ring_archive::{RingFault, RingView};
 use ring_format::{Archive, CellWrite, NoMemory, Patch, slot_of};
@@ -124,7 +124,7 @@ fn clear_slot(patch: &mut Patch, archive: u32, slot: u32) -> Result<(), NoMemory
     if !patch.layout().has_slot(archive, slot) {
         return Ok(());
     }
-    lay_cell(patch, archive, slot, 0, 0)
+    lay_cell(patch, archive, slot, 0, zero())
 }
 
 // Lays values under their buckets into an archive with this base, in order.
@@ -174,8 +174,8 @@ fn lay_value(
     Ok(base)
 }
 
-// Lays a cell.
-fn lay_cell(
+/// Lays a cell.
+pub(crate) fn lay_cell(
     patch: &mut Patch,
     archive: u32,
     slot: u32,

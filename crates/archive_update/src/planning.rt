@@ -5,9 +5,9 @@ ghost use Rattle.fixed_num.specs.Moment.{is_moment};
 ghost use Rattle.point_cache.specs.Points.{IsRising};
 ghost use Rattle.ring_archive.specs.Ring.{ReadsAs, Rings};
 ghost use Rattle.ring_archive.specs.View.{IsThere, OnRing};
-ghost use Rattle.archive_update.specs.Batch.{batch, archive_for, bucket_writes};
+ghost use Rattle.archive_update.specs.Batch.{batch, bucket_writes, HaveNoHome};
 ghost use Rattle.archive_update.specs.Laid.{IsAlike};
-ghost use Rattle.archive_update.specs.Rolled.{HasNoOwn, IsUnlaid, LaysIf, Plans, PlansFirst};
+ghost use Rattle.archive_update.specs.Rolled.{HasNoOwn, LaysIf, Plans, PlansFirst};
 
 use crate::laying::write_values;
 use crate::own::bucket_writes;
@@ -15,10 +15,12 @@ use crate::rolling::roll_up;
 use fixed_num::Milli;
 use outside_io::Disk;
 use ring_archive::{BasedArchive, RingFault, RingView};
-use ring_format::Patch;
+use ring_format::{OLD_VERSION, Patch};
 use std::alloc::Global;
 
-/// Plans a drain: lays the points of a metric into its archives, over a patch that lays nothing yet.
+/// Plans a drain: lays the points of a metric into its archives, over a patch that lays nothing
+/// yet, or one into which its file was carried ([`carry`](crate::carry)). Over a file of
+/// version 1 the patch is fresh.
 ///
 /// The points are in rising time, in seconds since 1970, with their values in thousandths; `now` is the moment
 /// of the drain. A point goes to the first archive that reaches back to it from `now`: to the finest where it is
@@ -38,7 +40,8 @@ pub fn plan<D: Disk>(
     points: &[(u32, Milli)],
     now: u32,
 ) -> Result<Patch, (Patch, RingFault)>
-    requires patch { IsUnlaid view.now.layout patch }
+    requires layout { patch.layout ≡ view.now.layout }
+    requires rewrites { view.now.version ≡ OLD_VERSION → patch.fresh ≡ true }
     requires rising { IsRising points.now }
     requires moments { All (λ p. is_moment p.0 ≡ true) points.now }
     requires file { IsThere view.now patch.fresh (D.image disk.old) }
@@ -49,7 +52,7 @@ pub fn plan<D: Disk>(
     ensures alike { MatchResult result (IsAlike patch) (λ refusal. IsAlike patch refusal.0) }
     ensures cells { IfOk result
         (λ new. new.cells ≡ []
-        ↔ All (λ p. archive_for view.now.layout.archives now p.0 ≡ None) points.now) }
+        ↔ (patch.cells ≡ []) × HaveNoHome view.now.layout.archives now points.now) }
     ensures frame { ReadsOnly D.Disk disk.old disk.new
         (IsErrAnd result (λ refusal. refusal.1 ≡ RingFault.DiskFault)) }
 {

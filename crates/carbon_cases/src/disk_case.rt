@@ -11,7 +11,7 @@ use outside_io::{Disk, MemDisk};
 use std::alloc::{AllocError, Global};
 
 // So many bytes hold the files of a few metrics.
-const ROOM: u64 = 2_000_000;
+const ROOM: u64 = 4_000_000;
 
 /// A disk in memory before the run.
 #[derive(Drop)]

@@ -1,10 +1,12 @@
 //! Ring files, as they are said before a run and told after it.
+ghost use Rattle.ring_format.specs.Cell.{IsVersion};
 
 use crate::fault::CaseFault;
 use crate::text::{first_word, number, small_number};
-use fixed_num::{MILLI_TEXT, Milli, print_milli};
+use fixed_num::{MILLI_TEXT, Milli, print_milli, wide};
 use ring_format::{
-    Archive, CELL_BYTES, HEAD_BYTES, Layout, Method, read_cell, read_head, write_head,
+    Archive, HEAD_BYTES, Layout, Method, OLD_VERSION, cell_bytes_in, read_cell, read_head,
+    write_head,
 };
 use std::alloc::{AllocError, Global};
 
@@ -117,13 +119,17 @@ fn archive_of(word: &str) -> Result<Archive, CaseFault> {
     }
 }
 
-/// Tells the layout of a ring file, and each cell that is not empty by its archive, slot, bucket and value.
+/// Tells the layout of a ring file, with its version where that is 1, and each cell that is not
+/// empty by its archive, slot, bucket and value.
 pub fn write_ring(page: &mut String, bytes: &[u8]) -> Result<(), AllocError> {
     let front = bytes.get(..HEAD_BYTES).unwrap_or(bytes);
     match read_head(front, bytes.len() as u64) {
-        Ok(layout) => {
+        Ok((layout, version)) => {
+            if version == OLD_VERSION {
+                page.push_str("version 1 ")?;
+            }
             write_layout(page, &layout)?;
-            write_archives(page, &layout, bytes)
+            write_archives(page, &layout, version, bytes)
         }
         Err(_) => page.push_str("no ring\n"),
     }
@@ -137,10 +143,19 @@ fn write_layout(page: &mut String, layout: &Layout) -> Result<(), AllocError> {
     page.push_str("\n")
 }
 
-fn write_archives(page: &mut String, layout: &Layout, bytes: &[u8]) -> Result<(), AllocError> {
+fn write_archives(
+    page: &mut String,
+    layout: &Layout,
+    version: u32,
+    bytes: &[u8],
+) -> Result<(), AllocError>
+    requires { IsVersion version }
+{
     for number in 0..layout.archive_count() {
-        let cells = bytes.get(layout.offset(number) as usize..).unwrap_or(&[]);
-        write_cells(page, number, cells, layout.archive(number).points)?;
+        let cells = bytes
+            .get(layout.offset_in(number, version) as usize..)
+            .unwrap_or(&[]);
+        write_cells(page, number, version, cells, layout.archive(number).points)?;
     }
     Ok(())
 }
@@ -148,11 +163,18 @@ fn write_archives(page: &mut String, layout: &Layout, bytes: &[u8]) -> Result<()
 fn write_cells(
     page: &mut String,
     archive: u32,
+    version: u32,
     bytes: &[u8],
     points: u32,
-) -> Result<(), AllocError> {
-    for (slot, cell) in bytes.chunks(CELL_BYTES).take(points as usize).enumerate() {
-        if let Some((bucket, value)) = cell_in(cell) {
+) -> Result<(), AllocError>
+    requires { IsVersion version }
+{
+    for (slot, cell) in bytes
+        .chunks(cell_bytes_in(version))
+        .take(points as usize)
+        .enumerate()
+    {
+        if let Some((bucket, value)) = cell_in(version, cell) {
             write!(page, "  {archive} {slot} {bucket} ")?;
             write_value(page, value)?;
             page.push_str("\n")?;
@@ -162,10 +184,15 @@ fn write_cells(
 }
 
 // The bucket and the value of a cell that is not empty.
-fn cell_in(bytes: &[u8]) -> Option<(u32, Milli)> {
-    let cell: &[u8; CELL_BYTES] = bytes.first_chunk()?;
-    let (bucket, value) = read_cell(cell);
-    if bucket == 0 && value == 0 {
+fn cell_in(version: u32, bytes: &[u8]) -> Option<(u32, Milli)>
+    requires { IsVersion version }
+{
+    if bytes.len() != cell_bytes_in(version) {
+        return None;
+    }
+    let (bucket, value) = read_cell(version, bytes);
+    let value = value?;
+    if bucket == 0 && wide(value) == 0 {
         return None;
     }
     Some((bucket, value))

@@ -36,9 +36,11 @@ IsLegal s (Drain pass path now) = picked s (class_of path) ≡ Some path
 IsLegal s (Ask pass number try now) = Unit {0}
 IsLegal s (Fault pass class) = Unit {0}
 
--- what is kept of a metric once its points are drained into its archives, or into empty ones of the layout that it is given where it had none
+-- what is kept of a metric, in version 2, once its points are drained into its archives, or into empty
+-- ones of the layout that it is given where it had none
 abbrev pub kept_after : LayoutValue → Option Kept → ℕ → List (ℕ × ℤ) → Kept
 kept_after given kept now points = record {
+  version = 2;
   layout = layout_or given kept;
   rings = batch (layout_or given kept) now points (rings_of kept);
 }

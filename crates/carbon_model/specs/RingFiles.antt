@@ -21,12 +21,12 @@ pub record IsOfClass (class : ℕ) (path : List ℕ) : Type 0 where
   pub here : class_of path ≡ class
 
 -- what the head of a file says: its first bytes, of which no head has more than 316, and the length of the file
-unfoldable pub head_of : List ℕ → Result LayoutValue HeadFault
+unfoldable pub head_of : List ℕ → Result (LayoutValue × ℕ) HeadFault
 head_of file = head_result (take 316 file) (length file)
 
 -- A file with a head of zero counts as none; one with another fault is damaged.
-abbrev pub is_sound_head : Result LayoutValue HeadFault → Bool
-is_sound_head (Ok layout) = true
+abbrev pub is_sound_head : Result (LayoutValue × ℕ) HeadFault → Bool
+is_sound_head (Ok told) = true
 is_sound_head (Err faults.Zero) = true
 is_sound_head (Err fault) = false
 
@@ -34,8 +34,9 @@ abbrev pub is_sound : List ℕ → Bool
 is_sound file = is_sound_head (head_of file)
 
 -- what is kept in a file with this head
-abbrev pub kept_with : List ℕ → Result LayoutValue HeadFault → Option Kept
-kept_with file (Ok layout) = Some (record { layout = layout; rings = value_of (bare [] layout) file })
+abbrev pub kept_with : List ℕ → Result (LayoutValue × ℕ) HeadFault → Option Kept
+kept_with file (Ok told) =
+    Some (record { version = told.1; layout = told.0; rings = value_of (bare [] told.0) file })
 kept_with file (Err fault) = None
 
 abbrev pub kept_in : List ℕ → Option Kept
@@ -45,12 +46,14 @@ kept_in file = kept_with file (head_of file)
 abbrev pub kept_on : Image → List ℕ → Option Kept
 kept_on image path = option_and_then kept_in (image (file_name_of path))
 
--- two metrics of one layout, whose archives have the same values
+-- two metrics of one version and layout, whose archives have the same values
 abbrev pub SameKept : Option Kept → Option Kept → Type 0
 SameKept None None = Unit {0}
 SameKept None (Some b) = ⊥
 SameKept (Some a) None = ⊥
-SameKept (Some a) (Some b) = (a.layout ≡ b.layout) × ((i bucket : ℕ) → a.rings i bucket ≡ b.rings i bucket)
+SameKept (Some a) (Some b) =
+    (a.version ≡ b.version) × (a.layout ≡ b.layout)
+    × ((i bucket : ℕ) → a.rings i bucket ≡ b.rings i bucket)
 
 -- The disk of a class stands for what is kept: each path of the class has there what is kept of it, no file of the class is damaged, and
 -- every other file is as it was at the opening.
@@ -66,9 +69,11 @@ abbrev pub is_patched : Option PatchValue → List ℕ → Bool
 is_patched None path = false
 is_patched (Some patch) path = bytes_eq patch.path path
 
--- what is kept of the path of a patch: a fresh patch needs no file
+-- what is kept of the path of a patch, in version 2: a fresh patch needs no file, and the file of
+-- another one has that version
 abbrev pub kept_through : PatchValue → Option (List ℕ) → Kept
-kept_through patch held = record { layout = patch.layout; rings = value_of patch (unwrap_or held []) }
+kept_through patch held =
+    record { version = 2; layout = patch.layout; rings = value_of patch (unwrap_or held []) }
 
 -- what is kept of a path on a disk under a patch, where that is of this path
 abbrev pub kept_under : Option PatchValue → Image → List ℕ → Option Kept

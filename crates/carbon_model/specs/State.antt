@@ -11,10 +11,16 @@ use Rattle.ring_archive.specs.Ring.{Rings}
 abbrev pub Metrics : Type 0
 Metrics = List (List ℕ × List (ℕ × ℤ))
 
--- what is kept of a metric that was drained: its layout, and the values of its archives
+-- what is kept of a metric that was drained: the version of its file, its layout, and the values of
+-- its archives
 pub record Kept : Type 0 where
+  pub version : ℕ
   pub layout : LayoutValue
   pub rings : Rings
+
+-- the version and the layout of it
+abbrev pub form_of : Kept → ℕ × LayoutValue
+form_of kept = (kept.version, kept.layout)
 
 pub record State : Type 0 where
   -- of each class, its metrics with pending points, and the paths that its drains take next where they go by a queue

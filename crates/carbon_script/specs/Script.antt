@@ -92,7 +92,8 @@ pub record IsNextWrite (owes : ℕ → Bool) (class : ℕ) : Type 0 where
 
 -- ---- the beginning of a drain
 
--- The next metric is drained. Its class then owes, unless there is nothing to write: something is kept of the metric, and none of its points has a home.
+-- The next metric is drained. Its class then owes, unless there is nothing to write: something is kept of the metric in
+-- version 2, and none of its points has a home.
 pub record PlansMetric (m : Machine) (next : Machine) (said : List ℕ) : Type 0 where
   pub eased : ℕ → Bool
   pub eases : Eased m.owes eased

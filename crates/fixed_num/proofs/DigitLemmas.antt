@@ -60,7 +60,7 @@ digits_value_after_more n ds i digits h =
     ∙ ap (λ d. digits_value_after 10 n (take i ds) * 10 + d) (digit_value_is _ (digit_byte_at ds i digits h)))
 
 -- a number that is capped may be capped on the way
-pub capped_more : (x d : ℕ) → min (min (min x (2 ^ 64 - 1) * 10) (2 ^ 64 - 1) + d) (2 ^ 64 - 1) ≡ min (x * 10 + d) (2 ^ 64 - 1)
+pub capped_more : (x d : ℕ) → min (min (min x (2 ^ 128 - 1) * 10) (2 ^ 128 - 1) + d) (2 ^ 128 - 1) ≡ min (x * 10 + d) (2 ^ 128 - 1)
 capped_more x d = omega arith
 
 -- a front of few digits is a small number

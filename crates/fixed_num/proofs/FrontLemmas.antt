@@ -2,7 +2,7 @@
 use Rattle.std.proofs.Common.{◌≡◌, ℕ, suc, ◌+◌, ◌*◌, ◌/◌, ◌^◌, ◌<◌, ◌≤◌, true, false, List, [], ◌∷◌, ◌++◌, length, take, drop, get_or, All, Some, Ok, eqb, pos, refl, ap, sym, ◌∙◌, arith, lt-ltb}
 use Rattle.std.proofs.Math.Nat.{div-le_self}
 use Rattle.std.proofs.Math.Seq.{take-add, take-append_seam, drop-append-add}
-use Rattle.std.proofs.lemmas.Bool.{and_parts, ne_eqb}
+use Rattle.std.proofs.lemmas.Bool.{and_parts, le-leb, ne_eqb}
 use Rattle.std.proofs.lemmas.Bool.Decides.{nat_tests}
 use Rattle.std.proofs.lemmas.List.{drop_more}
 use Rattle.std.proofs.lemmas.List.Elements.{All-nil, All-cons, All-append}
@@ -11,7 +11,8 @@ use Rattle.std.specs.Char.{is_ascii_digit}
 use Rattle.std.specs.Int.{IsInRange}
 use Rattle.std.specs.Str.Parse.{digits_value, starts_with_minus, without_leading_sign}
 use Rattle.fixed_num.specs.declared.reached.Reached.{Reached}
-use Rattle.fixed_num.specs.Decimal.{is_point, whole_of, fraction_of}
+use Rattle.fixed_num.specs.Decimal.{fits, is_point, whole_of, fraction_of}
+use Rattle.fixed_num.proofs.FitLemmas.{values_are_within}
 use Rattle.fixed_num.specs.Read.{fitting, milli_result, moved, reached_in, reached_parts}
 use Rattle.fixed_num.proofs.DigitLemmas.{digit_byte_at, digit_range, number_read}
 use Rattle.fixed_num.proofs.GrammarLemmas.{after_first_none, before_first_none, digits_none, position_or_len_behind}
@@ -62,8 +63,8 @@ no_sign text first =
     let plus : eqb (get_or text 0 0) 43 ≡ false = ne_eqb _ _ (λ e. omega (arith, first)) in
     (minus, rw (minus, plus) refl)
 
-fits_pos : (n : ℕ) → n < 2 ^ 63 → fitting (pos n) ≡ Ok (pos n)
-fits_pos n less = rw (lt-ltb n (2 ^ 63) less) refl
+fits_pos : (n : ℕ) → n < 2 ^ 63 → fitting fits (pos n) ≡ Ok (pos n)
+fits_pos n less = rw (le-leb n (10 ^ 30) (omega arith)) refl
 
 -- the value of a plain decimal, by the numbers before and behind its point
 pub plain_value : (text before behind : List ℕ) (whole fraction : ℕ) → IsPlain text before behind → whole ≡ digits_value 10 before → fraction ≡ digits_value 10 behind → whole < 10 ^ 15 → fraction < 10 ^ 15
@@ -77,7 +78,7 @@ plain_value text before behind whole fraction plain w f less small =
     sym (reached_plain text text 3 (sym sign.1) (no_mark text before behind plain.whole plain.fraction plain.digits plain.more)) ∙ parts in
     let part : fraction * 1000 / 10 ^ length behind ≤ fraction * 1000 = div-le_self _ _ in
     let room : whole * 1000 + fraction * 1000 / 10 ^ length behind < 2 ^ 63 = omega (arith, part, less, small) in
-    sym (read_some (10 ^ 3) text r reach) ∙ (rw sign.0 refl ∙ fits_pos _ room)
+    sym (read_some fits values_are_within (10 ^ 3) text r reach) ∙ (rw sign.0 refl ∙ fits_pos _ room)
 
 -- ---- a front of a text
 

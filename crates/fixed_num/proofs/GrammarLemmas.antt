@@ -11,7 +11,7 @@ use Rattle.std.specs.List.{list_all, list_any, position_or_len, before_first, af
 use Rattle.std.specs.Char.{is_ascii_digit}
 use Rattle.std.specs.Int.{IsInRange}
 use Rattle.std.specs.Str.Parse.{digits_value, starts_with_minus, without_leading_sign}
-use Rattle.fixed_num.specs.Decimal.{is_point, is_exponent_mark, mantissa_of, has_exponent, whole_of, fraction_of, is_number, milli, fits_i64, floor_of, scaled, with_sign}
+use Rattle.fixed_num.specs.Decimal.{is_point, is_exponent_mark, mantissa_of, has_exponent, whole_of, fraction_of, is_number, milli, fits, floor_of, scaled, with_sign}
 use Rattle.fixed_num.proofs.DigitLemmas.{digit_byte_at, digits_value-append}
 
 -- ---- the first place that passes a test
@@ -134,7 +134,7 @@ sign_none digits pointed =
     let plus : eqb (get_or digits 0 0) 43 ≡ false = ne_eqb _ _ (λ e. omega arith) in
     (minus, rw (minus, plus) refl)
 
-pub milli_pointed : (text digits : List ℕ) → without_leading_sign text ≡ digits → IsPointed digits → fits_i64 (with_sign (starts_with_minus text) (thousandths_of digits)) ≡ true → milli text ≡ Some (with_sign (starts_with_minus text) (thousandths_of digits))
+pub milli_pointed : (text digits : List ℕ) → without_leading_sign text ≡ digits → IsPointed digits → fits (with_sign (starts_with_minus text) (thousandths_of digits)) ≡ true → milli text ≡ Some (with_sign (starts_with_minus text) (thousandths_of digits))
 unfolding milli
 milli_pointed text digits e pointed fits =
     rw (number_is_pointed text digits e pointed, scaled_pointed text digits e pointed, fits) refl

@@ -1,14 +1,15 @@
 -- The text that a value prints, and that it reads back.
-use Rattle.std.proofs.Common.{◌≡◌, ◌≢◌, ℕ, suc, ◌+◌, ◌-◌, ◌*◌, ◌/◌, ◌%◌, ◌^◌, ◌<◌, ◌≤◌, true, false, List, [], ◌∷◌, ◌++◌, length, Some, ℤ, pos, negsuc, decimal, FitsSigned, w64, refl, ap, sym, ◌∙◌, arith, ◌⊎◌, inl, inr, subst, take_at, drop_at, drop, unsigned_abs, ◌<ℤ◌, ◌≤ℤ◌}
-use Rattle.std.proofs.lemmas.Bool.{cases_eq, ne_eqb, eq-eqb, lt-ltb}
+use Rattle.std.proofs.Common.{◌≡◌, ◌≢◌, ℕ, suc, ◌+◌, ◌-◌, ◌*◌, ◌/◌, ◌%◌, ◌^◌, ◌<◌, ◌≤◌, true, false, List, [], ◌∷◌, ◌++◌, length, Some, ℤ, pos, negsuc, decimal, refl, ap, sym, ◌∙◌, arith, ◌⊎◌, inl, inr, subst, take_at, drop_at, drop, unsigned_abs, ◌<ℤ◌, ◌≤ℤ◌}
+use Rattle.std.proofs.lemmas.Bool.{cases_eq, ne_eqb, eq-eqb, le-leb}
 use Rattle.std.proofs.lemmas.Bool.Decides.{nat_tests}
-use Rattle.std.proofs.lemmas.Fmt.{digits_decimal, digits_value-decimal, decimal_nonempty, length-decimal-le}
+use Rattle.std.proofs.lemmas.Fmt.{decimal_is_IsNumeral_wide, length-decimal-le_wide}
 use Rattle.std.proofs.lemmas.Int.{ints}
 use Rattle.std.proofs.lemmas.List.{drop-drop}
 use Rattle.std.specs.List.{list_all, list_any, position_or_len}
 use Rattle.std.specs.Char.{is_ascii_digit, digit_value}
 use Rattle.std.specs.Str.Parse.{digits_value, starts_with_minus}
-use Rattle.fixed_num.specs.Decimal.{is_point, whole_of, fraction_of, milli, fits_i64, with_sign}
+use Rattle.fixed_num.specs.Decimal.{is_point, whole_of, fraction_of, milli, fits, with_sign}
+use Rattle.fixed_num.specs.Milli.{IsMilli}
 use Rattle.fixed_num.specs.Print.{decimals_text, unsigned_milli_text, milli_text}
 use Rattle.fixed_num.proofs.DigitLemmas.{numerals}
 use Rattle.fixed_num.proofs.GrammarLemmas.{IsPointed, thousandths_of, digits_none, position_or_len_behind, sign_none, milli_pointed}
@@ -77,9 +78,9 @@ decimals_are n h = by_last (cases_eq (n % 10) 0)
 pub decimals_short : (n : ℕ) → n < 1000 → length (decimals_text n) ≤ 3
 decimals_short n h = (decimals_are n h).short
 
--- the whole part of a value has at most 16 digits
-pub whole_short : (n : ℕ) → n ≤ 2 ^ 63 → length (decimal (n / 1000)) ≤ 16
-whole_short n h = length-decimal-le 16 (n / 1000) (omega arith) (omega arith) (omega arith)
+-- the whole part of a value has at most 28 digits
+pub whole_short : (n : ℕ) → n ≤ 10 ^ 30 → length (decimal (n / 1000)) ≤ 28
+whole_short n h = length-decimal-le_wide 28 (n / 1000) (omega arith) (omega arith) (omega arith)
 
 -- ---- the sign
 
@@ -98,31 +99,33 @@ milli_text_positive (negsuc n) h = absurd (omega (arith, ints))
 no_points : (ds : List ℕ) → list_all is_ascii_digit ds ≡ true → list_any is_point ds ≡ false
 no_points ds digits = digits_none is_point (λ b h. grind (arith, nat_tests)) ds digits
 
-printed_is_pointed : (n : ℕ) → n ≤ 2 ^ 63 → IsPointed (unsigned_milli_text n) × (thousandths_of (unsigned_milli_text n) ≡ n)
+printed_is_pointed : (n : ℕ) → n ≤ 10 ^ 30 → IsPointed (unsigned_milli_text n) × (thousandths_of (unsigned_milli_text n) ≡ n)
 unfolding unsigned_milli_text
 printed_is_pointed n h =
-    let digits : list_all is_ascii_digit (decimal (n / 1000)) ≡ true = digits_decimal numerals (n / 1000) (omega arith) in
+    let numeral = decimal_is_IsNumeral_wide (n / 1000) (omega arith) in
+    let digits : list_all is_ascii_digit (decimal (n / 1000)) ≡ true = numerals.from (decimal (n / 1000)) numeral.0.1 in
+    let number : digits_value 10 (decimal (n / 1000)) ≡ n / 1000 = numerals.same (decimal (n / 1000)) numeral.0.1 ∙ numeral.1 in
     let point : position_or_len is_point (decimal (n / 1000) ++ 46 ∷ decimals_text (n % 1000)) ≡ length (decimal (n / 1000)) =
     position_or_len_behind is_point (decimal (n / 1000)) 46 (decimals_text (n % 1000)) (no_points (decimal (n / 1000)) digits) refl in
     let whole : whole_of (unsigned_milli_text n) ≡ decimal (n / 1000) = rw point (take_at (decimal (n / 1000)) (46 ∷ decimals_text (n % 1000)) _ refl) in
     let fraction : fraction_of (unsigned_milli_text n) ≡ decimals_text (n % 1000) =
     rw point (sym (drop-drop 1 (length (decimal (n / 1000))) _) ∙ ap (drop 1) (drop_at (decimal (n / 1000)) (46 ∷ decimals_text (n % 1000)) _ refl)) in
     let decimals : IsDecimals (decimals_text (n % 1000)) (n % 1000) = decimals_are (n % 1000) (omega arith) in (
-      record { whole = rw whole digits; fraction = rw fraction decimals.digits; some = rw whole (decimal_nonempty (n / 1000) (omega arith)); short = rw fraction decimals.short },
-      rw (whole, fraction, digits_value-decimal numerals (n / 1000) (omega arith), decimals.value) (omega arith),
+      record { whole = rw whole digits; fraction = rw fraction decimals.digits; some = rw whole numeral.0.0; short = rw fraction decimals.short },
+      rw (whole, fraction, number, decimals.value) (omega arith),
     )
 
-pub printed_is_read : (v : ℤ) → FitsSigned w64 v → milli (milli_text v) ≡ Some v
+pub printed_is_read : (v : ℤ) → IsMilli v → milli (milli_text v) ≡ Some v
 unfolding milli_text
-printed_is_read (pos n) fits =
-    let printed = printed_is_pointed n (omega (arith, ints)) in
+printed_is_read (pos n) few =
+    let printed = printed_is_pointed n (omega (arith, few)) in
     let sign = sign_none (unsigned_milli_text n) printed.0 in
     let value : with_sign (starts_with_minus (unsigned_milli_text n)) (thousandths_of (unsigned_milli_text n)) ≡ pos n = rw (sign.0, printed.1) refl in
-    milli_pointed (unsigned_milli_text n) (unsigned_milli_text n) sign.1 printed.0 (ap fits_i64 value ∙ lt-ltb n (2 ^ 63) (omega (arith, ints))) ∙ ap (λ z. Some z) value
-printed_is_read (negsuc n) fits =
-    let printed = printed_is_pointed (suc n) (omega (arith, ints)) in
+    milli_pointed (unsigned_milli_text n) (unsigned_milli_text n) sign.1 printed.0 (ap fits value ∙ le-leb n (10 ^ 30) (omega (arith, few))) ∙ ap (λ z. Some z) value
+printed_is_read (negsuc n) few =
+    let printed = printed_is_pointed (suc n) (omega (arith, few)) in
     let value : with_sign true (thousandths_of (unsigned_milli_text (suc n))) ≡ negsuc n = rw printed.1 refl in
-    milli_pointed (45 ∷ unsigned_milli_text (suc n)) (unsigned_milli_text (suc n)) refl printed.0 (ap fits_i64 value ∙ lt-ltb n (2 ^ 63) (omega (arith, ints))) ∙ ap (λ z. Some z) value
+    milli_pointed (45 ∷ unsigned_milli_text (suc n)) (unsigned_milli_text (suc n)) refl printed.0 (ap fits value ∙ le-leb (suc n) (10 ^ 30) (omega (arith, few))) ∙ ap (λ z. Some z) value
 
 -- two lists that are alike from a place on are alike from each later place on
 pub drop_later : (xs ys : List ℕ) (m n : ℕ) → drop m xs ≡ drop m ys → m ≤ n → drop n xs ≡ drop n ys

@@ -141,21 +141,21 @@ reach ds up down digits = by_move (cases_lt up down)
     by_move (inl h) = reach_within ds _ up down digits h refl
     by_move (inr h) = reach_past ds _ up down h (omega arith)
 
--- ---- numbers that stay at the greatest of 64 bits
+-- ---- numbers that stay at the greatest of 128 bits
 
 -- digits behind two numbers that are capped alike
-cap_after : (x y : ℕ) (ds : List ℕ) → min x (2 ^ 64 - 1) ≡ min y (2 ^ 64 - 1) → min (digits_value_after 10 x ds) (2 ^ 64 - 1) ≡ min (digits_value_after 10 y ds) (2 ^ 64 - 1)
+cap_after : (x y : ℕ) (ds : List ℕ) → min x (2 ^ 128 - 1) ≡ min y (2 ^ 128 - 1) → min (digits_value_after 10 x ds) (2 ^ 128 - 1) ≡ min (digits_value_after 10 y ds) (2 ^ 128 - 1)
 cap_after x y [] e = e
 cap_after x y (d ∷ ds) e = cap_after (x * 10 + digit_value d) (y * 10 + digit_value d) ds (omega arith)
 
-cap_tens : (x p : ℕ) → 0 < p → min (min x (2 ^ 64 - 1) * p) (2 ^ 64 - 1) ≡ min (x * p) (2 ^ 64 - 1)
-cap_tens x p h = by_size (cases_lt x (2 ^ 64))
+cap_tens : (x p : ℕ) → 0 < p → min (min x (2 ^ 128 - 1) * p) (2 ^ 128 - 1) ≡ min (x * p) (2 ^ 128 - 1)
+cap_tens x p h = by_size (cases_lt x (2 ^ 128))
   where
-    by_size : (x < 2 ^ 64) ⊎ (2 ^ 64 ≤ x) → min (min x (2 ^ 64 - 1) * p) (2 ^ 64 - 1) ≡ min (x * p) (2 ^ 64 - 1)
-    by_size (inl few) = let same : min x (2 ^ 64 - 1) ≡ x = omega arith in rw same refl
+    by_size : (x < 2 ^ 128) ⊎ (2 ^ 128 ≤ x) → min (min x (2 ^ 128 - 1) * p) (2 ^ 128 - 1) ≡ min (x * p) (2 ^ 128 - 1)
+    by_size (inl few) = let same : min x (2 ^ 128 - 1) ≡ x = omega arith in rw same refl
     by_size (inr many) =
-        let most : min x (2 ^ 64 - 1) ≡ 2 ^ 64 - 1 = omega arith in
-        let left : 2 ^ 64 - 1 ≤ (2 ^ 64 - 1) * p = le-mul_of_pos_right (2 ^ 64 - 1) h in
+        let most : min x (2 ^ 128 - 1) ≡ 2 ^ 128 - 1 = omega arith in
+        let left : 2 ^ 128 - 1 ≤ (2 ^ 128 - 1) * p = le-mul_of_pos_right (2 ^ 128 - 1) h in
         let right : x ≤ x * p = le-mul_of_pos_right x h in
         rw most (omega arith)
 
@@ -178,11 +178,11 @@ reach_of_parts whole fraction up down h k =
     let same : length (whole ++ fraction) + up - (length fraction + down) ≡ length whole + up - down = omega (arith, length-append whole fraction) in
     subst (λ keep. IsReach (whole ++ fraction) keep (moved_numerator whole fraction up) (moved_denominator fraction down)) same (reach (whole ++ fraction) up (length fraction + down) digits)
 
-pub reached_whole : (whole fraction : List ℕ) (up down keep zeros : ℕ) → list_all is_ascii_digit whole ≡ true → list_all is_ascii_digit fraction ≡ true → keep ≡ length whole + up - down → zeros ≡ keep - (length whole + length fraction) → min (min (digits_value_after 10 (min (digits_value_after 10 0 (take keep whole)) (2 ^ 64 - 1)) (take (keep - length whole) fraction)) (2 ^ 64 - 1) * 10 ^ zeros) (2 ^ 64 - 1) ≡ min (moved_numerator whole fraction up / moved_denominator fraction down) (2 ^ 64 - 1)
+pub reached_whole : (whole fraction : List ℕ) (up down keep zeros : ℕ) → list_all is_ascii_digit whole ≡ true → list_all is_ascii_digit fraction ≡ true → keep ≡ length whole + up - down → zeros ≡ keep - (length whole + length fraction) → min (min (digits_value_after 10 (min (digits_value_after 10 0 (take keep whole)) (2 ^ 128 - 1)) (take (keep - length whole) fraction)) (2 ^ 128 - 1) * 10 ^ zeros) (2 ^ 128 - 1) ≡ min (moved_numerator whole fraction up / moved_denominator fraction down) (2 ^ 128 - 1)
 reached_whole whole fraction up down keep zeros h k e z =
-    ap (λ n. min (n * 10 ^ zeros) (2 ^ 64 - 1)) (cap_after (min front (2 ^ 64 - 1)) front more (omega arith))
+    ap (λ n. min (n * 10 ^ zeros) (2 ^ 128 - 1)) (cap_after (min front (2 ^ 128 - 1)) front more (omega arith))
     ∙ (cap_tens (digits_value_after 10 front more) (10 ^ zeros) (one-le-pow zeros 10 (omega arith))
-    ∙ ap (λ n. min n (2 ^ 64 - 1)) quotient)
+    ∙ ap (λ n. min n (2 ^ 128 - 1)) quotient)
   where
     front : ℕ
     front = digits_value_after 10 0 (take keep whole)
@@ -205,16 +205,20 @@ reached_exact whole fraction up down keep h k e =
     ∙ (ap (list_all is_zero) (sym (drop_joined keep whole fraction))
     ∙ (ap (λ n. list_all is_zero (drop n (whole ++ fraction))) e ∙ sym (reach_of_parts whole fraction up down h k).exact))
 
+-- a number that is capped is capped again at a lesser one
+capped_again : (t q : ℕ) → t ≡ min q (2 ^ 128 - 1) → min t (2 ^ 127 - 1) ≡ min q (2 ^ 127 - 1)
+capped_again t q e = omega arith
+
 -- what the digits reach, by the steps in which it is computed
 pub reached_record : (whole fraction front rest more last : List ℕ) (up down keep left zeros first both tens : ℕ) (exact : Bool)
     → list_all is_ascii_digit whole ≡ true → list_all is_ascii_digit fraction ≡ true
     → keep ≡ length whole + up - down → left ≡ keep - length whole → zeros ≡ keep - (length whole + length fraction)
     → front ≡ take keep whole → rest ≡ drop keep whole → more ≡ take left fraction → last ≡ drop left fraction
-    → first ≡ min (digits_value_after 10 0 front) (2 ^ 64 - 1) → both ≡ min (digits_value_after 10 first more) (2 ^ 64 - 1) → tens ≡ min (both * 10 ^ zeros) (2 ^ 64 - 1)
+    → first ≡ min (digits_value_after 10 0 front) (2 ^ 128 - 1) → both ≡ min (digits_value_after 10 first more) (2 ^ 128 - 1) → tens ≡ min (both * 10 ^ zeros) (2 ^ 128 - 1)
     → exact ≡ (list_all is_zero rest && list_all is_zero last)
-    → (tens ≡ min (moved_numerator whole fraction up / moved_denominator fraction down) (2 ^ 64 - 1)) × (exact ≡ (moved_numerator whole fraction up % moved_denominator fraction down == 0))
+    → (min tens (2 ^ 127 - 1) ≡ min (moved_numerator whole fraction up / moved_denominator fraction down) (2 ^ 127 - 1)) × (exact ≡ (moved_numerator whole fraction up % moved_denominator fraction down == 0))
 reached_record whole fraction front rest more last up down keep left zeros first both tens exact h k keep-is left-is zeros-is front-is rest-is more-is last-is first-is both-is tens-is exact-is = (
-  rw (tens-is, both-is, first-is, front-is, more-is, left-is) (reached_whole whole fraction up down keep zeros h k keep-is zeros-is),
+  capped_again tens _ (rw (tens-is, both-is, first-is, front-is, more-is, left-is) (reached_whole whole fraction up down keep zeros h k keep-is zeros-is)),
   rw (exact-is, rest-is, last-is, left-is) (reached_exact whole fraction up down keep h k keep-is),
 )
 

@@ -1,5 +1,5 @@
 -- What a text with an exponent or without one reaches, and how that is rounded down.
-use Rattle.std.proofs.Common.{◌≡◌, ◌≢◌, ℕ, zero, suc, ◌+◌, ◌-◌, ◌*◌, ◌/◌, ◌%◌, ◌^◌, ◌<◌, ◌≤◌, min, Bool, true, false, List, ◌++◌, length, take, drop, unwrap_or, Some, None, Ok, Err, nat_abs, leb, position, ℤ, pos, neg_ℤ, refl, ap, sym, ◌∙◌, arith, ltb, ◌==◌, cond, not, ◌&&◌, ◌||◌, ◌⊎◌, inl, inr, mul-one, length-append}
+use Rattle.std.proofs.Common.{◌≡◌, ◌≢◌, ℕ, zero, suc, ◌+◌, ◌-◌, ◌*◌, ◌/◌, ◌%◌, ◌^◌, ◌<◌, ◌≤◌, min, Bool, true, false, List, ◌++◌, length, take, drop, unwrap_or, Some, None, Ok, Err, nat_abs, leb, position, ℤ, pos, negsuc, neg_ℤ, refl, ap, sym, ◌∙◌, arith, ltb, ◌==◌, cond, not, ◌&&◌, ◌||◌, ◌⊎◌, inl, inr, mul-one, length-append}
 use Rattle.std.proofs.Math.Nat.{one-le-pow, mul_assoc, le-mul_of_pos_right, mul-le-mul_right, div-le_of_le-mul, div-le_self, zero-mul}
 use Rattle.std.proofs.Math.Bool.{and-true, and-false}
 use Rattle.std.proofs.lemmas.Nat.{pow-add, div-mul-add, mod_below, div-add-mod'}
@@ -10,8 +10,9 @@ use Rattle.std.specs.Str.Parse.{digits_value, starts_with_minus, without_leading
 use Rattle.fixed_num.specs.declared.NumFault.{NumFault}
 use Rattle.fixed_num.specs.declared.NumFault.TheVariants.{OutOfRange}
 use Rattle.fixed_num.specs.declared.reached.Reached.{Reached}
-use Rattle.fixed_num.specs.Decimal.{is_exponent_mark, mantissa_of, has_exponent, exponent_of, whole_of, fraction_of, is_exponent, is_number, places_up, places_down, numerator_of, denominator_of, floor_of, scaled, is_within_one, milli, fits_i64, with_sign}
+use Rattle.fixed_num.specs.Decimal.{is_exponent_mark, mantissa_of, has_exponent, exponent_of, whole_of, fraction_of, is_exponent, is_number, places_up, places_down, numerator_of, denominator_of, floor_of, scaled, is_within_one, milli, fits, with_sign}
 use Rattle.fixed_num.specs.Read.{fault_of, fitting, read_as, milli_result, millionths_result, reached_in, reached_by, reached_parts, moved, moves_of, rounded_down, is_reached_within}
+use Rattle.fixed_num.proofs.FitLemmas.{IsWithinValues}
 use Rattle.fixed_num.proofs.GrammarLemmas.{list_any_is, before_first_none, no_exponent_in}
 use Rattle.fixed_num.proofs.DigitLemmas.{number_of_digits_is}
 use Rattle.fixed_num.proofs.ReachLemmas.{parts_quotient, product_below}
@@ -65,7 +66,7 @@ reached_few : (whole fraction : List ℕ) (factor : ℕ) → digits_value 10 who
     → reached_by (digits_value 10 (whole ++ fraction) * factor) (10 ^ (length fraction + 0)) ≡ reached_parts (digits_value 10 whole) (digits_value 10 fraction) (length fraction) factor
 reached_few whole fraction factor room =
     let quotient = parts_quotient whole fraction factor in
-    let fits : min (digits_value 10 whole * factor + digits_value 10 fraction * factor / 10 ^ length fraction) (2 ^ 64 - 1) ≡ digits_value 10 whole * factor + digits_value 10 fraction * factor / 10 ^ length fraction = omega arith in
+    let fits : min (digits_value 10 whole * factor + digits_value 10 fraction * factor / 10 ^ length fraction) (2 ^ 127 - 1) ≡ digits_value 10 whole * factor + digits_value 10 fraction * factor / 10 ^ length fraction = omega arith in
     rw (quotient.whole, quotient.rest, fits) refl
 
 pub moved_few : (mantissa whole fraction : List ℕ) (places before behind : ℕ) → whole ≡ whole_of mantissa → fraction ≡ fraction_of mantissa → 0 < length whole
@@ -172,22 +173,23 @@ ceiling_is n d h = by_rest (cases_eq (n % d) 0)
         let more : n + (d - 1) ≡ (n / d + 1) * d + (n % d - 1) = omega (arith, parts) in
         ap (λ k. k / d) more ∙ (div-mul-add (n / d + 1) d (n % d - 1) (omega arith) ∙ sym (rw (ne_eqb (n % d) 0 some) refl))
 
--- no number past 63 bits fits
-too_great : (negative : Bool) (n : ℕ) → 2 ^ 63 < n → fitting (with_sign negative n) ≡ Err OutOfRange
-too_great true zero h = absurd (omega arith)
-too_great true (suc n) h = rw (le-ltb n (2 ^ 63) (omega arith)) refl
-too_great false n h = rw (le-ltb n (2 ^ 63) (omega arith)) refl
+-- no number past the values fits
+too_great : (fit : ℤ → Bool) (negative : Bool) (n : ℕ) → IsWithinValues fit → 10 ^ 30 < n → fitting fit (with_sign negative n) ≡ Err OutOfRange
+too_great fit true zero within h = absurd (omega arith)
+too_great fit true (suc n) within h = rw (within (negsuc n) h) refl
+too_great fit false n within h = rw (within (pos n) h) refl
 
-too_great_rounded : (negative : Bool) (n : ℕ) (exact : Bool) → 2 ^ 63 < n → fitting (rounded_down negative (record { whole = n; exact = exact })) ≡ Err OutOfRange
-too_great_rounded true n exact h = too_great true (n + cond exact 0 1) (omega arith)
-too_great_rounded false n exact h = too_great false n h
+too_great_rounded : (fit : ℤ → Bool) (negative : Bool) (n : ℕ) (exact : Bool) → IsWithinValues fit → 10 ^ 30 < n → fitting fit (rounded_down negative (record { whole = n; exact = exact })) ≡ Err OutOfRange
+too_great_rounded fit true n exact within h = too_great fit true (n + cond exact 0 1) within (omega arith)
+too_great_rounded fit false n exact within h = too_great fit false n within h
 
-fitting_capped : (negative : Bool) (q : ℕ) (exact : Bool) → fitting (rounded_down negative (record { whole = min q (2 ^ 64 - 1); exact = exact })) ≡ fitting (rounded_down negative (record { whole = q; exact = exact }))
-fitting_capped negative q exact = by_size (cases_lt q (2 ^ 64))
+fitting_capped : (fit : ℤ → Bool) (negative : Bool) (q : ℕ) (exact : Bool) → IsWithinValues fit
+    → fitting fit (rounded_down negative (record { whole = min q (2 ^ 127 - 1); exact = exact })) ≡ fitting fit (rounded_down negative (record { whole = q; exact = exact }))
+fitting_capped fit negative q exact within = by_size (cases_lt q (2 ^ 127))
   where
-    by_size : (q < 2 ^ 64) ⊎ (2 ^ 64 ≤ q) → fitting (rounded_down negative (record { whole = min q (2 ^ 64 - 1); exact = exact })) ≡ fitting (rounded_down negative (record { whole = q; exact = exact }))
-    by_size (inl few) = let same : min q (2 ^ 64 - 1) ≡ q = omega arith in rw same refl
-    by_size (inr many) = too_great_rounded negative (min q (2 ^ 64 - 1)) exact (omega arith) ∙ sym (too_great_rounded negative q exact (omega arith))
+    by_size : (q < 2 ^ 127) ⊎ (2 ^ 127 ≤ q) → fitting fit (rounded_down negative (record { whole = min q (2 ^ 127 - 1); exact = exact })) ≡ fitting fit (rounded_down negative (record { whole = q; exact = exact }))
+    by_size (inl few) = let same : min q (2 ^ 127 - 1) ≡ q = omega arith in rw same refl
+    by_size (inr many) = too_great_rounded fit negative (min q (2 ^ 127 - 1)) exact within (omega arith) ∙ sym (too_great_rounded fit negative q exact within (omega arith))
 
 floor_is : (negative : Bool) (n d : ℕ) → 0 < d → floor_of negative n d ≡ rounded_down negative (record { whole = n / d; exact = n % d == 0 })
 floor_is true n d h = ap (λ k. neg_ℤ (pos k)) (ceiling_is n d h)
@@ -196,22 +198,22 @@ floor_is false n d h = refl
 denominator_positive : (text : List ℕ) → 0 < denominator_of text
 denominator_positive text = one-le-pow (length (fraction_of (mantissa_of text)) + places_down text) 10 (omega arith)
 
-pub read_none : (factor : ℕ) (text : List ℕ) → reached_in factor text ≡ None → Err (fault_of text) ≡ read_as factor text
+pub read_none : (fit : ℤ → Bool) (factor : ℕ) (text : List ℕ) → reached_in factor text ≡ None → Err (fault_of text) ≡ read_as fit factor text
 unfolding read_as
-read_none factor text e = rw (reached_none factor text e) refl
+read_none fit factor text e = rw (reached_none factor text e) refl
 
-pub read_some : (factor : ℕ) (text : List ℕ) (r : Reached) → reached_in factor text ≡ Some r → fitting (rounded_down (starts_with_minus text) r) ≡ read_as factor text
+pub read_some : (fit : ℤ → Bool) → IsWithinValues fit → (factor : ℕ) (text : List ℕ) (r : Reached) → reached_in factor text ≡ Some r → fitting fit (rounded_down (starts_with_minus text) r) ≡ read_as fit factor text
 unfolding read_as
-read_some factor text r e =
+read_some fit within factor text r e =
     let some = reached_some factor text r e in
     rw (some.0, some.1)
-    (fitting_capped (starts_with_minus text) (numerator_of text * factor / denominator_of text) (numerator_of text * factor % denominator_of text == 0)
-    ∙ ap fitting (sym (floor_is (starts_with_minus text) (numerator_of text * factor) (denominator_of text) (denominator_positive text))))
+    (fitting_capped fit (starts_with_minus text) (numerator_of text * factor / denominator_of text) (numerator_of text * factor % denominator_of text == 0) within
+    ∙ ap (fitting fit) (sym (floor_is (starts_with_minus text) (numerator_of text * factor) (denominator_of text) (denominator_positive text))))
 
 -- what is read is the value of the text
 pub milli_result_value : (text : List ℕ) → result_ok (milli_result text) ≡ milli text
 unfolding read_as milli
-milli_result_value text = by_parts (is_number text) (fits_i64 (scaled 1000 text)) (scaled 1000 text) (fault_of text)
+milli_result_value text = by_parts (is_number text) (fits (scaled 1000 text)) (scaled 1000 text) (fault_of text)
   where
     by_parts : (form fits : Bool) (z : ℤ) (fault : NumFault) → result_ok (cond form (cond fits (Ok z) (Err OutOfRange)) (Err fault)) ≡ cond (form && fits) (Some z) None
     by_parts true true z fault = refl
@@ -224,55 +226,55 @@ pub millionths_none : (text : List ℕ) → reached_in 1000000 text ≡ None →
 unfolding millionths_result
 millionths_none text e = rw (reached_none 1000000 text e) refl
 
-negative_within : (n d q r : ℕ) → 0 < d → q * d + r ≡ n * 1000000 → (min q (2 ^ 64 - 1) == 0 && r == 0) ≡ (n == 0 && leb n d)
+negative_within : (n d q r : ℕ) → 0 < d → q * d + r ≡ n * 1000000 → (min q (2 ^ 127 - 1) == 0 && r == 0) ≡ (n == 0 && leb n d)
 negative_within n d q r h e = by_number (cases_eq n 0)
   where
-    by_parts : n ≢ 0 → (q ≡ 0) ⊎ (q ≢ 0) → (min q (2 ^ 64 - 1) == 0 && r == 0) ≡ (n == 0 && leb n d)
+    by_parts : n ≢ 0 → (q ≡ 0) ⊎ (q ≢ 0) → (min q (2 ^ 127 - 1) == 0 && r == 0) ≡ (n == 0 && leb n d)
     by_parts some (inl none) =
         let left : q * d ≡ 0 = ap (λ k. k * d) none ∙ zero-mul d in
         let more : r ≢ 0 = λ z. some (omega (arith, e, left)) in
         rw (ne_eqb n 0 some, ne_eqb r 0 more, and-false) refl
     by_parts some (inr more) =
-        let capped : min q (2 ^ 64 - 1) ≢ 0 = λ z. more (omega arith) in
-        rw (ne_eqb n 0 some, ne_eqb (min q (2 ^ 64 - 1)) 0 capped) refl
+        let capped : min q (2 ^ 127 - 1) ≢ 0 = λ z. more (omega arith) in
+        rw (ne_eqb n 0 some, ne_eqb (min q (2 ^ 127 - 1)) 0 capped) refl
 
-    by_number : (n ≡ 0) ⊎ (n ≢ 0) → (min q (2 ^ 64 - 1) == 0 && r == 0) ≡ (n == 0 && leb n d)
+    by_number : (n ≡ 0) ⊎ (n ≢ 0) → (min q (2 ^ 127 - 1) == 0 && r == 0) ≡ (n == 0 && leb n d)
     by_number (inl none) =
         let up : q ≤ q * d = le-mul_of_pos_right q h in
-        let quotient : min q (2 ^ 64 - 1) ≡ 0 = omega arith in
+        let quotient : min q (2 ^ 127 - 1) ≡ 0 = omega arith in
         let rest : r ≡ 0 = omega arith in
-        rw (eq-eqb (min q (2 ^ 64 - 1)) 0 quotient, eq-eqb r 0 rest, eq-eqb n 0 none, le-leb n d (omega arith)) refl
+        rw (eq-eqb (min q (2 ^ 127 - 1)) 0 quotient, eq-eqb r 0 rest, eq-eqb n 0 none, le-leb n d (omega arith)) refl
     by_number (inr some) = by_parts some (cases_eq q 0)
 
-positive_within : (n d q r : ℕ) → 0 < d → r < d → q * d + r ≡ n * 1000000 → (ltb (min q (2 ^ 64 - 1)) 1000000 || (min q (2 ^ 64 - 1) == 1000000 && r == 0)) ≡ leb n d
+positive_within : (n d q r : ℕ) → 0 < d → r < d → q * d + r ≡ n * 1000000 → (ltb (min q (2 ^ 127 - 1)) 1000000 || (min q (2 ^ 127 - 1) == 1000000 && r == 0)) ≡ leb n d
 positive_within n d q r h below e = by_quotient (cases_order q 1000000)
   where
-    by_rest : q ≡ 1000000 → (r ≡ 0) ⊎ (r ≢ 0) → (ltb (min q (2 ^ 64 - 1)) 1000000 || (min q (2 ^ 64 - 1) == 1000000 && r == 0)) ≡ leb n d
+    by_rest : q ≡ 1000000 → (r ≡ 0) ⊎ (r ≢ 0) → (ltb (min q (2 ^ 127 - 1)) 1000000 || (min q (2 ^ 127 - 1) == 1000000 && r == 0)) ≡ leb n d
     by_rest same (inl none) =
-        let capped : min q (2 ^ 64 - 1) ≡ 1000000 = omega arith in
+        let capped : min q (2 ^ 127 - 1) ≡ 1000000 = omega arith in
         let whole : q * d ≡ 1000000 * d = ap (λ k. k * d) same in
         rw (capped, eq-eqb r 0 none, le-leb n d (omega arith)) refl
     by_rest same (inr some) =
-        let capped : min q (2 ^ 64 - 1) ≡ 1000000 = omega arith in
+        let capped : min q (2 ^ 127 - 1) ≡ 1000000 = omega arith in
         let whole : q * d ≡ 1000000 * d = ap (λ k. k * d) same in
         rw (capped, ne_eqb r 0 some, lt-leb n d (omega arith)) refl
 
-    by_quotient : (q ≡ 1000000) ⊎ ((q < 1000000) ⊎ (1000000 < q)) → (ltb (min q (2 ^ 64 - 1)) 1000000 || (min q (2 ^ 64 - 1) == 1000000 && r == 0)) ≡ leb n d
+    by_quotient : (q ≡ 1000000) ⊎ ((q < 1000000) ⊎ (1000000 < q)) → (ltb (min q (2 ^ 127 - 1)) 1000000 || (min q (2 ^ 127 - 1) == 1000000 && r == 0)) ≡ leb n d
     by_quotient (inl same) = by_rest same (cases_eq r 0)
     by_quotient (inr (inl less)) =
         let room : (q + 1) * d ≤ 1000000 * d = mul-le-mul_right d (omega arith) in
-        rw (lt-ltb (min q (2 ^ 64 - 1)) 1000000 (omega arith), le-leb n d (omega arith)) refl
+        rw (lt-ltb (min q (2 ^ 127 - 1)) 1000000 (omega arith), le-leb n d (omega arith)) refl
     by_quotient (inr (inr greater)) =
         let room : 1000001 * d ≤ q * d = mul-le-mul_right d (omega arith) in
-        let other : min q (2 ^ 64 - 1) ≢ 1000000 = λ z. absurd (omega arith) in
-        rw (le-ltb (min q (2 ^ 64 - 1)) 1000000 (omega arith), ne_eqb (min q (2 ^ 64 - 1)) 1000000 other, lt-leb n d (omega arith)) refl
+        let other : min q (2 ^ 127 - 1) ≢ 1000000 = λ z. absurd (omega arith) in
+        rw (le-ltb (min q (2 ^ 127 - 1)) 1000000 (omega arith), ne_eqb (min q (2 ^ 127 - 1)) 1000000 other, lt-leb n d (omega arith)) refl
 
 within_is : (negative : Bool) (n d : ℕ) → 0 < d → is_reached_within 1000000 negative (reached_by (n * 1000000) d) ≡ ((not negative || n == 0) && leb n d)
 within_is true n d h = negative_within n d (n * 1000000 / d) (n * 1000000 % d) h (div-add-mod' (n * 1000000) d)
 within_is false n d h = positive_within n d (n * 1000000 / d) (n * 1000000 % d) h (mod_below (n * 1000000) d h) (div-add-mod' (n * 1000000) d)
 
 -- what is within reaches fewer parts than are capped
-value_within : (negative : Bool) (n d : ℕ) → 0 < d → ((not negative || n == 0) && leb n d) ≡ true → nat_abs (floor_of negative (n * 1000000) d) ≡ min (n * 1000000 / d) (2 ^ 64 - 1)
+value_within : (negative : Bool) (n d : ℕ) → 0 < d → ((not negative || n == 0) && leb n d) ≡ true → nat_abs (floor_of negative (n * 1000000) d) ≡ min (n * 1000000 / d) (2 ^ 127 - 1)
 value_within true n d h within =
     let none : n ≡ 0 = eqb-true n 0 (and_parts (n == 0) (leb n d) within).0 in
     let above : (n * 1000000 + (d - 1)) / d ≡ 0 = ap (λ k. k / d) (omega arith) ∙ div-mul-add 0 d (d - 1) (omega arith) in

@@ -1,5 +1,5 @@
 -- The decimal that a text writes, exactly, as a whole number of thousandths, billionths or millionths.
-use Rattle.std.specs.Prelude.{ℕ, ◌+◌, ◌-◌, ◌*◌, ◌/◌, ◌^◌, ◌==◌, Bool, ◌&&◌, ◌||◌, not, nat_le, nat_lt, List, [], ◌∷◌, ◌++◌, length, Option, Some, None, if◌then◌else◌, codes, ℤ, pos, negsuc, neg_ℤ}
+use Rattle.std.specs.Prelude.{ℕ, ◌+◌, ◌-◌, ◌*◌, ◌/◌, ◌^◌, ◌==◌, Bool, ◌&&◌, ◌||◌, not, nat_le, nat_lt, List, [], ◌∷◌, ◌++◌, length, Option, Some, None, if◌then◌else◌, codes, ℤ, pos, negsuc, neg_ℤ, unsigned_abs}
 use Rattle.std.specs.List.{before_first, after_first, list_all, list_any}
 use Rattle.std.specs.Char.{is_ascii_digit}
 use Rattle.std.specs.Str.{bytes_eq, str_to_ascii_lowercase}
@@ -83,9 +83,13 @@ abbrev pub fits_i64 : ℤ → Bool
 fits_i64 (pos n) = nat_lt n (2 ^ 63)
 fits_i64 (negsuc n) = nat_lt n (2 ^ 63)
 
+-- a value: a number of thousandths that is at least -10^30 and at most 10^30
+abbrev pub fits : ℤ → Bool
+fits number = nat_le (unsigned_abs number) (10 ^ 30)
+
 -- the thousandths of a text, where it is a number and they fit
 unfoldable pub milli : List ℕ → Option ℤ
-milli text = if is_number text && fits_i64 (scaled 1000 text) then Some (scaled 1000 text) else None
+milli text = if is_number text && fits (scaled 1000 text) then Some (scaled 1000 text) else None
 
 -- the number n, with a minus where it is negative
 abbrev pub with_sign : Bool → ℕ → ℤ

@@ -1,4 +1,5 @@
 pub mod Decimal
+pub mod Halves
 pub mod Milli
 pub mod Moment
 pub mod Print

@@ -4,26 +4,26 @@ use Rattle.std.specs.Str.Parse.{digits_value, starts_with_minus, without_leading
 use Rattle.fixed_num.specs.declared.NumFault.{NumFault}
 use Rattle.fixed_num.specs.declared.NumFault.TheVariants.{NotNumber, NotFinite, OutOfRange}
 use Rattle.fixed_num.specs.declared.reached.Reached.{Reached}
-use Rattle.fixed_num.specs.Decimal.{whole_of, fraction_of, is_mantissa, is_exponent, is_number, is_not_finite, is_within_one, numerator_of, denominator_of, scaled, fits_i64}
+use Rattle.fixed_num.specs.Decimal.{whole_of, fraction_of, is_mantissa, is_exponent, is_number, is_not_finite, is_within_one, numerator_of, denominator_of, scaled, fits, fits_i64}
 
 -- why a text that is no decimal has no value
 abbrev pub fault_of : List ℕ → NumFault
 fault_of text = if is_not_finite text then NotFinite else NotNumber
 
--- a number of 64 bits with a sign, or the fault
-abbrev pub fitting : ℤ → Result ℤ NumFault
-fitting z = if fits_i64 z then Ok z else Err OutOfRange
+-- a number of those that fit, or the fault
+abbrev pub fitting : (ℤ → Bool) → ℤ → Result ℤ NumFault
+fitting fit z = if fit z then Ok z else Err OutOfRange
 
--- the decimal of a text in parts of one `factor`th, rounded down
-unfoldable pub read_as : ℕ → List ℕ → Result ℤ NumFault
-read_as factor text = if is_number text then fitting (scaled factor text) else Err (fault_of text)
+-- the decimal of a text in parts of one `factor`th, rounded down, where it is one of those that fit
+unfoldable pub read_as : (ℤ → Bool) → ℕ → List ℕ → Result ℤ NumFault
+read_as fit factor text = if is_number text then fitting fit (scaled factor text) else Err (fault_of text)
 
--- in thousandths, and in billionths
+-- in thousandths as a value, and in billionths as a number of 64 bits with a sign
 abbrev pub milli_result : List ℕ → Result ℤ NumFault
-milli_result text = read_as 1000 text
+milli_result text = read_as fits 1000 text
 
 abbrev pub nano_result : List ℕ → Result ℤ NumFault
-nano_result text = read_as 1000000000 text
+nano_result text = read_as fits_i64 1000000000 text
 
 -- in millionths, of a decimal from 0 to 1
 unfoldable pub millionths_result : List ℕ → Result ℕ NumFault
@@ -31,9 +31,9 @@ millionths_result text = if is_number text then (if is_within_one text then Ok (
 
 -- ---- the one reading under these
 
--- the whole number below the fraction n / d, or the greatest of 64 bits where it is above, and whether the fraction is whole
+-- the whole number below the fraction n / d, or the greatest of 128 bits with a sign where it is above, and whether the fraction is whole
 abbrev pub reached_by : ℕ → ℕ → Reached
-reached_by n d = record { whole = min (n / d) (2 ^ 64 - 1); exact = n % d == 0 }
+reached_by n d = record { whole = min (n / d) (2 ^ 127 - 1); exact = n % d == 0 }
 
 -- the same of the number before a point and of the number behind it, which has so many digits, in parts of one `factor`th
 abbrev pub reached_parts : ℕ → ℕ → ℕ → ℕ → Reached

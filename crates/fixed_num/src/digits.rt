@@ -108,27 +108,27 @@ pub fn capped_number(digits: &[u8]) -> u64
     requires digits { list_all is_ascii_digit digits.now ≡ true }
     ensures { result ≡ min (digits_value 10 digits.now) (2 ^ 64 - 1) }
 {
-    capped_number_after(0, digits)
+    capped_number_after(0, digits).min(u128::from(u64::MAX)) as u64
 }
 
 /// The number that digits write behind those of `start`, or the greatest number where it is above.
-pub(crate) fn capped_number_after(start: u64, digits: &[u8]) -> u64
+pub(crate) fn capped_number_after(start: u128, digits: &[u8]) -> u128
     requires digits { list_all is_ascii_digit digits.now ≡ true }
-    ensures { result ≡ min (digits_value_after 10 start digits.now) (2 ^ 64 - 1) }
+    ensures { result ≡ min (digits_value_after 10 start digits.now) (2 ^ 128 - 1) }
 {
     let mut number = start;
     for digit in digits {
         number = number
             .saturating_mul(10)
-            .saturating_add(u64::from(digit - b'0'));
+            .saturating_add(u128::from(digit - b'0'));
     }
     number
 }
 
 /// A number with zeros behind its digits, or the greatest number where that is above.
-pub(crate) fn capped_tens(number: u64, zeros: usize) -> u64
+pub(crate) fn capped_tens(number: u128, zeros: usize) -> u128
     requires { zeros < 2 ^ 32 }
-    ensures { result ≡ min (number * 10 ^ zeros) (2 ^ 64 - 1) }
+    ensures { result ≡ min (number * 10 ^ zeros) (2 ^ 128 - 1) }
 {
-    number.saturating_mul(10u64.saturating_pow(zeros as u32))
+    number.saturating_mul(10u128.saturating_pow(zeros as u32))
 }

@@ -7,7 +7,7 @@ ghost use Rattle.std.specs.Str.Parse.{digits_value};
 ghost use Rattle.fixed_num.specs.Milli.{IsMilli};
 ghost use Rattle.fixed_num.specs.Read.{milli_result, reached_parts};
 
-use crate::Milli;
+use crate::milli::{Milli, milli_of};
 use crate::scaling::reached_parts;
 
 /// A value that a text begins with, and how many bytes write it.
@@ -53,7 +53,7 @@ fn thousandths(whole: u64, fraction: u64, digits: usize) -> Milli
     requires fraction { fraction < 10 ^ 15 }
     ensures { result ≡ pos (reached_parts whole fraction digits 1000).whole }
 {
-    reached_parts(whole, fraction, digits, 3).whole as i64
+    milli_of(reached_parts(whole, fraction, digits, 3).whole as i64)
 }
 
 // The digits that a text begins with.

@@ -1,7 +1,7 @@
 //! What holds of every text and every value. The functions do nothing: what they ensure is the law.
 
 ghost use Rattle.std.specs.Prelude.{◌≡◌, ◌↔◌, ℕ, ℤ, List, Some, true};
-ghost use Rattle.fixed_num.specs.Decimal.{fits_i64, milli};
+ghost use Rattle.fixed_num.specs.Decimal.{fits, milli};
 ghost use Rattle.fixed_num.specs.Milli.{IsMilli};
 ghost use Rattle.fixed_num.specs.Print.{milli_text};
 ghost use Rattle.fixed_num.specs.Read.{milli_result};
@@ -20,8 +20,8 @@ pub fn read_text_has_its_value()
     ensures { (text : List ℕ) → result_ok (milli_result text) ≡ milli text }
 {}
 
-/// A whole number is a value exactly where it is found to fit 64 bits with a sign.
+/// A whole number is a value exactly where it is found to fit.
 #[tactic(auto, using(crate::proofs::FitLemmas::fits_is_milli))]
 pub fn values_are_what_fits()
-    ensures { (number : ℤ) → IsMilli number ↔ fits_i64 number ≡ true }
+    ensures { (number : ℤ) → IsMilli number ↔ fits number ≡ true }
 {}

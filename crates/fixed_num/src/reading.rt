@@ -1,7 +1,10 @@
 //! The readers of the whole grammar of decimals.
 
-ghost use Rattle.std.specs.Prelude.{◌≡◌, ◌≤◌, ◌^◌};
-ghost use Rattle.fixed_num.specs.Read.{fault_of, fitting, is_reached_within, milli_result, millionths_result, nano_result, read_as, rounded_down};
+ghost use Rattle.std.specs.Prelude.{◌≡◌, ◌<◌, ◌^◌, FitsSigned, IfOk, SomeIff};
+ghost use Rattle.std.specs.Int.{w64};
+ghost use Rattle.fixed_num.specs.Decimal.{fits, fits_i64};
+ghost use Rattle.fixed_num.specs.Milli.{IsMilli};
+ghost use Rattle.fixed_num.specs.Read.{fault_of, fitting, is_reached_within, milli_result, millionths_result, nano_result, rounded_down};
 
 use crate::grammar::{is_not_finite, starts_with_minus};
 use crate::reached::Reached;
@@ -19,16 +22,23 @@ use crate::{Milli, NumFault, narrow};
 /// `NotFinite` for `nan`, `inf` and `infinity` in any case and with an optional sign, `NotNumber`
 /// for any other text that is no decimal, `OutOfRange` where the thousandths do not fit.
 pub fn read_milli(text: &[u8]) -> Result<Milli, NumFault>
-    ensures { result ≡ milli_result text.now }
+    ensures value { result ≡ milli_result text.now }
+    ensures fits { IfOk result IsMilli }
 {
-    read_as(text, 3)
+    let Some(reached) = reached_in(text, 3) else {
+        return Err(fault_of(text));
+    };
+    fitting(rounded_down(starts_with_minus(text), reached))
 }
 
-/// Reads a decimal in billionths, rounded down; in all else it is [`read_milli`].
+/// Reads a decimal in billionths that 64 bits hold, rounded down; in all else it is [`read_milli`].
 pub fn read_nano(text: &[u8]) -> Result<i64, NumFault>
     ensures { result ≡ nano_result text.now }
 {
-    read_as(text, 9)
+    let Some(reached) = reached_in(text, 9) else {
+        return Err(fault_of(text));
+    };
+    fitting_i64(rounded_down(starts_with_minus(text), reached))
 }
 
 /// Reads a decimal from 0 to 1 in millionths, rounded down.
@@ -48,17 +58,6 @@ pub fn read_millionths(text: &[u8]) -> Result<u32, NumFault>
     Ok(reached.whole as u32)
 }
 
-// Reads a decimal in parts of one `10 ^ places`th, rounded down.
-fn read_as(text: &[u8], places: usize) -> Result<i64, NumFault>
-    requires { places ≤ 9 }
-    ensures { result ≡ read_as (10 ^ places) text.now }
-{
-    let Some(reached) = reached_in(text, places) else {
-        return Err(fault_of(text));
-    };
-    fitting(rounded_down(starts_with_minus(text), reached))
-}
-
 // Why a text that is no decimal has no value.
 fn fault_of(text: &[u8]) -> NumFault
     ensures { result ≡ fault_of text.now }
@@ -70,9 +69,10 @@ fn fault_of(text: &[u8]) -> NumFault
 }
 
 fn rounded_down(negative: bool, reached: Reached) -> i128
+    requires { reached.whole < 2 ^ 127 }
     ensures { result ≡ rounded_down negative reached }
 {
-    let whole = i128::from(reached.whole);
+    let whole = reached.whole as i128;
     if !negative {
         return whole;
     }
@@ -82,13 +82,26 @@ fn rounded_down(negative: bool, reached: Reached) -> i128
     -whole - 1
 }
 
-fn fitting(number: i128) -> Result<i64, NumFault>
-    ensures { result ≡ fitting number }
+fn fitting(number: i128) -> Result<Milli, NumFault>
+    ensures value { result ≡ fitting fits number }
+    ensures fits { IfOk result IsMilli }
 {
     narrow(number).ok_or(NumFault::OutOfRange)
 }
 
-fn is_within(most: u64, negative: bool, reached: Reached) -> bool
+fn fitting_i64(number: i128) -> Result<i64, NumFault>
+    ensures { result ≡ fitting fits_i64 number }
+{
+    narrow_i64(number).ok_or(NumFault::OutOfRange)
+}
+
+fn narrow_i64(number: i128) -> Option<i64>
+    ensures { SomeIff result (FitsSigned w64 number) number }
+{
+    i64::try_from(number).ok()
+}
+
+fn is_within(most: u128, negative: bool, reached: Reached) -> bool
     ensures { result ≡ is_reached_within most negative reached }
 {
     if negative {

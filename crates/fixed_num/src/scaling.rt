@@ -1,4 +1,5 @@
-//! How many parts of a unit the decimal of a text reaches, by numbers of 64 bits however long it is.
+//! How many parts of a unit the decimal of a text reaches, by numbers of 128 bits however long
+//! it is.
 
 ghost use Rattle.std.specs.Prelude.{◌≡◌, ◌<◌, ◌≤◌, ◌+◌, ◌-◌, ◌*◌, ◌^◌, ◌==◌, ◌&&◌, ◌++◌, true, length, take, drop, IfSome, Some, None, position};
 ghost use Rattle.std.specs.List.{list_all};
@@ -8,8 +9,7 @@ ghost use Rattle.fixed_num.specs.Decimal.{whole_of, fraction_of, is_exponent_mar
 ghost use Rattle.fixed_num.specs.Read.{reached_in, reached_by, reached_parts, moved};
 
 use crate::digits::{
-    all_digits, all_zeros, capped_number, capped_number_after, capped_tens, few_digits,
-    power_of_ten,
+    all_digits, all_zeros, capped_number_after, capped_tens, few_digits, power_of_ten,
 };
 use crate::grammar::{cut_at_point, exponent_in, moves_of, without_leading_sign};
 use crate::reached::Reached;
@@ -18,7 +18,8 @@ use crate::reached::Reached;
 /// where the text is no decimal.
 pub(crate) fn reached_in(text: &[u8], places: usize) -> Option<Reached>
     requires { places ≤ 9 }
-    ensures { result ≡ reached_in (10 ^ places) text.now }
+    ensures value { result ≡ reached_in (10 ^ places) text.now }
+    ensures most { IfSome result (λ reached. reached.whole < 2 ^ 127) }
 {
     let digits = without_leading_sign(text);
     if let Some(reached) = reached_shortly(digits, places) {
@@ -39,6 +40,7 @@ fn reached_shortly(mantissa: &[u8], places: usize) -> Option<Reached>
     requires { places ≤ 9 }
     ensures exponent { IfSome result (λ reached. position is_exponent_mark mantissa.now ≡ None) }
     ensures value { IfSome result (λ reached. moved places 0 mantissa.now ≡ Some reached) }
+    ensures most { IfSome result (λ reached. reached.whole < 2 ^ 127) }
 {
     let (whole, fraction) = cut_at_point(mantissa);
     let most = FEW_DIGITS - places;
@@ -56,13 +58,14 @@ pub(crate) fn reached_parts(whole: u64, fraction: u64, digits: usize, places: us
     requires digits { digits ≤ 18 }
     requires whole { whole < 10 ^ (18 - places) }
     requires fraction { fraction < 10 ^ (18 - places) }
-    ensures { result ≡ reached_parts whole fraction digits (10 ^ places) }
+    ensures value { result ≡ reached_parts whole fraction digits (10 ^ places) }
+    ensures most { result.whole < 2 ^ 64 }
 {
     let factor = power_of_ten(places);
     let part = fraction * factor;
     let divisor = power_of_ten(digits);
     Reached {
-        whole: whole * factor + part / divisor,
+        whole: u128::from(whole * factor + part / divisor),
         exact: part % divisor == 0,
     }
 }
@@ -71,7 +74,8 @@ pub(crate) fn reached_parts(whole: u64, fraction: u64, digits: usize, places: us
 #[tactic(auto, unfolding(crate::specs::Read::moved))]
 fn moved(mantissa: &[u8], up: usize, down: usize) -> Option<Reached>
     requires few { up < 2 ^ 31 }
-    ensures { result ≡ moved up down mantissa.now }
+    ensures value { result ≡ moved up down mantissa.now }
+    ensures most { IfSome result (λ reached. reached.whole < 2 ^ 127) }
 {
     let (whole, fraction) = cut_at_point(mantissa);
     if !is_mantissa(mantissa, whole, fraction) {
@@ -90,23 +94,31 @@ fn is_mantissa(mantissa: &[u8], whole: &[u8], fraction: &[u8]) -> bool
 }
 
 // The front of the digits is the quotient, with zeros behind it where they are too few, and the
-// fraction is whole where only zeros are left. Numbers past 64 bits stay at the greatest.
+// fraction is whole where only zeros are left. Numbers past 128 bits with a sign stay at the
+// greatest.
 fn reached_by(whole: &[u8], fraction: &[u8], up: usize, down: usize) -> Reached
     requires whole { list_all is_ascii_digit whole.now ≡ true }
     requires fraction { list_all is_ascii_digit fraction.now ≡ true }
     requires few { up < 2 ^ 31 }
-    ensures { result ≡ reached_by (digits_value 10 (whole.now ++ fraction.now) * 10 ^ up)
+    ensures value { result ≡ reached_by (digits_value 10 (whole.now ++ fraction.now) * 10 ^ up)
         (10 ^ (length fraction.now + down)) }
+    ensures most { result.whole < 2 ^ 127 }
 {
     let keep = (whole.len() + up).saturating_sub(down);
     let (front, rest) = cut_at(whole, keep);
     let (more, last) = cut_at(fraction, keep.saturating_sub(whole.len()));
     let zeros = keep.saturating_sub(whole.len() + fraction.len());
+    let first = capped_number_after(0, front);
+    let both = capped_number_after(first, more);
+    let tens = capped_tens(both, zeros);
     Reached {
-        whole: capped_tens(capped_number_after(capped_number(front), more), zeros),
+        whole: tens.min(MOST_WHOLE),
         exact: are_zeros(rest, last),
     }
 }
+
+// The greatest number of 128 bits with a sign.
+const MOST_WHOLE: u128 = (1 << 127) - 1;
 
 fn are_zeros(rest: &[u8], last: &[u8]) -> bool
     ensures { result ≡ (list_all (λ b. b == 48) rest.now && list_all (λ b. b == 48) last.now) }

@@ -22,7 +22,8 @@ use std::time::Clock;
 /// the disk, want of memory too.
 ///
 /// `create` writes over no file that is whole: where the name is taken it fails, but for a plain file that begins with 16 zero bytes or has
-/// zero bytes alone, as one that was being made when its process ended.
+/// zero bytes alone, as one that was being made when its process ended; and for a ring file of version 1 which was there, as it is, when
+/// `names` was called last, since a drain reads such a file and then makes it anew.
 ///
 /// The file of the last call stays open, so that calls for one file in a row open it once. Each call looks whether the name still leads to
 /// that file (it may do so through an inner folder that became a link meanwhile): where it was removed, renamed or replaced meanwhile the call fails, and so does a write behind the end of a file that was cut.
@@ -143,6 +144,7 @@ impl<R: Files<File = File> + AllocGlobal + Clone + Drop + Eprint + Clock> Disk f
     }
 
     fn names(&mut self) -> Result<Vec<String>, NamesFault> {
+        self.files.begin_list();
         match self.listed() {
             Ok(names) => Ok(names),
             Err(ListFault { name, fault }) => {

@@ -1,13 +1,18 @@
 // The files of a folder, one open at a time.
 use crate::fault::FileFault;
+use crate::moment::Moment;
 use crate::open_file::{Access, Links, OpenedFile};
 use std::alloc::AllocError;
 use std::fs::{self, File, OpenFile, OpenOptions};
 use std::io::{ErrorKind, Write};
 use std::rt::Files;
+use std::time::Clock;
 
 // How many bytes at the front of a ring file are zero until the file is whole.
 const FRONT_BYTES: usize = 16;
+
+// A ring file of version 1 begins with the number of its method in four bytes, from 1 to this one.
+const LAST_METHOD: u8 = 8;
 
 // The name of the file by which a folder is tried.
 const TRIAL: &str = "carbon.trial";
@@ -19,6 +24,8 @@ pub(crate) struct FolderFiles<R> {
     pub(crate) folder: String,
     links: Links,
     kept: Option<OpenedFile>,
+    // when the names were listed last
+    listed: Option<Moment>,
 }
 
 // An open file, and how long it is.
@@ -28,6 +35,13 @@ struct Taken {
     length: u64,
 }
 
+impl<R: Clock> FolderFiles<R> {
+    // The names are listed from now on.
+    pub(crate) fn begin_list(&mut self) {
+        self.listed = Moment::now(&self.rt);
+    }
+}
+
 impl<R: Files<File = File> + AllocGlobal> FolderFiles<R> {
     pub(crate) fn new(rt: R, folder: String, links: Links) -> Self {
         FolderFiles {
@@ -35,6 +49,7 @@ impl<R: Files<File = File> + AllocGlobal> FolderFiles<R> {
             folder,
             links,
             kept: None,
+            listed: None,
         }
     }
 
@@ -121,8 +136,8 @@ impl<R: Files<File = File> + AllocGlobal> FolderFiles<R> {
         }
     }
 
-    // Makes a file of zero bytes, and the folders that it stands in. Where the name is taken, it has to be that of a plain file which was
-    // never whole: one that begins with zeros.
+    // Makes a file of zero bytes, and the folders that it stands in. Where the name is taken, it has to be that of a plain file which may be
+    // made anew.
     pub(crate) fn create(&mut self, name: &str, length: u64) -> Result<(), FileFault> {
         self.kept = None;
         self.look_at_way(name)?;
@@ -141,21 +156,31 @@ impl<R: Files<File = File> + AllocGlobal> FolderFiles<R> {
         let own = String::from_str(self.rt.alloc(), name)?;
         match OpenedFile::create(&self.rt, own, path) {
             Err(FileFault::System(error)) if error.kind() == ErrorKind::AlreadyExists => {
-                self.unfinished(name)
+                self.made_anew(name)
             }
             made => made,
         }
     }
 
-    // The file under a name that is taken, where it was never whole.
-    fn unfinished(&self, name: &str) -> Result<OpenedFile, FileFault> {
+    // The file under a name that is taken, where it was never whole, or is of version 1 and was there when the names were listed: such a one
+    // is read before a drain makes it anew, and one that came since was not.
+    fn made_anew(&self, name: &str) -> Result<OpenedFile, FileFault> {
         let file = self.open(name, Access::Writing)?;
         let length = file.length_under_name(&self.rt, self.links)?;
-        let mut front = [0; FRONT_BYTES];
-        if file.begins_with_zeros(length, &mut front)? {
+        let mut room = [0; FRONT_BYTES];
+        let front = file.front(length, &mut room)?;
+        if is_unfinished(front) || (is_old(front) && self.was_listed(&file)?) {
             Ok(file)
         } else {
             Err(FileFault::InTheWay)
+        }
+    }
+
+    // Whether a file was there, as it is, when the names were listed.
+    fn was_listed(&self, file: &OpenedFile) -> Result<bool, FileFault> {
+        match self.listed {
+            Some(moment) => file.was_there(moment),
+            None => Ok(false),
         }
     }
 
@@ -172,6 +197,19 @@ impl<R: Files<File = File> + AllocGlobal> FolderFiles<R> {
         file.sync_all()?;
         fs::remove_file(&self.rt, path.as_str())?;
         Ok(())
+    }
+}
+
+// Whether a file that begins so was never whole: it begins with zeros, or has nothing but zeros.
+fn is_unfinished(front: &[u8]) -> bool {
+    front.iter().all(|byte| *byte == 0)
+}
+
+// Whether a file that begins so is of version 1.
+fn is_old(front: &[u8]) -> bool {
+    match front {
+        [0, 0, 0, method, ..] => (1..=LAST_METHOD).contains(method),
+        _ => false,
     }
 }
 

@@ -10,6 +10,7 @@ mod fault;
 mod faults_told;
 mod files;
 mod listing;
+mod moment;
 mod open_file;
 
 pub use disk::FolderDisk;

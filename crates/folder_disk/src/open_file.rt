@@ -1,5 +1,6 @@
 // A file that is open, and whether its name still leads to it.
 use crate::fault::FileFault;
+use crate::moment::Moment;
 use std::fs::{self, File, Metadata, OpenFile, OpenOptions};
 use std::io;
 use std::io::ErrorKind;
@@ -157,17 +158,18 @@ impl OpenedFile {
         self.file.set_len(length)
     }
 
-    // Whether the file begins with so many zero bytes, or has zero bytes alone.
-    pub(crate) fn begins_with_zeros(
-        &self,
-        length: u64,
-        front: &mut [u8],
-    ) -> Result<bool, FileFault> {
-        let count = length.min(front.len() as u64) as usize;
-        let Some(front) = front.get_mut(..count) else {
-            return Ok(true);
+    // The bytes that the file begins with, as many as there is room for.
+    pub(crate) fn front<'a>(&self, length: u64, room: &'a mut [u8]) -> Result<&'a [u8], FileFault> {
+        let count = length.min(room.len() as u64) as usize;
+        let Some(front) = room.get_mut(..count) else {
+            return Ok(&[]);
         };
         self.read(0, front)?;
-        Ok(front.iter().all(|byte| *byte == 0))
+        Ok(front)
+    }
+
+    // Whether it is under its name as it was at a moment.
+    pub(crate) fn was_there(&self, moment: Moment) -> Result<bool, FileFault> {
+        Ok(Moment::of_change(&self.file.metadata()?).is_before(moment))
     }
 }

@@ -340,7 +340,7 @@ fn serve_disks<R: Wait + Abort>(
 fn empty_disks(alloc: Global) -> Result<Vec<MemDisk>, AllocError> {
     let mut disks = Vec::new(alloc);
     for _class in 0..CLASSES {
-        disks.push(MemDisk::new(alloc, 1_000_000))?;
+        disks.push(MemDisk::new(alloc, 10_000_000))?;
     }
     Ok(disks)
 }

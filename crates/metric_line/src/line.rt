@@ -3,6 +3,7 @@
 ghost use Rattle.std.specs.Prelude.{◌≡◌, ◌≢◌, true, IfOk, IfErr, IsOk, None, Ok, Some};
 ghost use Rattle.metric_path.specs.Path.{path_fault};
 ghost use Rattle.metric_line.specs.LineDatum.{datum_of, point_result};
+ghost use Rattle.fixed_num.specs.Milli.{IsMilli};
 ghost use Rattle.fixed_num.specs.Moment.{is_moment};
 ghost use Rattle.fixed_num.specs.Read.{milli_result};
 ghost use Rattle.fixed_num.specs.Whole.{whole_number};
@@ -174,6 +175,7 @@ fn datum_over(
 ) -> Result<Datum, LineFault>
     requires legal { path_fault path.now ≡ None }
     requires moment { is_moment time ≡ true }
+    requires fits { IsMilli value }
     ensures datum { IfOk result
         (λ datum. seen datum ≡ record { path = path.now; time = time; value = value }) }
     ensures memory { IfErr result (λ fault. fault ≡ LineFault.NoMemory) }

@@ -41,7 +41,7 @@ pub same_numbers : (layouts : List LayoutValue) → KeepsNumbers layouts layouts
 same_numbers layouts = ([], sym (append-nil layouts))
 
 abbrev known_with : LayoutValue → Entry → Known
-known_with layout entry = record { layout = layout; is_kept = entry.is_kept; drains = entry.drains }
+known_with layout entry = record { layout = layout; is_kept = entry.is_kept; is_old = entry.is_old; drains = entry.drains }
 
 kept_known : (layouts more : List LayoutValue) (entry : Entry) → entry.layout < length layouts → known_by (layouts ++ more) entry ≡ known_by layouts entry
 kept_known layouts more entry within =
@@ -140,7 +140,7 @@ finds_shown layouts index hits table found fits is finds same =
 -- what is known of one hit more
 pub one_more : (layouts : List LayoutValue) (hits : List (Hit Entry)) (found : List (List ℕ × Known)) (k : ℕ) (hit : Hit Entry) (layout : LayoutValue) → found ≡ known_by_all layouts (map hit_seen (take k hits))
     → k < length hits → hit ≡ get_or hits k hit → slice_get layouts hit.entry.now.layout ≡ Some layout
-    → found ++ (hit.path.now, record { layout = layout; is_kept = hit.entry.now.is_kept; drains = hit.entry.now.drains }) ∷ [] ≡ known_by_all layouts (map hit_seen (take (k + 1) hits))
+    → found ++ (hit.path.now, record { layout = layout; is_kept = hit.entry.now.is_kept; is_old = hit.entry.now.is_old; drains = hit.entry.now.drains }) ∷ [] ≡ known_by_all layouts (map hit_seen (take (k + 1) hits))
 one_more layouts hits found k hit layout same within is here =
     let known : List ℕ × Entry → List ℕ × Known = λ e. (e.0, known_by layouts e.1) in
     let next : known_with layout hit.entry.now ≡ known_by layouts hit.entry.now = ap (λ (l : LayoutValue). known_with l hit.entry.now) (sym (get_or_from_slice_get layouts hit.entry.now.layout layout no_layout here)) in

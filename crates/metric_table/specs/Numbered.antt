@@ -12,7 +12,12 @@ no_layout = record { archives = []; method = Average; factor = 0 }
 
 -- what is known by an entry
 abbrev pub known_by : List LayoutValue → Entry → Known
-known_by layouts entry = record { layout = get_or layouts entry.layout no_layout; is_kept = entry.is_kept; drains = entry.drains }
+known_by layouts entry = record {
+  layout = get_or layouts entry.layout no_layout;
+  is_kept = entry.is_kept;
+  is_old = entry.is_old;
+  drains = entry.drains;
+}
 
 -- what is known by all entries
 abbrev pub known_by_all : List LayoutValue → List (List ℕ × Entry) → List (List ℕ × Known)

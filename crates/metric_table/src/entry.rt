@@ -5,5 +5,6 @@
 pub(crate) struct Entry {
     pub(crate) layout: u32,
     pub(crate) is_kept: bool,
+    pub(crate) is_old: bool,
     pub(crate) drains: u64,
 }

@@ -27,6 +27,7 @@ pub(crate) fn metrics_of<'a>(
             path: hit.path,
             layout,
             is_kept: hit.entry.is_kept,
+            is_old: hit.entry.is_old,
             drains: hit.entry.drains,
         })?;
     }

@@ -8,5 +8,6 @@ pub struct FoundMetric<'a> {
     pub path: &'a MetricPath,
     pub layout: &'a Layout,
     pub is_kept: bool,
+    pub is_old: bool,
     pub drains: u64,
 }

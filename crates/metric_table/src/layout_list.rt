@@ -60,6 +60,7 @@ impl LayoutList {
         Known {
             layout,
             is_kept: entry.is_kept,
+            is_old: entry.is_old,
             drains: entry.drains,
         }
     }

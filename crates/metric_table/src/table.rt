@@ -78,8 +78,10 @@ impl MetricTable {
         path: MetricPath,
         layout: Layout,
         is_kept: bool,
+        is_old: bool,
     ) -> Result<(), AllocError>
-        ensures ok { OnOk result (Sets self.old self.new path (Some (undrained layout is_kept))) }
+        ensures ok { OnOk result
+            (Sets self.old self.new path (Some (undrained layout is_kept is_old))) }
         ensures err { OnErr result (self.new ≡ self.old) }
     {
         // Each path is there once, so that no entry is hidden where the index stays as it is.
@@ -88,6 +90,7 @@ impl MetricTable {
         let entry = Entry {
             layout: number,
             is_kept,
+            is_old,
             drains: 0,
         };
         self.index.insert(path, entry)
@@ -105,6 +108,7 @@ impl MetricTable {
         let entry = Entry {
             layout: entry.layout,
             is_kept: true,
+            is_old: false,
             drains: entry.drains + 1,
         };
         self.index.set(path, entry);

@@ -22,7 +22,12 @@ fn known_table(alloc: Global) -> Result<MetricTable, Fail> {
         (b"c", 10, true),
     ];
     for (text, step, is_kept) in rows {
-        table.insert(MetricPath::new(alloc, text)?, layout_of(step)?, is_kept)?;
+        table.insert(
+            MetricPath::new(alloc, text)?,
+            layout_of(step)?,
+            is_kept,
+            false,
+        )?;
     }
     Ok(table)
 }

@@ -1,10 +1,10 @@
 //! Series that are chosen, sorted and named.
 
-use crate::notation::{set_at, write_names};
+use crate::notation::{known_value, set_at, write_names};
 use crate::numbers::small_signed;
 use crate::room::plenty;
 use case_lines::{Case, CaseFault};
-use fixed_num::Milli;
+use fixed_num::{Milli, wide};
 use name_pattern::PatternText;
 use series_pick::{Choose, Name, SignedNodes, choose};
 use std::alloc::Global;
@@ -32,7 +32,7 @@ fn read_choice(alloc: Global, case: &Case) -> Result<Option<Choose>, CaseFault> 
             Ok(Some(Choose::AliasByNode { nodes }))
         }
         word if case.len() == 2 => Ok(Some(read_plain(word)?)),
-        word => Ok(Some(read_bounded(word, case.signed(2)?)?)),
+        word => Ok(Some(read_bounded(word, known_value(case.text(2)?)?)?)),
     }
 }
 
@@ -90,12 +90,12 @@ fn read_bounded(word: &str, bound: Milli) -> Result<Choose, CaseFault> {
         "minimumBelow" => Ok(Choose::MinimumBelow { bound }),
         "currentBelow" => Ok(Choose::CurrentBelow { bound }),
         "averageBelow" => Ok(Choose::AverageBelow { bound }),
-        _ => read_counted(word, bound),
+        _ => read_counted(word, wide(bound)),
     }
 }
 
 // Those with a number of series.
-fn read_counted(word: &str, most: i64) -> Result<Choose, CaseFault> {
+fn read_counted(word: &str, most: i128) -> Result<Choose, CaseFault> {
     let Ok(most) = u32::try_from(most) else {
         return Err(CaseFault::Malformed);
     };

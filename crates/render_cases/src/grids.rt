@@ -3,8 +3,7 @@
 use crate::early::are_narrow;
 use crate::notation::{read_series, series_at, series_from, write_series, write_values};
 use case_lines::{Case, CaseFault};
-use fixed_num::Milli;
-use series_set::{LATEST_END, Series, SeriesSet, common_grid, on_grid, thin};
+use series_set::{LATEST_END, Reading, Series, SeriesSet, common_grid, on_grid, thin};
 use std::alloc::{AllocError, Global};
 
 /// Tells what the case of one of these verbs tells.
@@ -52,7 +51,7 @@ fn write_exchanged(told: &mut String, series: Series, path: String) -> Result<()
     write!(told, " to {}", series.end())
 }
 
-fn write_taken(told: &mut String, values: &[Option<Milli>], end: u64) -> Result<(), AllocError> {
+fn write_taken(told: &mut String, values: &[Reading], end: u64) -> Result<(), AllocError> {
     write_values(told, values)?;
     write!(told, " to {end} ")
 }

@@ -6,8 +6,8 @@
 
 use crate::numbers::whole;
 use case_lines::{Case, CaseFault};
-use fixed_num::Milli;
-use series_set::{EvalFault, Series, SeriesSet};
+use fixed_num::{Milli, narrow, wide};
+use series_set::{EvalFault, Reading, Series, SeriesSet};
 use std::alloc::{AllocError, Global};
 
 /// The series that a word says, where its numbers make one.
@@ -26,7 +26,7 @@ pub fn read_series(alloc: Global, word: &str) -> Result<Option<Series>, CaseFaul
     Ok(Series::new(name, path, whole(start)?, whole(step)?, values))
 }
 
-fn read_values(alloc: Global, text: &str) -> Result<Vec<Option<Milli>>, CaseFault> {
+fn read_values(alloc: Global, text: &str) -> Result<Vec<Reading>, CaseFault> {
     let mut values = Vec::new(alloc);
     if text.is_empty() {
         return Ok(values);
@@ -38,7 +38,7 @@ fn read_values(alloc: Global, text: &str) -> Result<Vec<Option<Milli>>, CaseFaul
 }
 
 // One value, or some that are the same.
-fn push_run(alloc: Global, values: &mut Vec<Option<Milli>>, text: &str) -> Result<(), CaseFault> {
+fn push_run(alloc: Global, values: &mut Vec<Reading>, text: &str) -> Result<(), CaseFault> {
     let Some((value, count)) = text.split_once('*') else {
         values.push(read_value(text)?)?;
         return Ok(());
@@ -48,12 +48,17 @@ fn push_run(alloc: Global, values: &mut Vec<Option<Milli>>, text: &str) -> Resul
     Ok(())
 }
 
-fn read_value(text: &str) -> Result<Option<Milli>, CaseFault> {
+fn read_value(text: &str) -> Result<Reading, CaseFault> {
     if text == "_" {
-        return Ok(None);
+        return Ok(Reading::missing());
     }
-    match text.parse::<i64>() {
-        Ok(value) => Ok(Some(value)),
+    Ok(Reading::known(known_value(text)?))
+}
+
+/// A value in thousandths.
+pub fn known_value(text: &str) -> Result<Milli, CaseFault> {
+    match text.parse::<i128>() {
+        Ok(number) => narrow(number).ok_or(CaseFault::Malformed),
         Err(_) => Err(CaseFault::Malformed),
     }
 }
@@ -90,11 +95,11 @@ pub fn series_from(alloc: Global, case: &Case, at: usize) -> Result<SeriesSet, C
 }
 
 /// Writes values with commas between.
-pub fn write_values(told: &mut String, values: &[Option<Milli>]) -> Result<(), AllocError> {
+pub fn write_values(told: &mut String, values: &[Reading]) -> Result<(), AllocError> {
     let mut between = "";
     for value in values {
         told.push_str(between)?;
-        write_value(told, *value)?;
+        write_value(told, value.get())?;
         between = ",";
     }
     Ok(())
@@ -102,7 +107,7 @@ pub fn write_values(told: &mut String, values: &[Option<Milli>]) -> Result<(), A
 
 fn write_value(told: &mut String, value: Option<Milli>) -> Result<(), AllocError> {
     match value {
-        Some(value) => write!(told, "{value}"),
+        Some(value) => write!(told, "{}", wide(value)),
         None => told.push('_'),
     }
 }

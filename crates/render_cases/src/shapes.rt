@@ -3,7 +3,7 @@ ghost use Rattle.std.specs.Prelude.{◌≤◌, ◌+◌, All, IsTrue};
 ghost use Rattle.series_set.specs.Series.{end_of, latest_end};
 ghost use Rattle.series_funcs.specs.Moved.{HasStep, lateness};
 
-use crate::notation::{set_at, write_found};
+use crate::notation::{known_value, set_at, write_found};
 use crate::room::plenty;
 use case_lines::{Case, CaseFault};
 use series_funcs::{CallName, Gather, Shape, shape};
@@ -58,7 +58,7 @@ fn read_shape(case: &Case) -> Result<Shape, CaseFault> {
             billionths: case.signed(2)?,
         }),
         "offset" => Ok(Shape::Offset {
-            by: case.signed(2)?,
+            by: known_value(case.text(2)?)?,
         }),
         "delay" => Ok(Shape::Delay {
             places: case.small(2)?,
@@ -67,13 +67,13 @@ fn read_shape(case: &Case) -> Result<Shape, CaseFault> {
             most: Some(case.small(2)?),
         }),
         "transformNull" => Ok(Shape::TransformNull {
-            value: case.signed(2)?,
+            value: known_value(case.text(2)?)?,
         }),
         "removeAboveValue" => Ok(Shape::RemoveAboveValue {
-            most: case.signed(2)?,
+            most: known_value(case.text(2)?)?,
         }),
         "removeBelowValue" => Ok(Shape::RemoveBelowValue {
-            least: case.signed(2)?,
+            least: known_value(case.text(2)?)?,
         }),
         "scaleToSeconds" => Ok(Shape::ScaleToSeconds {
             seconds: case.small(2)?,

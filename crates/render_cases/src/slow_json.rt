@@ -2,9 +2,9 @@
 
 use crate::room::plenty;
 use case_lines::{Case, CaseFault};
-use fixed_num::Milli;
+use fixed_num::{Milli, narrow, wide};
 use render_json::json_text;
-use series_set::{LATEST_END, Series, SeriesSet};
+use series_set::{LATEST_END, Reading, Series, SeriesSet};
 use std::alloc::{AllocError, Global};
 
 /// How many values a generated series has: of seven kinds, with three numbers round each of 19 powers of ten.
@@ -25,7 +25,7 @@ pub fn tell_sweep(alloc: Global, told: &mut String, case: &Case) -> Result<(), C
 }
 
 // The whole part, a point, and of three decimals those up to the last that is not 0, but one at least.
-fn push_slow_size(text: &mut String, size: u64) -> Result<(), AllocError> {
+fn push_slow_size(text: &mut String, size: u128) -> Result<(), AllocError> {
     let (whole, rest) = (size / 1000, size % 1000);
     if rest % 100 == 0 {
         return write!(text, "{whole}.{}", rest / 100);
@@ -40,10 +40,11 @@ fn push_slow_value(text: &mut String, value: Option<Milli>) -> Result<(), AllocE
     let Some(value) = value else {
         return text.push_str("null");
     };
-    if value < 0 {
+    let number = wide(value);
+    if number < 0 {
         text.push_str("-")?;
     }
-    push_slow_size(text, value.unsigned_abs())
+    push_slow_size(text, number.unsigned_abs())
 }
 
 fn push_slow_points(text: &mut String, series: &Series) -> Result<(), AllocError> {
@@ -51,7 +52,7 @@ fn push_slow_points(text: &mut String, series: &Series) -> Result<(), AllocError
     let mut between = "";
     for value in series.values() {
         write!(text, "{between}[")?;
-        push_slow_value(text, *value)?;
+        push_slow_value(text, value.get())?;
         write!(text, ", {time}]")?;
         between = ", ";
         time = time.saturating_add(series.step());
@@ -77,24 +78,29 @@ fn slow_json(alloc: Global, set: &SeriesSet) -> Result<String, AllocError> {
     Ok(text)
 }
 
+// The greatest value, in thousandths.
+const GREATEST: i128 = 1_000_000_000_000_000_000_000_000_000_000;
+
 // A value next to a power of ten, above 0 or below, none, the least, the greatest, or a small one.
 fn value_at(place: u32) -> Option<Milli> {
-    let power = 10i64.saturating_pow(place % 19);
-    let near = power.saturating_add(i64::from(place % 3) - 1);
-    match place % 7 {
-        0 => Some(near),
-        1 => Some(0i64.saturating_sub(near)),
-        2 => None,
-        3 => Some(i64::MIN),
-        4 => Some(i64::MAX),
-        _ => Some(i64::from(place) * 13),
-    }
+    let power = 10i128.saturating_pow(place % 31);
+    let near = power
+        .saturating_add(i128::from(place % 3) - 1)
+        .min(GREATEST);
+    narrow(match place % 7 {
+        0 => near,
+        1 => 0i128.saturating_sub(near),
+        2 => return None,
+        3 => 0i128.saturating_sub(GREATEST),
+        4 => GREATEST,
+        _ => i128::from(place) * 13,
+    })
 }
 
-fn generated_values(alloc: Global) -> Result<Vec<Option<Milli>>, AllocError> {
+fn generated_values(alloc: Global) -> Result<Vec<Reading>, AllocError> {
     let mut values = Vec::new(alloc);
     for place in 0..PLACES {
-        values.push(value_at(place))?;
+        values.push(Reading::of(value_at(place)))?;
     }
     Ok(values)
 }

@@ -2,7 +2,7 @@
 use Rattle.std.proofs.Common.{◌≡◌, ◌≢◌, ℕ, zero, suc, ◌+◌, ◌-◌, ◌*◌, ◌/◌, ◌%◌, ◌^◌, ◌<◌, ◌≤◌, Bool, true, ◌&&◌, T, eqb, List, [], ◌∷◌, ◌++◌, length, take, drop, get_or, refl, ap, sym, ◌∙◌, inl, inr, arith, eq-zero-or-pos, eqb→eq, append_assoc, length-append, decimal, codes, take_at, drop_at}
 use Rattle.std.proofs.lemmas.List.{drop-drop, drop-take, length-drop, length-take-le, take-append-drop, take-take}
 use Rattle.std.proofs.Math.Seq.{take-append-add}
-use Rattle.std.proofs.lemmas.Fmt.{length-decimal-le}
+use Rattle.std.proofs.lemmas.Fmt.{decimal_step_wide, length-decimal-le}
 use lib.Ieee.Fits.{and_l, and_r}
 use Rattle.itoa.proofs.Decimal.{decimal_four, pair}
 use Rattle.fixed_num.specs.Print.{decimals_text, unsigned_milli_text}
@@ -30,9 +30,20 @@ PAIRS_at p h = below 100 p tt h
 pub number_short : (n : ℕ) → n < 2 ^ 64 → length (decimal n) ≤ 20
 number_short n h = length-decimal-le 20 n (omega arith) (omega arith) h
 
-pub unsigned_short : (n : ℕ) → n ≤ 2 ^ 63 → length (unsigned_milli_text n) ≤ 20
+pub unsigned_short : (n : ℕ) → n ≤ 10 ^ 30 → length (unsigned_milli_text n) ≤ 32
 unfolding unsigned_milli_text
 unsigned_short n h = omega (arith, length-append (decimal (n / 1000)) (46 ∷ decimals_text (n % 1000)), print.whole_short n h, print.decimals_short (n % 1000) (omega arith))
+
+-- the last two digits of a number that 64 bits may not hold
+pub wide_pair : (n : ℕ) → 100 ≤ n → n < 2 ^ 128 → decimal n ≡ decimal (n / 100) ++ pair (n % 100)
+wide_pair n lo hi =
+    let a : n / 10 / 10 ≡ n / 100 = omega arith in
+    let b : n / 10 % 10 ≡ n % 100 / 10 = omega arith in
+    let c : n % 10 ≡ n % 100 % 10 = omega arith in
+    rw (decimal_step_wide n (omega arith) (omega arith), decimal_step_wide (n / 10) (omega arith) (omega arith), append_assoc, a, b, ← c)
+
+pub wide_pair_long : (n : ℕ) → 100 ≤ n → n < 2 ^ 128 → length (decimal n) ≡ length (decimal (n / 100)) + 2
+wide_pair_long n lo hi = ap length (wide_pair n lo hi) ∙ length-append _ _
 
 -- ---- one to three decimals
 
@@ -83,17 +94,17 @@ time_of n behind lo hi =
     ∙ (ap (λ l. codes ", " ++ l) (append_assoc (decimal (n / 10000)) (pair (n % 10000 / 100) ++ pair (n % 10000 % 100)) (codes "]" ++ behind))
     ∙ sym (append_assoc (codes ", ") (decimal (n / 10000)) (last_of (n % 10000) behind)))
 
-pub next_time : (xs ys behind : List ℕ) (at time next : ℕ) → length xs ≡ 96 → length behind ≡ 48 → at ≤ 48 → time < 2 ^ 64 → next < 2 ^ 64 → 10000 ≤ next → next / 10000 ≡ time / 10000
-    → take 43 ys ≡ take 43 xs → drop 43 ys ≡ last_of (next % 10000) behind → drop at xs ≡ time_tail time behind → drop at ys ≡ time_tail next behind
+pub next_time : (xs ys behind : List ℕ) (at time next : ℕ) → length xs ≡ 128 → length behind ≡ 64 → at ≤ 64 → time < 2 ^ 64 → next < 2 ^ 64 → 10000 ≤ next → next / 10000 ≡ time / 10000
+    → take 59 ys ≡ take 59 xs → drop 59 ys ≡ last_of (next % 10000) behind → drop at xs ≡ time_tail time behind → drop at ys ≡ time_tail next behind
 next_time xs ys behind at time next long far within small below some same before written is =
     let head = codes ", " ++ decimal (time / 10000) in
     let old : drop at xs ≡ head ++ last_of (time % 10000) behind = is ∙ time_of time behind (omega (arith, some, same)) small in
     let count : length (drop at xs) ≡ length head + length (last_of (time % 10000) behind) = ap length old ∙ length-append head (last_of (time % 10000) behind) in
-    let ends : at + length head ≡ 43 = omega (arith, count, length-drop at xs, long, far, within) in
-    new_end xs ys head (last_of (time % 10000) behind) (last_of (next % 10000) behind) at 43 before written old ends
+    let ends : at + length head ≡ 59 = omega (arith, count, length-drop at xs, long, far, within) in
+    new_end xs ys head (last_of (time % 10000) behind) (last_of (next % 10000) behind) at 59 before written old ends
     ∙ (ap (λ n. (codes ", " ++ decimal n) ++ last_of (next % 10000) behind) (sym same) ∙ sym (time_of next behind some below))
 
-pub no_text_long : length no_text ≡ 48
+pub no_text_long : length no_text ≡ 64
 unfolding no_text
 no_text_long = refl
 
@@ -102,16 +113,16 @@ pub cut_back : (out xs : List ℕ) (n k len : ℕ) → len ≡ length out → n 
 cut_back out xs n k len long few = rw long (take-append-add out (take k xs) n ∙ ap (λ l. out ++ l) (take-take n k xs few))
 
 -- what stands behind a point
-pub behind_time : (xs behind : List ℕ) (at time : ℕ) → length xs ≡ 96 → length behind ≡ 48 → at ≤ 48 → drop at xs ≡ time_tail time behind → drop 48 xs ≡ behind
+pub behind_time : (xs behind : List ℕ) (at time : ℕ) → length xs ≡ 128 → length behind ≡ 64 → at ≤ 64 → drop at xs ≡ time_tail time behind → drop 64 xs ≡ behind
 behind_time xs behind at time long far within is =
     let piece = codes ", " ++ (decimal time ++ codes "]") in
     let whole : drop at xs ≡ piece ++ behind = is ∙ ap (λ l. codes ", " ++ l) (sym (append_assoc (decimal time) (codes "]") behind)) in
     let count : length (drop at xs) ≡ length piece + length behind = ap length whole ∙ length-append piece behind in
-    kept_behind xs behind piece at 48 whole (omega (arith, count, length-drop at xs, long, far, within))
+    kept_behind xs behind piece at 64 whole (omega (arith, count, length-drop at xs, long, far, within))
 
 -- a point is what stands before the middle
-pub point_before : (xs sep value behind : List ℕ) (time from : ℕ) → length xs ≡ 96 → length behind ≡ 48 → from ≤ 48 → drop from xs ≡ sep ++ (codes "[" ++ (value ++ time_tail time behind))
-    → take (48 - from) (drop from xs) ≡ sep ++ (codes "[" ++ (value ++ (codes ", " ++ (decimal time ++ codes "]"))))
+pub point_before : (xs sep value behind : List ℕ) (time from : ℕ) → length xs ≡ 128 → length behind ≡ 64 → from ≤ 64 → drop from xs ≡ sep ++ (codes "[" ++ (value ++ time_tail time behind))
+    → take (64 - from) (drop from xs) ≡ sep ++ (codes "[" ++ (value ++ (codes ", " ++ (decimal time ++ codes "]"))))
 point_before xs sep value behind time from long far within is =
     let point = sep ++ (codes "[" ++ (value ++ (codes ", " ++ (decimal time ++ codes "]")))) in
     let whole : drop from xs ≡ point ++ behind =
@@ -119,4 +130,4 @@ point_before xs sep value behind time from long far within is =
     ∙ (ap (λ l. sep ++ (codes "[" ++ l)) (append_assoc value (codes ", " ++ (decimal time ++ codes "]")) behind)
     ∙ ap (λ l. sep ++ (codes "[" ++ (value ++ (codes ", " ++ l)))) (append_assoc (decimal time) (codes "]") behind))) in
     let count : length (drop from xs) ≡ length point + length behind = ap length whole ∙ length-append point behind in
-    ap (take (48 - from)) whole ∙ take_at point behind (48 - from) (omega (arith, count, length-drop from xs, long, far, within))
+    ap (take (64 - from)) whole ∙ take_at point behind (64 - from) (omega (arith, count, length-drop from xs, long, far, within))

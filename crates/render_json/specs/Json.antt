@@ -23,7 +23,7 @@ time_tail time behind = codes ", " ++ (decimal time ++ (codes "]" ++ behind))
 
 -- what stands in memory behind a point that is written there
 unfoldable pub no_text : List ℕ
-no_text = replicate 48 0
+no_text = replicate 64 0
 
 abbrev pub points_text : SeriesValue → List ℕ
 points_text s = joined (codes ", ") (map point_text (points_of s))

@@ -2,7 +2,7 @@
 ghost use Rattle.std.specs.Prelude.{◌≡◌, ◌+◌, ◌/◌, ◌%◌, ◌^◌, ◌<◌, ◌≤◌, ◌∷◌, ◌++◌, length, take, drop, decimal};
 ghost use Rattle.fixed_num.specs.Print.{milli_text, unsigned_milli_text, decimals_text};
 
-use fixed_num::Milli;
+use fixed_num::{Milli, wide};
 
 static PAIRS: [u8; 200] =
     *b"00010203040506070809101112131415161718192021222324252627282930313233343536373839404142434445464748495051525354555657585960616263646566676869707172737475767778798081828384858687888990919293949596979899";
@@ -25,14 +25,15 @@ pub(crate) fn put(text: &mut [u8], end: usize, piece: &[u8]) -> usize
 #[inline(always)]
 #[tactic(auto, using(fixed_num::proofs::PrintLemmas::milli_text_negative, fixed_num::proofs::PrintLemmas::milli_text_positive))]
 pub(crate) fn put_value(text: &mut [u8], end: usize, value: Milli) -> usize
-    requires room { 21 ≤ end }
+    requires room { 33 ≤ end }
     requires within { end ≤ length text.old }
     ensures start { result + length (milli_text value) ≡ end }
-    ensures short { length (milli_text value) ≤ 21 }
+    ensures short { length (milli_text value) ≤ 33 }
     ensures written { drop result text.new ≡ milli_text value ++ drop end text.old }
 {
-    let start = put_unsigned(text, end, value.unsigned_abs());
-    if value < 0 {
+    let number = wide(value);
+    let start = put_unsigned(text, end, number.unsigned_abs());
+    if number < 0 {
         return put(text, start, b"-");
     }
     start
@@ -41,17 +42,41 @@ pub(crate) fn put_value(text: &mut [u8], end: usize, value: Milli) -> usize
 // Writes the text of a number of thousandths without a sign.
 #[inline(always)]
 #[tactic(auto, unfolding(fixed_num::specs::Print::unsigned_milli_text), using(fixed_num::proofs::PrintLemmas::whole_short, fixed_num::proofs::PrintLemmas::decimals_short))]
-fn put_unsigned(text: &mut [u8], end: usize, thousandths: u64) -> usize
-    requires room { 20 ≤ end }
+fn put_unsigned(text: &mut [u8], end: usize, thousandths: u128) -> usize
+    requires room { 32 ≤ end }
     requires within { end ≤ length text.old }
-    requires range { thousandths ≤ 2 ^ 63 }
+    requires range { thousandths ≤ 10 ^ 30 }
     ensures start { result + length (unsigned_milli_text thousandths) ≡ end }
-    ensures short { length (unsigned_milli_text thousandths) ≤ 20 }
+    ensures short { length (unsigned_milli_text thousandths) ≤ 32 }
     ensures written { drop result text.new ≡ unsigned_milli_text thousandths ++ drop end text.old }
 {
-    let decimals = put_decimals(text, end, thousandths % 1000);
+    // Mostly 64 bits hold the number, and their quotients are the faster ones.
+    if thousandths <= u128::from(u64::MAX) {
+        let few = thousandths as u64;
+        let decimals = put_decimals(text, end, few % 1000);
+        let point = put(text, decimals, b".");
+        return put_number(text, point, few / 1000);
+    }
+    let decimals = put_decimals(text, end, (thousandths % 1000) as u64);
     let point = put(text, decimals, b".");
-    put_number(text, point, thousandths / 1000)
+    put_wide_number(text, point, thousandths / 1000)
+}
+
+// Writes the digits of a number that 64 bits may not hold.
+fn put_wide_number(text: &mut [u8], end: usize, n: u128) -> usize
+    requires room { length (decimal n) ≤ end }
+    requires within { end ≤ length text.old }
+    requires range { n ≤ 10 ^ 27 }
+    ensures start { result + length (decimal n) ≡ end }
+    ensures written { drop result text.new ≡ decimal n ++ drop end text.old }
+{
+    let mut left = n;
+    let mut at = end;
+    while left > u128::from(u64::MAX) {
+        at = put_pair(text, at, (left % 100) as u64);
+        left /= 100;
+    }
+    put_number(text, at, left as u64)
 }
 
 // Writes the decimals of a number of thousandths.

@@ -17,7 +17,7 @@ use std::alloc::{AllocError, Global};
 pub const LATEST_CSV_END: u64 = 253_402_207_200;
 
 // The most bytes of a line behind the name.
-const FIELDS_ROOM: usize = 44;
+const FIELDS_ROOM: usize = 56;
 
 /// Series as comma-separated values: for each value a line `name,YYYY-MM-DD HH:MM:SS,value`, ended by CR and LF,
 /// with the time at UTC and nothing for a missing value. A name with a comma, a double quote, a CR
@@ -137,7 +137,7 @@ fn push_lines(out: &mut Vec<u8>, field: &[u8], series: &Series) -> Result<(), Al
     };
     for value in series.values() {
         date = date_of(date, (time / 86_400) as u32);
-        push_line(out, &mut text, field, date.number, time, *value)?;
+        push_line(out, &mut text, field, date.number, time, value.get())?;
         time += series.step();
     }
     Ok(())

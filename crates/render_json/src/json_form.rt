@@ -12,10 +12,10 @@ use series_set::{Allowance, Series, SeriesSet, Size};
 use std::alloc::{AllocError, Global};
 
 // The most bytes of a point with the separator before it.
-const POINT_ROOM: usize = 48;
+const POINT_ROOM: usize = 64;
 
 // A point's text ends in the middle, so that as many bytes can be copied from wherever it starts.
-const TEXT_ROOM: usize = 96;
+const TEXT_ROOM: usize = 128;
 
 /// Series as JSON: a list of objects with the `target`, which is the series' name, and the `datapoints`,
 /// each `[value, time]` with `null` for a missing value and the time in seconds since the Unix epoch.
@@ -45,7 +45,7 @@ fn room_of(set: &[Series]) -> usize {
 // A byte of a name takes at most six in a JSON text.
 fn series_room(series: &Series) -> usize {
     let name = series.name().len().saturating_mul(6);
-    let beside = number_room(series.end()) + 6;
+    let beside = number_room(u128::from(series.end())) + 6;
     let points = series.values().len().saturating_mul(beside);
     let values = values_room(series.values(), 4).saturating_add(points);
     name.saturating_add(values).saturating_add(33 + POINT_ROOM)
@@ -106,7 +106,7 @@ fn push_points(out: &mut Vec<u8>, series: &Series) -> Result<(), AllocError>
     let mut time = series.start();
     let mut end = put_time(&mut text, time);
     for value in series.values() {
-        push_point(out, &mut text, end, time, *value, is_first)?;
+        push_point(out, &mut text, end, time, value.get(), is_first)?;
         is_first = false;
         let next = time + series.step();
         end = put_next_time(&mut text, end, time, next);
@@ -125,7 +125,7 @@ fn push_point(
     value: Option<Milli>,
     is_first: bool,
 ) -> Result<(), AllocError>
-    requires room { (25 ≤ end) × (end ≤ POINT_ROOM) }
+    requires room { (37 ≤ end) × (end ≤ POINT_ROOM) }
     requires is { drop end text.old ≡ time_tail time no_text }
     ensures pushed { OnOk result
         (out.new.items ≡ out.old.items ++ (separator (codes ", ") is_first ++ point_text (time, value))) }
@@ -165,9 +165,9 @@ fn push_from(out: &mut Vec<u8>, text: &[u8; TEXT_ROOM], from: usize) -> Result<(
 #[inline(always)]
 #[tactic(auto, unfolding(crate::specs::Json::null_text))]
 fn put_known(text: &mut [u8; TEXT_ROOM], end: usize, value: Option<Milli>) -> usize
-    requires room { (25 ≤ end) × (end ≤ POINT_ROOM) }
+    requires room { (37 ≤ end) × (end ≤ POINT_ROOM) }
     ensures start { result + length (value_or null_text value) ≡ end }
-    ensures short { length (value_or null_text value) ≤ 21 }
+    ensures short { length (value_or null_text value) ≤ 33 }
     ensures written { drop result text.new ≡ value_or null_text value ++ drop end text.old }
 {
     put_value_or(text, end, b"null", value)
@@ -191,7 +191,7 @@ fn put_opening(text: &mut [u8; TEXT_ROOM], end: usize, is_first: bool) -> usize
 #[tactic(auto, using(crate::proofs::BackwardLemmas::number_short))]
 fn put_time(text: &mut [u8; TEXT_ROOM], time: u64) -> usize
     requires { drop POINT_ROOM text.old ≡ no_text }
-    ensures room { (25 ≤ result) × (result ≤ POINT_ROOM) }
+    ensures room { (37 ≤ result) × (result ≤ POINT_ROOM) }
     ensures written { drop result text.new ≡ time_tail time no_text }
 {
     let at = put(text, POINT_ROOM, b"]");
@@ -202,9 +202,9 @@ fn put_time(text: &mut [u8; TEXT_ROOM], time: u64) -> usize
 // The same where the text has it for another time, of which mostly the last four digits alone are other.
 #[inline(always)]
 fn put_next_time(text: &mut [u8; TEXT_ROOM], end: usize, time: u64, next: u64) -> usize
-    requires room { (25 ≤ end) × (end ≤ POINT_ROOM) }
+    requires room { (37 ≤ end) × (end ≤ POINT_ROOM) }
     requires is { drop end text.old ≡ time_tail time no_text }
-    ensures room { (25 ≤ result) × (result ≤ POINT_ROOM) }
+    ensures room { (37 ≤ result) × (result ≤ POINT_ROOM) }
     ensures written { drop result text.new ≡ time_tail next no_text }
 {
     if next < 10_000 {
@@ -221,11 +221,11 @@ fn put_next_time(text: &mut [u8; TEXT_ROOM], end: usize, time: u64, next: u64) -
 #[inline(always)]
 fn put_last_digits(text: &mut [u8; TEXT_ROOM], digits: u64)
     requires { digits < 10000 }
-    ensures before { take 43 text.new ≡ take 43 text.old }
-    ensures written { drop 43 text.new ≡ (48 + digits / 100 / 10) ∷ (48 + digits / 100 % 10)
+    ensures before { take 59 text.new ≡ take 59 text.old }
+    ensures written { drop 59 text.new ≡ (48 + digits / 100 / 10) ∷ (48 + digits / 100 % 10)
         ∷ (48 + digits % 100 / 10) ∷ (48 + digits % 100 % 10) ∷ 93 ∷ drop POINT_ROOM text.old }
 {
-    text[47] = b']';
-    set_pair(text, 45, digits % 100);
-    set_pair(text, 43, digits / 100);
+    text[63] = b']';
+    set_pair(text, 61, digits % 100);
+    set_pair(text, 59, digits / 100);
 }

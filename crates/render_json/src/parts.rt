@@ -3,15 +3,16 @@ ghost use Rattle.std.specs.Prelude.{◌≡◌, ◌+◌, ◌≤◌, ◌++◌, OnO
 ghost use Rattle.render_json.specs.Values.{separator, value_or};
 
 use crate::backward::{put, put_value};
-use fixed_num::Milli;
+use fixed_num::{Milli, wide};
 use itoa::Buffer;
+use series_set::Reading;
 use std::alloc::AllocError;
 
 /// How many bytes the texts of values take at most, where that of a missing one takes so many.
-pub(crate) fn values_room(values: &[Option<Milli>], missing: usize) -> usize {
+pub(crate) fn values_room(values: &[Reading], missing: usize) -> usize {
     let mut room: usize = 0;
     for value in values {
-        room = room.saturating_add(value_room(*value, missing));
+        room = room.saturating_add(value_room(value.get(), missing));
     }
     room
 }
@@ -21,25 +22,25 @@ fn value_room(value: Option<Milli>, missing: usize) -> usize {
     let Some(value) = value else {
         return missing;
     };
-    number_room(value.unsigned_abs()).max(4) + 2
+    number_room(wide(value).unsigned_abs()).max(4) + 2
 }
 
 /// How many digits a number has at most: the logarithm of 2 to the base 10 is a little less than 1,233 / 4,096.
-pub(crate) fn number_room(number: u64) -> usize
-    ensures { result ≤ 20 }
+pub(crate) fn number_room(number: u128) -> usize
+    ensures { result ≤ 39 }
 {
-    let bits = 64_u32.saturating_sub(number.leading_zeros());
+    let bits = 128_u32.saturating_sub(number.leading_zeros());
     (bits * 1_233 / 4_096 + 1) as usize
 }
 
 /// Writes a value, or the word for a missing one, so that it ends at `end`, and answers where it starts.
 #[inline(always)]
 pub(crate) fn put_value_or(text: &mut [u8], end: usize, word: &[u8], value: Option<Milli>) -> usize
-    requires room { 21 ≤ end }
+    requires room { 33 ≤ end }
     requires within { end ≤ length text.old }
-    requires word { length word.now ≤ 21 }
+    requires word { length word.now ≤ 33 }
     ensures start { result + length (value_or word.now value) ≡ end }
-    ensures short { length (value_or word.now value) ≤ 21 }
+    ensures short { length (value_or word.now value) ≤ 33 }
     ensures written { drop result text.new ≡ value_or word.now value ++ drop end text.old }
 {
     let Some(value) = value else {

@@ -10,7 +10,7 @@ use series_set::{Allowance, Series, SeriesSet, Size};
 use std::alloc::{AllocError, Global};
 
 // The most bytes of a value with the separator before it.
-const ITEM_ROOM: usize = 22;
+const ITEM_ROOM: usize = 34;
 
 /// Series in the raw form: for each a line `name,start,end,step|value,value`, ended by LF, with `None`
 /// for a missing value. The start and the end are seconds since the Unix epoch, the end a step behind
@@ -84,7 +84,7 @@ fn push_values(out: &mut Vec<u8>, series: &Series) -> Result<(), AllocError>
     let mut text = [0; ITEM_ROOM];
     let mut is_first = true;
     for value in series.values() {
-        push_item(out, &mut text, *value, is_first)?;
+        push_item(out, &mut text, value.get(), is_first)?;
         is_first = false;
     }
     Ok(())
@@ -124,7 +124,7 @@ fn put_separator(text: &mut [u8; ITEM_ROOM], end: usize, is_first: bool) -> usiz
 #[tactic(auto, unfolding(crate::specs::Raw::none_text))]
 fn put_known(text: &mut [u8; ITEM_ROOM], value: Option<Milli>) -> usize
     ensures start { result + length (value_or none_text value) ≡ ITEM_ROOM }
-    ensures short { length (value_or none_text value) ≤ 21 }
+    ensures short { length (value_or none_text value) ≤ 33 }
     ensures written { drop result text.new ≡ value_or none_text value }
 {
     put_value_or(text, ITEM_ROOM, b"None", value)

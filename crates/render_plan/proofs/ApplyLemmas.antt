@@ -1,10 +1,9 @@
 -- What a call makes of the series of its arguments, in bounds.
-use Rattle.std.proofs.Common.{◌≡◌, ℕ, zero, suc, ◌+◌, ◌-◌, ◌*◌, ◌^◌, ◌≤◌, List, [], ◌∷◌, ◌++◌, All, length, Result, Ok, refl, sym, ap, subst, arith}
+use Rattle.std.proofs.Common.{◌≡◌, ℕ, zero, suc, ◌+◌, ◌-◌, ◌≤◌, List, [], ◌∷◌, ◌++◌, All, length, Ok, refl, sym, ap, subst, arith}
 use Rattle.std.proofs.lemmas.List.{length-append}
 use Rattle.std.proofs.lemmas.List.Elements.{All-append, All-cons, All-head, All-nil, All-tail, All-weaker}
 use Rattle.series_set.specs.Series.{SeriesValue, end_of, latest_end, widest_step}
-use Rattle.series_set.specs.declared.grid.EvalFault.{EvalFault}
-use Rattle.series_funcs.specs.Combined.{AreCombinable, IsSoonAfter, combine, most_series}
+use Rattle.series_funcs.specs.Combined.{AreCombinable, IsSoonAfter, combine}
 use Rattle.series_funcs.specs.Divided.{divide}
 use Rattle.series_funcs.specs.Moved.{IsSoLate, lateness, shape}
 use Rattle.series_funcs.specs.Regrouped.{regroup}

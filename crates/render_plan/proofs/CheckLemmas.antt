@@ -1,10 +1,10 @@
 -- The arguments of a call that are series, one after the other.
-use Rattle.std.proofs.Common.{◌≡◌, ℕ, ◌≤◌, drop, length, true, false, cond, List, [], ◌∷◌, ◌++◌, Result, Ok, Err, refl, sym, ap, ◌∙◌}
+use Rattle.std.proofs.Common.{◌≡◌, ℕ, ◌≤◌, drop, length, true, false, List, [], ◌∷◌, ◌++◌, Result, Ok, Err, refl, sym, ap, ◌∙◌}
 use Rattle.std.proofs.lemmas.List.{drop_all}
 use Rattle.target_parse.specs.declared.expr.Expr.{Expr}
 use Rattle.render_plan.specs.declared.check.Refusal.{Refusal}
 use Rattle.render_plan.specs.declared.target.Target.{Target}
-use Rattle.target_parse.specs.Tree.{Tree, Trees, End, Then, trees_of}
+use Rattle.target_parse.specs.Tree.{Tree, Trees, Then, trees_of}
 use Rattle.render_plan.specs.Arguments.{is_series}
 use Rattle.render_plan.specs.Checked.{checked, checked_all, onto_terms, terms_before, with_term}
 use Rattle.render_plan.specs.Terms.{Term, Terms, NoTerms, WithTerm, term_of, terms_of}

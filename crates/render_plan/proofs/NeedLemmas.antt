@@ -1,8 +1,7 @@
 -- The ends of needs are in order.
-use Rattle.std.proofs.Common.{ℕ, ◌≤◌, List, [], ◌∷◌, ◌++◌, All, arith}
+use Rattle.std.proofs.Common.{ℕ, ◌≤◌, [], All, arith}
 use Rattle.std.proofs.lemmas.List.Elements.{All-append, All-cons, All-nil}
 use Rattle.path_glob.specs.Faults.{Said}
-use Rattle.render_need.specs.declared.need.Need.{Need}
 use Rattle.render_plan.specs.declared.needs.Shift.{Shift}
 use Rattle.render_plan.specs.Needed.{AreEnds, need_at, needs_in, needs_in_all, needs_of, no_shift, with_operation}
 use Rattle.render_plan.specs.Planned.{Plan}

@@ -1,5 +1,5 @@
 -- The targets of a query, one after the other.
-use Rattle.std.proofs.Common.{◌≡◌, ℕ, ◌+◌, List, [], ◌∷◌, ◌++◌, map, Result, Ok, Err, refl, sym, ap, ◌∙◌, append_assoc}
+use Rattle.std.proofs.Common.{◌≡◌, ℕ, ◌+◌, List, [], ◌∷◌, ◌++◌, map, Result, Ok, Err, refl, ap, ◌∙◌}
 use Rattle.render_plan.specs.declared.fault.QueryFault.{QueryFault}
 use Rattle.render_plan.specs.declared.target.Target.{Target}
 use Rattle.render_plan.specs.Planned.{target_at, targets_from}

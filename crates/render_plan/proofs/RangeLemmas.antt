@@ -1,11 +1,10 @@
 -- A span that is read is no longer than to the latest moment.
-use Rattle.std.proofs.Common.{◌≡◌, ℕ, ◌≤◌, nat_le, Bool, true, false, cond, List, Option, Some, None, Result, Ok, Err, refl, ap, subst, arith}
+use Rattle.std.proofs.Common.{◌≡◌, ℕ, ◌≤◌, nat_le, Bool, true, false, cond, List, Option, Some, None, Ok, Err, refl, subst, arith}
 use Rattle.std.specs.Option.{option_map_or}
 use Rattle.std.specs.Str.Parse.{without_leading_sign}
 use Rattle.std.proofs.lemmas.Bool.Decides.{nat_tests}
-use Rattle.time_range.specs.SpanOf.{latest, span_of, span_result, starts_with_plus}
+use Rattle.time_range.specs.SpanOf.{latest, span_of, span_result}
 use Rattle.time_range.specs.Spans.{seconds_of}
-use Rattle.time_range.specs.declared.fault.TimeFault.{TimeFault}
 use Rattle.time_range.specs.declared.fault.TimeFault.TheVariants.{NotTime, TooLate}
 use Rattle.time_range.specs.declared.span.Span.{Span}
 

@@ -1,22 +1,19 @@
 -- The values of targets, one after the other.
-use Rattle.std.proofs.Common.{◌≡◌, ℕ, zero, suc, ◌+◌, ◌-◌, ◌*◌, ◌^◌, ◌≤◌, ◌<◌, List, [], ◌∷◌, ◌++◌, All, drop, get_or, length, Option, None, Result, Ok, Err, refl, sym, ap, subst, ◌∙◌, append_assoc, arith}
+use Rattle.std.proofs.Common.{◌≡◌, ℕ, zero, suc, ◌+◌, ◌-◌, ◌*◌, ◌≤◌, ◌<◌, List, [], ◌∷◌, ◌++◌, All, drop, get_or, length, Option, None, Result, Ok, Err, refl, sym, ap, subst, ◌∙◌, append_assoc, arith}
 use Rattle.std.proofs.lemmas.List.{append-nil, drop-drop, drop_all, length-append}
 use Rattle.std.proofs.Math.Seq.{drop-cons}
 use Rattle.std.proofs.lemmas.List.Elements.{All-append, All-cons, All-head, All-nil, All-tail, All-weaker}
-use Rattle.path_glob.specs.Faults.{Said}
 use Rattle.series_set.specs.Series.{SeriesValue, end_of, latest_end}
 use Rattle.series_set.specs.declared.grid.EvalFault.{EvalFault}
-use Rattle.series_funcs.specs.Combined.{most_series}
 use Rattle.target_parse.specs.Bytes.{most_depth}
 use Rattle.time_range.specs.SpanOf.{latest}
-use Rattle.render_plan.specs.declared.operation.Operation.{Operation}
 use Rattle.render_plan.specs.declared.settings.Format.{Format}
 use Rattle.render_plan.specs.declared.settings.Format.TheVariants.{Csv}
 use Rattle.render_plan.specs.declared.target.Target.{Target}
 use Rattle.render_plan.specs.Sound.{AreSound}
 use Rattle.render_plan.specs.Bounds.{AreLimited, AreMadeOf, AreRows, IsEarly, IsMade, end_within, greatest_end, latest_csv_end, latest_row_end}
-use Rattle.render_plan.specs.Terms.{Term, Terms, Fetch, Apply, NoTerms, WithTerm, all_terms, term_of, terms_of}
-use Rattle.render_plan.specs.Values.{Answers, Applies, HasValue, HaveValues, Rows, concat, most_of, nth, path_count, path_counts, set_before, thinned_all}
+use Rattle.render_plan.specs.Terms.{Term, Terms, NoTerms, WithTerm, all_terms, term_of, terms_of}
+use Rattle.render_plan.specs.Values.{Answers, HasValue, HaveValues, Rows, concat, most_of, nth, path_count, path_counts, set_before, thinned_all}
 use Rattle.render_plan.specs.Planned.{Plan}
 use Rattle.render_plan.proofs.MadeLemmas.{early_more}
 

@@ -2,13 +2,12 @@
 use Rattle.std.specs.Prelude.{ℕ, List, [], ◌∷◌, Option, Some, None, Result, Ok, Err, if◌then◌else◌}
 use Rattle.std.specs.Option.{option_map_or}
 use Rattle.target_parse.specs.Tree.{Tree, Call, Path, Number, Flag, Quoted, Trees, End, Then}
-use Rattle.render_plan.specs.declared.argument.Argument.{Argument}
 use Rattle.render_plan.specs.declared.check.Refusal.{Refusal}
 use Rattle.render_plan.specs.declared.check.Refusal.TheVariants.{UnknownFunction, BadArgument}
 use Rattle.render_plan.specs.declared.operation.Operation.{Operation}
 use Rattle.render_plan.specs.declared.target.Target.{Target}
 use Rattle.render_plan.specs.Arguments.{arguments_of, is_series}
-use Rattle.render_plan.specs.Functions.{Row, row_of}
+use Rattle.render_plan.specs.Functions.{row_of}
 use Rattle.render_plan.specs.Terms.{Term, Terms, Fetch, Apply, NoTerms, WithTerm, operation_of, term_of}
 
 abbrev pub or_bad_argument : {A : Type 0} → Option A → Result A Refusal

@@ -8,7 +8,7 @@ ghost use Rattle.render_plan.specs.Terms.{count_in, factor_in, gather_in, shape_
 
 use crate::argument::Argument;
 use crate::function::Shaping;
-use fixed_num::Milli;
+use fixed_num::{Milli, zero};
 use series_funcs::{Gather, Shape};
 use time_range::Span;
 
@@ -54,7 +54,7 @@ pub(crate) fn shape_of(
         }
         Shaping::TransformNull => {
             return Some(Shape::TransformNull {
-                value: value_in(second).unwrap_or(0),
+                value: value_in(second).unwrap_or(zero()),
             });
         }
         Shaping::RemoveAboveValue => {
@@ -100,8 +100,8 @@ pub(crate) fn count_in(argument: Option<Argument>) -> Option<u32>
 pub(crate) fn value_in(argument: Option<Argument>) -> Option<Milli>
     ensures { result ≡ value_in argument }
 {
-    match argument {
-        Some(Argument::Value(value)) => return Some(value),
+    match &argument {
+        Some(Argument::Value(value)) => return Some(*value),
         _ => return None,
     }
 }

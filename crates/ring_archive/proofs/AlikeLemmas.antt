@@ -1,13 +1,13 @@
 -- Files that hold the same cells read the same.
-use Rattle.std.proofs.Common.{◌≡◌, ◌∙◌, ℕ, ℤ, pos, ◌<◌, ◌==◌, Bool, true, false, cond, List, length, get_or, Option, None, Some, refl, ap}
-use Rattle.std.specs.Prelude.{slice_get, unwrap_or, option_and_then}
+use Rattle.std.proofs.Common.{◌≡◌, ◌∙◌, ℕ, ℤ, ◌<◌, ◌==◌, Bool, true, false, cond, List, length, get_or, Option, None, Some, refl, ap}
+use Rattle.std.specs.Prelude.{slice_get, unwrap_or, option_and_then, option_map}
 use Rattle.std.proofs.lemmas.Option.{get_or_from_slice_get, slice_get_within}
 use Rattle.ring_format.specs.declared.archive.Archive.{Archive}
 use Rattle.ring_format.specs.Layout.{layout_fault}
 use Rattle.ring_format.specs.Patch.{IsPlace, PatchValue, cell_at}
 use Rattle.ring_format.specs.Slot.{slot_of}
 use Rattle.ring_format.proofs.LawfulLayouts.{archive_bounds}
-use Rattle.ring_archive.specs.Ring.{AgreeAside, ReadsAs, Rings, base_of, is_bucket, ring_cell, value_for, value_from, value_in, value_of}
+use Rattle.ring_archive.specs.Ring.{AgreeAside, ReadsAs, Rings, base_of, is_bucket, laid_cell, ring_cell, value_for, value_from, value_in, value_of, zero_cell}
 use Rattle.ring_archive.proofs.SlotLemmas.{slot_within}
 
 -- ---- the values of an archive whose slots hold the same
@@ -17,9 +17,9 @@ value_alike : (p q : PatchValue) (old new : List ℕ) (i bucket : ℕ) (archive 
     → cond b (value_from q new i archive bucket (base_of q new i)) None ≡ cond b (value_from p old i archive bucket (base_of p old i)) None
 value_alike p q old new i bucket archive false is step points same = refl
 value_alike p q old new i bucket archive true is step points same =
-    let base : base_of q new i ≡ base_of p old i = ap (λ (cell : ℕ × ℤ). cell.0) (same 0 points) in
+    let base : base_of q new i ≡ base_of p old i = ap (λ (cell : ℕ × Option ℤ). cell.0) (same 0 points) in
     ap (λ (n : ℕ). value_from q new i archive bucket n) base
-    ∙ ap (λ (cell : ℕ × ℤ). cond (base_of p old i == 0) None (value_for bucket cell))
+    ∙ ap (λ (cell : ℕ × Option ℤ). cond (base_of p old i == 0) None (value_for bucket cell))
     (same (slot_of (base_of p old i) bucket archive) (slot_within (base_of p old i) bucket archive step points))
 
 pub archive_alike : (p q : PatchValue) (old new : List ℕ) (i bucket : ℕ) (found : Option Archive) → slice_get p.layout.archives i ≡ found → layout_fault p.layout.archives p.layout.factor ≡ None
@@ -38,7 +38,7 @@ archive_alike p q old new i bucket (Some archive) e lawful same =
 
 -- ---- one patch over two files
 
-laid_or : (found : Option (ℕ × ℤ)) (fresh : Bool) (x y : ℕ × ℤ) → (found ≡ None → x ≡ y) → unwrap_or found (cond fresh (0, pos 0) x) ≡ unwrap_or found (cond fresh (0, pos 0) y)
+laid_or : (found : Option (ℕ × ℤ)) (fresh : Bool) (x y : ℕ × Option ℤ) → (found ≡ None → x ≡ y) → unwrap_or (option_map laid_cell found) (cond fresh zero_cell x) ≡ unwrap_or (option_map laid_cell found) (cond fresh zero_cell y)
 laid_or None true x y same = refl
 laid_or None false x y same = same refl
 laid_or (Some cell) fresh x y same = refl
@@ -55,18 +55,18 @@ aside_alike patch file other rings lawful agree reads = λ i bucket.
 
 -- ---- a file that is yet to be created
 
-fresh_cell : (patch : PatchValue) (file other : List ℕ) (place : ℕ × ℕ) → patch.fresh ≡ true → ring_cell patch other place ≡ ring_cell patch file place
+pub fresh_cell : (patch : PatchValue) (file other : List ℕ) (place : ℕ × ℕ) → patch.fresh ≡ true → ring_cell patch other place ≡ ring_cell patch file place
 unfolding ring_cell
-fresh_cell patch file other place fresh = ap (unwrap_or (cell_at patch.cells place)) (rw fresh refl)
+fresh_cell patch file other place fresh = ap (unwrap_or (option_map laid_cell (cell_at patch.cells place))) (rw fresh refl)
 
 fresh_value : (patch : PatchValue) (file other : List ℕ) (i bucket : ℕ) (found : Option Archive) → patch.fresh ≡ true
     → option_and_then (λ archive. value_in patch other i archive bucket) found ≡ option_and_then (λ archive. value_in patch file i archive bucket) found
 unfolding value_in
 fresh_value patch file other i bucket None fresh = refl
 fresh_value patch file other i bucket (Some archive) fresh =
-    let base : base_of patch other i ≡ base_of patch file i = ap (λ (cell : ℕ × ℤ). cell.0) (fresh_cell patch file other (i, 0) fresh) in
+    let base : base_of patch other i ≡ base_of patch file i = ap (λ (cell : ℕ × Option ℤ). cell.0) (fresh_cell patch file other (i, 0) fresh) in
     ap (λ (n : ℕ). cond (is_bucket bucket archive) (value_from patch other i archive bucket n) None) base
-    ∙ ap (λ (cell : ℕ × ℤ). cond (is_bucket bucket archive) (cond (base_of patch file i == 0) None (value_for bucket cell)) None)
+    ∙ ap (λ (cell : ℕ × Option ℤ). cond (is_bucket bucket archive) (cond (base_of patch file i == 0) None (value_for bucket cell)) None)
     (fresh_cell patch file other (i, slot_of (base_of patch file i) bucket archive) fresh)
 
 pub fresh_alike : (patch : PatchValue) (file other : List ℕ) (rings : Rings) → patch.fresh ≡ true → ReadsAs patch file rings → ReadsAs patch other rings

@@ -13,6 +13,13 @@ map_agrees f g a zero agree = refl
 map_agrees {X} f g a (suc n) agree =
     ap₂ (λ (x : X) (xs : List X). x ∷ xs) (agree a (omega arith) (omega arith)) (map_agrees f g (a + 1) n (λ k l u. agree k (omega arith) (omega arith)))
 
+-- a function of the numbers from a later one on
+pub map_moved : {X : Type 0} (f : ℕ → X) (a b n : ℕ) → map (λ k. f (b + k)) (range_with_len a n) ≡ map f (range_with_len (b + a) n)
+map_moved f a b zero = refl
+map_moved {X} f a b (suc n) =
+    let on : b + (a + 1) ≡ (b + a) + 1 = omega arith in
+    ap (λ (xs : List X). f (b + a) ∷ xs) (map_moved f (a + 1) b n ∙ ap (λ (m : ℕ). map f (range_with_len m n)) on)
+
 -- a function that is the same everywhere
 pub map_alike : {X : Type 0} (f : ℕ → X) (x : X) (a n : ℕ) → ((k : ℕ) → f k ≡ x) → map f (range_with_len a n) ≡ replicate n x
 map_alike f x a zero same = refl

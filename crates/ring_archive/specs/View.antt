@@ -1,13 +1,14 @@
 -- The file of a view under a patch, where the disk tells it.
 use Rattle.std.specs.Prelude.{◌≡◌, ◌<◌, ℕ, Bool, List, Option, length}
 use Rattle.outside_io.specs.Image.{Image}
+use Rattle.ring_format.specs.Cell.{IsVersion}
 use Rattle.ring_format.specs.Patch.{PatchValue}
 use Rattle.ring_archive.specs.Ring.{HoldsRing, UnderPatch, base_of}
 use Rattle.ring_archive.specs.declared.view.RingView.{RingView}
 
--- the file stands on the disk with room for the view's layout, unless it is yet to be created
+-- the view is of a version, and its file stands on the disk with room for its layout in that version, unless it is yet to be created
 abbrev pub IsThere : RingView → Bool → Option Image → Type 0
-IsThere view fresh known = HoldsRing fresh known view.name.now view.layout.archives
+IsThere view fresh known = IsVersion view.version × HoldsRing fresh known view.name.now view.version view.layout.archives
 
 -- a fact on the bytes of the file, which has none where it is yet to be created
 abbrev pub OnRing : RingView → Bool → Option Image → (List ℕ → Type 0) → Type 0

@@ -5,6 +5,7 @@ ghost use Rattle.outside_io.specs.Frames.{ReadsOnly};
 ghost use Rattle.ring_archive.specs.Ring.{FitsFrom, value_for, values_from};
 ghost use Rattle.ring_archive.specs.View.{IsBased, IsThere, OnRing};
 ghost use Rattle.ring_archive.specs.Held.{cell_behind, held_cell, held_value, picked_value};
+ghost use Rattle.ring_format.specs.Cell.{IsVersion, cell_size_in};
 
 use crate::fault::RingFault;
 use crate::round::{Round, held_cell};
@@ -62,7 +63,8 @@ impl RingView<'_> {
         requires file { IsThere self.now patch.now.fresh (D.image disk.old) }
         ensures values { IfOk result
             (λ values. OnRing self.now patch.now.fresh (D.image disk.old)
-            (λ file. values.items ≡ values_from patch.now file based.archive first count)) }
+            (λ file. values.items
+            ≡ values_from patch.now file based.archive first count)) }
         ensures count { IfOk result (λ values. length values.items ≡ count) }
         ensures unread { patch.now.fresh ≡ true → disk.new ≡ disk.old }
         ensures frame { ReadsOnly D.Disk disk.old disk.new (IsErrOf result RingFault.DiskFault) }
@@ -78,6 +80,7 @@ impl RingView<'_> {
             archive: based.archive,
             points: ring.points,
             slot: slot_of(based.base, first, ring),
+            version: self.version,
         };
         let held = count.min(ring.points);
         let bytes = self.held_cells(alloc, disk, patch.fresh(), round, held)?;
@@ -104,13 +107,14 @@ fn picked_values(
 ) -> Result<Vec<Option<Milli>>, AllocError>
     requires slot { round.slot < round.points }
     requires fits { first + count * step < 2 ^ 32 }
-    requires held { length bytes.now ≡ 12 * min count round.points }
+    requires version { IsVersion round.version }
+    requires held { length bytes.now ≡ cell_size_in round.version * min count round.points }
     ensures { IfOk result
         (λ values. values.items ≡ map
         (λ k. picked_value patch.now.cells round bytes.now first step k) (range_with_len 0 count)) }
 {
     if patch.cell_count() == 0 && count <= round.points {
-        return held_values(alloc, bytes, first, step, count);
+        return held_values(alloc, round.version, bytes, first, step, count);
     }
     laid_values(alloc, patch, round, bytes, first, step, count)
 }
@@ -119,34 +123,38 @@ fn picked_values(
 #[tactic(auto, unfolding(crate::specs::Held::held_value), using(crate::proofs::RangeLists::map_more))]
 fn held_values(
     alloc: Global,
+    version: u32,
     bytes: &[u8],
     first: u32,
     step: u32,
     count: u32,
 ) -> Result<Vec<Option<Milli>>, AllocError>
     requires fits { first + count * step < 2 ^ 32 }
-    requires held { length bytes.now ≡ 12 * count }
+    requires version { IsVersion version }
+    requires held { length bytes.now ≡ cell_size_in version * count }
     ensures { IfOk result (λ values. values.items
-        ≡ map (λ k. held_value bytes.now first step k) (range_with_len 0 count)) }
+        ≡ map (λ k. held_value version bytes.now first step k) (range_with_len 0 count)) }
 {
     let mut values = Vec::with_capacity(alloc, count as usize)?;
     let mut bucket = first;
     for k in 0..count {
-        values.push(held_value(bytes, bucket, k))?;
+        values.push(held_value(version, bytes, bucket, k))?;
         bucket += step;
     }
     Ok(values)
 }
 
 // The value of a bucket in the cell at a place of the memory.
-fn held_value(bytes: &[u8], bucket: u32, place: u32) -> Option<Milli>
-    requires held { 12 * place + 12 ≤ length bytes.now }
-    ensures { result ≡ (if bucket == 0 then None else value_for bucket (held_cell bytes.now place)) }
+fn held_value(version: u32, bytes: &[u8], bucket: u32, place: u32) -> Option<Milli>
+    requires version { IsVersion version }
+    requires held { cell_size_in version * place + cell_size_in version ≤ length bytes.now }
+    ensures { result ≡ (if bucket == 0 then None else value_for bucket
+        (held_cell version bytes.now place)) }
 {
     if bucket == 0 {
         return None;
     }
-    value_for(bucket, held_cell(bytes, place as usize))
+    value_for(bucket, held_cell(version, bytes, place as usize))
 }
 
 // The same where the patch lays cells over those in memory.
@@ -162,7 +170,8 @@ fn laid_values(
 ) -> Result<Vec<Option<Milli>>, AllocError>
     requires slot { round.slot < round.points }
     requires fits { first + count * step < 2 ^ 32 }
-    requires held { length bytes.now ≡ 12 * min count round.points }
+    requires version { IsVersion round.version }
+    requires held { length bytes.now ≡ cell_size_in round.version * min count round.points }
     ensures { IfOk result
         (λ values. values.items ≡ map
         (λ k. picked_value patch.now.cells round bytes.now first step k) (range_with_len 0 count)) }
@@ -179,7 +188,9 @@ fn laid_values(
 fn picked_value(patch: &Patch, round: Round, bytes: &[u8], bucket: u32, place: u32) -> Option<Milli>
     requires slot { round.slot < round.points }
     requires place { place < round.points }
-    requires held { 12 * place + 12 ≤ length bytes.now }
+    requires version { IsVersion round.version }
+    requires held { cell_size_in round.version * place + cell_size_in round.version
+        ≤ length bytes.now }
     ensures { result ≡ (if bucket == 0 then None else value_for bucket
         (cell_behind patch.now.cells round bytes.now place)) }
 {

@@ -8,6 +8,7 @@
 mod cells;
 mod fault;
 mod laws;
+mod raw;
 mod round;
 mod stale;
 mod view;

@@ -4,12 +4,13 @@ ghost use Rattle.outside_io.specs.Frames.{ReadsOnly};
 ghost use Rattle.ring_archive.specs.Ring.{OnFile, cell_offset};
 ghost use Rattle.ring_archive.specs.View.{IsThere, OnRing};
 ghost use Rattle.ring_archive.specs.Held.{GoesRound, HoldsSlots, IsRoundOf, cell_behind, held_cell};
+ghost use Rattle.ring_format.specs.Cell.{IsVersion, cell_size_in};
 
 use crate::fault::RingFault;
 use crate::view::RingView;
 use fixed_num::Milli;
 use outside_io::{Disk, DiskFailed};
-use ring_format::{CELL_BYTES, Patch, read_cell};
+use ring_format::{Patch, cell_bytes_in, read_cell};
 use std::alloc::{AllocError, Global};
 
 // The slots of an archive's ring, from one on and round the ring's end.
@@ -21,6 +22,8 @@ pub(crate) struct Round {
     pub(crate) points: u32,
     // The first slot.
     pub(crate) slot: u32,
+    // The version of the file.
+    pub(crate) version: u32,
 }
 
 impl RingView<'_> {
@@ -37,14 +40,16 @@ impl RingView<'_> {
         requires archive { round.archive < length self.now.layout.archives }
         requires round { GoesRound self.now.layout.archives round count }
         requires file { IsThere self.now fresh (D.image disk.old) }
-        ensures length { IfOk result (λ bytes. length bytes.items ≡ 12 * count) }
+        requires version { round.version ≡ self.now.version }
+        ensures length { IfOk result
+            (λ bytes. length bytes.items ≡ cell_size_in round.version * count) }
         ensures cells { IfOk result
             (λ bytes. OnRing self.now fresh (D.image disk.old)
             (λ file. HoldsSlots fresh self.now.layout.archives file round bytes.items)) }
         ensures unread { fresh ≡ true → disk.new ≡ disk.old }
         ensures frame { ReadsOnly D.Disk disk.old disk.new (IsErrOf result RingFault.DiskFault) }
     {
-        let mut bytes = zeros(alloc, CELL_BYTES * count as usize)?;
+        let mut bytes = zeros(alloc, cell_bytes_in(round.version) * count as usize)?;
         if fresh {
             return Ok(bytes);
         }
@@ -62,14 +67,15 @@ impl RingView<'_> {
         requires archive { round.archive < length self.now.layout.archives }
         requires ring { IsRoundOf self.now.layout.archives round }
         requires slot { round.slot < round.points }
-        requires room { length bytes.old ≤ 12 * round.points }
+        requires version { round.version ≡ self.now.version }
+        requires room { length bytes.old ≤ cell_size_in round.version * round.points }
         requires file { IsThere self.now false (D.image disk.old) }
         ensures cells { OnOk result
             (OnFile (D.image disk.old) self.now.name.now
             (λ file. HoldsSlots false self.now.layout.archives file round bytes.new)) }
         ensures frame { ReadsOnly D.Disk disk.old disk.new (IsErr result) }
     {
-        let before_end = CELL_BYTES * (round.points - round.slot) as usize;
+        let before_end = cell_bytes_in(round.version) * (round.points - round.slot) as usize;
         if bytes.len() <= before_end {
             return self.read_slots(disk, round, bytes);
         }
@@ -87,16 +93,19 @@ impl RingView<'_> {
     ) -> Result<(), DiskFailed>
         requires archive { round.archive < length self.now.layout.archives }
         requires ring { IsRoundOf self.now.layout.archives round }
-        requires room { 12 * round.slot + length bytes.old ≤ 12 * round.points }
+        requires version { round.version ≡ self.now.version }
+        requires room { cell_size_in round.version * round.slot + length bytes.old
+            ≤ cell_size_in round.version * round.points }
         requires file { IsThere self.now false (D.image disk.old) }
         ensures bytes { OnOk result
             (OnFile (D.image disk.old) self.now.name.now
             (λ file. bytes.new ≡ take (length bytes.old)
-            (drop (cell_offset self.now.layout.archives (round.archive, round.slot)) file))) }
+            (drop (cell_offset round.version self.now.layout.archives (round.archive, round.slot))
+            file))) }
         ensures frame { ReadsOnly D.Disk disk.old disk.new (IsErr result) }
     {
-        let offset = u64::from(self.layout.offset(round.archive));
-        let at = offset + CELL_BYTES as u64 * u64::from(round.slot);
+        let offset = u64::from(self.layout.offset_in(round.archive, round.version));
+        let at = offset + cell_bytes_in(round.version) as u64 * u64::from(round.slot);
         disk.read_at(self.name, at, bytes)
     }
 }
@@ -104,16 +113,18 @@ impl RingView<'_> {
 impl Round {
     // The cell so many slots behind the first one: the patch's, and else that in memory.
     #[tactic(auto, unfolding(crate::specs::Held::cell_behind))]
-    pub(crate) fn cell_behind(self, patch: &Patch, bytes: &[u8], place: u32) -> (u32, Milli)
+    pub(crate) fn cell_behind(self, patch: &Patch, bytes: &[u8], place: u32) -> (u32, Option<Milli>)
+        requires version { IsVersion self.version }
         requires slot { self.slot < self.points }
         requires place { place < self.points }
-        requires held { 12 * place + 12 ≤ length bytes.now }
+        requires held { cell_size_in self.version * place + cell_size_in self.version
+            ≤ length bytes.now }
         ensures { result ≡ cell_behind patch.now.cells self bytes.now place }
     {
         let slot = (u64::from(self.slot) + u64::from(place)) % u64::from(self.points);
         match patch.cell(self.archive, slot as u32) {
-            Some(cell) => cell,
-            None => held_cell(bytes, place as usize),
+            Some((bucket, value)) => (bucket, Some(value)),
+            None => held_cell(self.version, bytes, place as usize),
         }
     }
 }
@@ -127,12 +138,12 @@ fn zeros(alloc: Global, count: usize) -> Result<Vec<u8>, AllocError>
 
 // The cell at a place of the memory.
 #[tactic(auto, unfolding(crate::specs::Held::held_cell))]
-pub(crate) fn held_cell(bytes: &[u8], place: usize) -> (u32, Milli)
-    requires { 12 * place + 12 ≤ length bytes.now }
-    ensures { result ≡ held_cell bytes.now place }
+pub(crate) fn held_cell(version: u32, bytes: &[u8], place: usize) -> (u32, Option<Milli>)
+    requires version { IsVersion version }
+    requires held { cell_size_in version * place + cell_size_in version ≤ length bytes.now }
+    ensures { result ≡ held_cell version bytes.now place }
 {
-    let at = CELL_BYTES * place;
-    let mut cell = [0; CELL_BYTES];
-    cell.copy_from_slice(&bytes[at..at + CELL_BYTES]);
-    read_cell(&cell)
+    let size = cell_bytes_in(version);
+    let at = size * place;
+    read_cell(version, &bytes[at..at + size])
 }

@@ -1,8 +1,10 @@
 //! Slots that hold anything.
-ghost use Rattle.std.specs.Prelude.{◌≡◌, ◌++◌, ◌-◌, ◌*◌, ◌==◌, ◌<◌, ◌≤◌, IfOk, IsErrOf, OnOk, filter, length};
+ghost use Rattle.std.specs.Prelude.{◌≡◌, ◌++◌, ◌-◌, ◌*◌, ◌==◌, ◌<◌, ◌≤◌, IfOk, IsErrOf, OnOk, false, filter, length, unsigned_abs};
 ghost use Rattle.std.specs.List.{list_all, list_any, range_with_len};
+ghost use Rattle.std.specs.Option.{option_map_or};
 ghost use Rattle.outside_io.specs.Frames.{ReadsOnly};
 ghost use Rattle.ring_format.specs.Head.{is_zero};
+ghost use Rattle.ring_format.specs.Cell.{IsVersion, cell_size_in};
 ghost use Rattle.ring_archive.specs.Ring.{is_laid, stale_slots};
 ghost use Rattle.ring_archive.specs.View.{IsThere, OnRing};
 ghost use Rattle.ring_archive.specs.Held.{cell_behind, held_slots};
@@ -10,9 +12,9 @@ ghost use Rattle.ring_archive.specs.Held.{cell_behind, held_slots};
 use crate::fault::RingFault;
 use crate::round::{Round, held_cell};
 use crate::view::RingView;
-use fixed_num::Milli;
+use fixed_num::{Milli, wide};
 use outside_io::Disk;
-use ring_format::{CELL_BYTES, Patch};
+use ring_format::{Patch, cell_bytes_in};
 use std::alloc::{AllocError, Global};
 
 // How many cells are passed over at once where all of them are zero.
@@ -43,6 +45,7 @@ impl RingView<'_> {
             archive,
             points,
             slot: 0,
+            version: self.version,
         };
         let bytes = self.held_cells(alloc, disk, patch.fresh(), round, points)?;
         Ok(laid_slots(alloc, patch, round, &bytes)?)
@@ -57,7 +60,8 @@ fn laid_slots(
     bytes: &[u8],
 ) -> Result<Vec<u32>, AllocError>
     requires slot { round.slot < round.points }
-    requires held { length bytes.now ≡ 12 * round.points }
+    requires version { IsVersion round.version }
+    requires held { length bytes.now ≡ cell_size_in round.version * round.points }
     ensures { IfOk result
         (λ slots. slots.items ≡ filter
         (λ slot. is_laid (cell_behind patch.now.cells round bytes.now slot))
@@ -66,7 +70,7 @@ fn laid_slots(
     if has_cells(patch, round.archive) {
         return patched_slots(alloc, patch, round, bytes);
     }
-    held_slots(alloc, bytes, round.points)
+    held_slots(alloc, round.version, bytes, round.points)
 }
 
 // Whether a patch has a cell in an archive.
@@ -84,7 +88,8 @@ fn patched_slots(
     bytes: &[u8],
 ) -> Result<Vec<u32>, AllocError>
     requires slot { round.slot < round.points }
-    requires held { length bytes.now ≡ 12 * round.points }
+    requires version { IsVersion round.version }
+    requires held { length bytes.now ≡ cell_size_in round.version * round.points }
     ensures { IfOk result
         (λ slots. slots.items ≡ filter
         (λ slot. is_laid (cell_behind patch.now.cells round bytes.now slot))
@@ -100,32 +105,46 @@ fn patched_slots(
 }
 
 // The slots whose cell in memory is not zero.
-fn held_slots(alloc: Global, bytes: &[u8], points: u32) -> Result<Vec<u32>, AllocError>
-    requires held { length bytes.now ≡ 12 * points }
-    ensures { IfOk result (λ slots. slots.items ≡ held_slots bytes.now 0 points) }
+fn held_slots(
+    alloc: Global,
+    version: u32,
+    bytes: &[u8],
+    points: u32,
+) -> Result<Vec<u32>, AllocError>
+    requires version { IsVersion version }
+    requires held { length bytes.now ≡ cell_size_in version * points }
+    ensures { IfOk result (λ slots. slots.items ≡ held_slots version bytes.now 0 points) }
 {
     let mut slots = Vec::new(alloc);
     let mut end = 0;
     while end < points {
         let first = end;
         end += (points - first).min(BLOCK_CELLS);
-        add_block(&mut slots, bytes, first, end)?;
+        add_block(&mut slots, version, bytes, first, end)?;
     }
     Ok(slots)
 }
 
 // Adds the slots of a block whose cell in memory is not zero.
-fn add_block(slots: &mut Vec<u32>, bytes: &[u8], first: u32, end: u32) -> Result<(), AllocError>
+fn add_block(
+    slots: &mut Vec<u32>,
+    version: u32,
+    bytes: &[u8],
+    first: u32,
+    end: u32,
+) -> Result<(), AllocError>
+    requires version { IsVersion version }
     requires order { first ≤ end }
-    requires held { 12 * end ≤ length bytes.now }
+    requires held { cell_size_in version * end ≤ length bytes.now }
     ensures { OnOk result
-        (slots.new.items ≡ slots.old.items ++ held_slots bytes.now first (end - first)) }
+        (slots.new.items ≡ slots.old.items ++ held_slots version bytes.now first (end - first)) }
 {
-    if is_zero(&bytes[CELL_BYTES * first as usize..CELL_BYTES * end as usize]) {
+    let size = cell_bytes_in(version);
+    if is_zero(&bytes[size * first as usize..size * end as usize]) {
         return Ok(());
     }
     for slot in first..end {
-        if is_laid(held_cell(bytes, slot as usize)) {
+        if is_laid(held_cell(version, bytes, slot as usize)) {
             slots.push(slot)?;
         }
     }
@@ -144,8 +163,18 @@ fn is_zero(bytes: &[u8]) -> bool
 }
 
 // Whether a cell is not zero.
-fn is_laid(cell: (u32, Milli)) -> bool
+fn is_laid(cell: (u32, Option<Milli>)) -> bool
     ensures { result ≡ is_laid cell }
 {
-    !(cell.0 == 0 && cell.1 == 0)
+    !(cell.0 == 0 && is_known_zero(cell.1))
+}
+
+// Whether a value fits and is 0.
+fn is_known_zero(value: Option<Milli>) -> bool
+    ensures { result ≡ option_map_or (λ known. unsigned_abs known == 0) value false }
+{
+    match value {
+        Some(known) => wide(known) == 0,
+        None => false,
+    }
 }

@@ -1,21 +1,24 @@
 //! Looking up buckets in a ring file.
-ghost use Rattle.std.specs.Prelude.{◌≡◌, ◌<◌, ◌≤◌, true, false, IfOk, length, Some, IsErr};
+ghost use Rattle.std.specs.Prelude.{◌≡◌, ◌+◌, ◌<◌, ◌≤◌, true, false, IfOk, IfSome, IsErr, IsErrOf, length, Some, slice_get};
 ghost use Rattle.outside_io.specs.Frames.{ReadsOnly};
+ghost use Rattle.ring_format.specs.Cell.{IsVersion};
 ghost use Rattle.ring_format.specs.Patch.{IsPlace};
 ghost use Rattle.ring_archive.specs.Ring.{OnFile, is_bucket, ring_cell, stored_cell, value_for, value_of};
 ghost use Rattle.ring_archive.specs.View.{IsThere, OnRing};
 
-use fixed_num::Milli;
+use fixed_num::{Milli, zero};
 use outside_io::{Disk, DiskFailed};
-use ring_format::{Archive, CELL_BYTES, Layout, Patch, read_cell, slot_of};
+use ring_format::{Archive, CELL_BYTES, Layout, Patch, cell_bytes_in, read_cell, slot_of};
 
-/// The ring file of one name on a disk, with its layout.
+/// The ring file of one name on a disk, with its layout and its version.
 #[derive(Clone, Copy, Debug)]
 pub struct RingView<'a> {
     /// The name of the file on the disk.
     pub name: &'a str,
     /// The layout of the file.
     pub layout: Layout,
+    /// The version of the file: 1 or 2.
+    pub version: u32,
 }
 
 /// An archive whose base is known.
@@ -31,12 +34,18 @@ pub struct BasedArchive {
 impl<'a> RingView<'a> {
     ghost use Rattle.ring_archive.specs.Ring.{base_of};
 
-    /// The file of this name, which has this layout.
-    pub fn new(name: &'a str, layout: Layout) -> Self
+    /// The file of this name, which has this layout and version.
+    pub fn new(name: &'a str, layout: Layout, version: u32) -> Self
+        requires { IsVersion version }
         ensures name { result.name.now ≡ name.now }
         ensures layout { result.layout ≡ layout }
+        ensures version { result.version ≡ version }
     {
-        RingView { name, layout }
+        RingView {
+            name,
+            layout,
+            version,
+        }
     }
 
     /// The bucket in an archive's first slot, from which its slots are counted: 0 where the archive is empty.
@@ -96,6 +105,24 @@ impl<'a> RingView<'a> {
         Ok(value_for(bucket, cell))
     }
 
+    /// The bucket and the value in a slot of the file itself, without a patch; no value where
+    /// it does not fit. One cell is read from the disk.
+    pub fn raw<D: Disk>(
+        &self,
+        disk: &mut D,
+        archive: u32,
+        slot: u32,
+    ) -> Result<(u32, Option<Milli>), DiskFailed>
+        requires place { IsPlace self.now.layout (archive, slot) }
+        requires file { IsThere self.now false (D.image disk.old) }
+        ensures value { IfOk result
+            (λ cell. OnFile (D.image disk.old) self.now.name.now
+            (λ file. cell ≡ stored_cell self.now.layout.archives file (archive, slot))) }
+        ensures frame { ReadsOnly D.Disk disk.old disk.new (IsErr result) }
+    {
+        self.stored_cell(disk, archive, slot)
+    }
+
     // The bucket and the value in a slot: of the patch, and else of the file.
     #[tactic(auto, unfolding(crate::specs::Ring::ring_cell))]
     pub(crate) fn ring_cell<D: Disk>(
@@ -104,7 +131,7 @@ impl<'a> RingView<'a> {
         patch: &Patch,
         archive: u32,
         slot: u32,
-    ) -> Result<(u32, Milli), DiskFailed>
+    ) -> Result<(u32, Option<Milli>), DiskFailed>
         requires layout { patch.now.layout ≡ self.now.layout }
         requires place { IsPlace self.now.layout (archive, slot) }
         requires file { IsThere self.now patch.now.fresh (D.image disk.old) }
@@ -114,11 +141,11 @@ impl<'a> RingView<'a> {
         ensures unread { patch.now.fresh ≡ true → disk.new ≡ disk.old }
         ensures frame { ReadsOnly D.Disk disk.old disk.new (IsErr result) }
     {
-        if let Some(cell) = patch.cell(archive, slot) {
-            return Ok(cell);
+        if let Some((bucket, value)) = patch.cell(archive, slot) {
+            return Ok((bucket, Some(value)));
         }
         if patch.fresh() {
-            return Ok((0, 0));
+            return Ok((0, Some(zero())));
         }
         self.stored_cell(disk, archive, slot)
     }
@@ -130,7 +157,7 @@ impl<'a> RingView<'a> {
         disk: &mut D,
         archive: u32,
         slot: u32,
-    ) -> Result<(u32, Milli), DiskFailed>
+    ) -> Result<(u32, Option<Milli>), DiskFailed>
         requires place { IsPlace self.now.layout (archive, slot) }
         requires file { IsThere self.now false (D.image disk.old) }
         ensures value { IfOk result
@@ -138,10 +165,12 @@ impl<'a> RingView<'a> {
             (λ file. cell ≡ stored_cell self.now.layout.archives file (archive, slot))) }
         ensures frame { ReadsOnly D.Disk disk.old disk.new (IsErr result) }
     {
-        let at = u64::from(self.layout.offset(archive)) + CELL_BYTES as u64 * u64::from(slot);
+        let size = cell_bytes_in(self.version);
+        let offset = u64::from(self.layout.offset_in(archive, self.version));
         let mut bytes = [0; CELL_BYTES];
-        disk.read_at(self.name, at, &mut bytes)?;
-        Ok(read_cell(&bytes))
+        let cell = &mut bytes[..size];
+        disk.read_at(self.name, offset + size as u64 * u64::from(slot), cell)?;
+        Ok(read_cell(self.version, cell))
     }
 }
 
@@ -154,8 +183,11 @@ fn is_bucket(bucket: u32, archive: Archive) -> bool
 }
 
 // The value that a cell has for a bucket.
-pub(crate) fn value_for(bucket: u32, cell: (u32, Milli)) -> Option<Milli>
+pub(crate) fn value_for(bucket: u32, cell: (u32, Option<Milli>)) -> Option<Milli>
     ensures { result ≡ value_for bucket cell }
 {
-    (cell.0 == bucket).then_some(cell.1)
+    if cell.0 == bucket {
+        return cell.1;
+    }
+    None
 }

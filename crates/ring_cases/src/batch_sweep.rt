@@ -3,10 +3,13 @@
 use crate::batch_model::{Plain, plain_archives, plain_drain};
 use crate::batches::Kept;
 use case_lines::{Case, CaseFault};
-use fixed_num::Milli;
+use fixed_num::{Milli, narrow, zero};
 use point_cache::{Points, Put};
 use ring_format::{Archive, Layout, Method};
 use std::alloc::Global;
+
+// The greatest value, in thousandths.
+const GREATEST: i128 = 1_000_000_000_000_000_000_000_000_000_000;
 
 // A small generator of numbers.
 #[derive(Drop)]
@@ -41,12 +44,13 @@ impl Numbers {
 
     // A value near zero, or near one of the ends.
     fn value(&mut self) -> Milli {
-        let small = i64::from(self.below(2000));
-        match self.below(6) {
-            0 => i64::MAX.saturating_sub(small),
-            1 => i64::MIN.saturating_add(small),
+        let small = i128::from(self.below(2000));
+        let number = match self.below(6) {
+            0 => GREATEST - small,
+            1 => small - GREATEST,
             _ => small - 1000,
-        }
+        };
+        narrow(number).unwrap_or(zero())
     }
 }
 

@@ -12,7 +12,7 @@ use case_lines::{Case, CaseFault};
 use fixed_num::Milli;
 use outside_io::DiskCalls;
 use ring_archive::{RingFault, RingView};
-use ring_format::{CellWrite, HEAD_BYTES, Layout, Patch, write_head};
+use ring_format::{CellWrite, HEAD_BYTES, Layout, Patch, VERSION, write_head};
 use std::alloc::{AllocError, Global};
 
 /// The file of a metric, and how often the disk was called for its last drain.
@@ -96,8 +96,8 @@ fn plan_points(
         return Err(CaseFault::Malformed);
     }
     let path = path_in(alloc, b"a")?;
-    let mut disk = disk_of(alloc, "a", layout, file)?;
-    let view = RingView::new("a", layout);
+    let mut disk = disk_of(alloc, "a", &layout, VERSION, file)?;
+    let view = RingView::new("a", layout, VERSION);
     let patch = Patch::new(alloc, path, layout, false);
     match plan(alloc, &view, &mut disk, patch, points, now) {
         Ok(patch) => Ok(Planned {
@@ -127,8 +127,8 @@ fn value_in(
     requires room { file_size_of layout.archives ≤ length file.now }
 {
     let patch = Patch::new(alloc, path_in(alloc, b"a")?, layout, false);
-    let mut disk = disk_of(alloc, "a", layout, file)?;
-    let view = RingView::new("a", layout);
+    let mut disk = disk_of(alloc, "a", &layout, VERSION, file)?;
+    let view = RingView::new("a", layout, VERSION);
     match view.cell_at(&mut disk, &patch, archive, bucket) {
         Ok(value) => Ok(value),
         Err(fault) => Err(fault_of(RingFault::from(fault))),

@@ -3,7 +3,7 @@
 use crate::told::tell_blank;
 use crate::words::{path_in, point_in};
 use case_lines::{Case, CaseFault};
-use fixed_num::Milli;
+use fixed_num::{Milli, wide};
 use point_cache::{PointCache, Put};
 use std::alloc::{AllocError, Global};
 
@@ -101,7 +101,7 @@ fn tell_points(told: &mut String, points: &[(u32, Milli)]) -> Result<(), AllocEr
         if i > 0 {
             told.push(',')?;
         }
-        write!(told, "{time}:{value}")?;
+        write!(told, "{time}:{}", wide(*value))?;
     }
     Ok(())
 }

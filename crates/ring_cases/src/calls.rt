@@ -1,8 +1,8 @@
 //! The verbs of the cases.
 
 use crate::{
-    batch_sweep, batches, caches, fetches, layouts, lookups, order_sweep, orders, patches, rollups,
-    rules, shelves, writes,
+    batch_sweep, batches, caches, carries, fetches, layouts, lookups, order_sweep, orders, patches,
+    rollups, rules, shelves, writes,
 };
 use case_lines::{Calls, Case, CaseFault};
 use std::alloc::Global;
@@ -23,6 +23,7 @@ fn tell_case(alloc: Global, told: &mut String, case: &Case) -> Result<(), CaseFa
     match case.verb() {
         "layout" => layouts::tell_layout(alloc, told, case),
         "parts" => layouts::tell_parts(alloc, told, case),
+        "old-parts" => layouts::tell_old_parts(alloc, told, case),
         "slot" => layouts::tell_slot(told, case),
         "cell" => layouts::tell_cell(told, case),
         "read-cell" => layouts::tell_read_cell(alloc, told, case),
@@ -54,6 +55,9 @@ fn tell_run(alloc: Global, told: &mut String, case: &Case) -> Result<(), CaseFau
         "slots" => lookups::tell_slots(alloc, told, case),
         "window" => fetches::tell_window(alloc, told, case),
         "fetch" => fetches::tell_fetch(alloc, told, case),
+        "carry" => carries::tell_carried(alloc, told, case),
+        "carried-drain" => carries::tell_drained(alloc, told, case),
+        "carried-alike" => carries::tell_alike(alloc, told, case),
         "batch" => batches::tell_batch(alloc, told, case),
         "batch-sweep" => batch_sweep::tell_sweep(alloc, told, case),
         "runs" => shelves::tell_runs(alloc, told, case),

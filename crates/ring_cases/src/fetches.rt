@@ -72,7 +72,7 @@ fn tell_shown(
     }
     let patch = ring.patch(alloc)?;
     let mut disk = ring.disk(alloc, "a")?;
-    let view = RingView::new("a", ring.layout);
+    let view = RingView::new("a", ring.layout, ring.version);
     let found = fetch(alloc, &view, &mut disk, &patch, window, pending);
     tell_fetched(told, &found, disk.calls().reads)
 }

@@ -1,11 +1,11 @@
 //! Layouts, slots, cells and heads.
 
-use crate::told::{name_of, tell_bytes, tell_layout as tell_lawful};
-use crate::words::{archive_in, layout_of, layout_or_fault};
+use crate::told::{name_of, tell_bytes, tell_layout as tell_lawful, tell_value};
+use crate::words::{archive_in, layout_of, layout_or_fault, value_in, version_in};
 use case_lines::{Case, CaseFault};
 use ring_format::{
-    CELL_BYTES, HEAD_BYTES, HeadFault, LayoutFault, read_cell, read_head, slot_of, write_cell,
-    write_head,
+    CELL_BYTES, HEAD_BYTES, HeadFault, LayoutFault, OLD_VERSION, cell_bytes_in, read_cell,
+    read_head, slot_of, write_cell, write_head,
 };
 use std::alloc::{AllocError, Global};
 
@@ -62,18 +62,21 @@ pub fn tell_slot(told: &mut String, case: &Case) -> Result<(), CaseFault> {
 /// `cell BUCKET VALUE`: its bytes.
 pub fn tell_cell(told: &mut String, case: &Case) -> Result<(), CaseFault> {
     let mut bytes = [0; CELL_BYTES];
-    write_cell(case.small(0)?, case.signed(1)?, &mut bytes);
+    write_cell(case.small(0)?, value_in(case.text(1)?)?, &mut bytes);
     Ok(tell_bytes(told, &bytes)?)
 }
 
-/// `read-cell BYTES`: its bucket and its value.
+/// `read-cell VERSION BYTES`: its bucket and its value, `-` for one that does not fit, in a
+/// file of the version.
 pub fn tell_read_cell(alloc: Global, told: &mut String, case: &Case) -> Result<(), CaseFault> {
-    let bytes = bytes_from(alloc, case, 0)?;
-    let Some(bytes) = bytes.first_chunk() else {
+    let version = version_in(case, 0)?;
+    let bytes = bytes_from(alloc, case, 1)?;
+    if bytes.len() != cell_bytes_in(version) {
         return Err(CaseFault::Malformed);
-    };
-    let (bucket, value) = read_cell(bytes);
-    Ok(write!(told, "{bucket} {value}")?)
+    }
+    let (bucket, value) = read_cell(version, &bytes);
+    write!(told, "{bucket} ")?;
+    Ok(tell_value(told, value)?)
 }
 
 // The bytes that the words of a case from a place on say, each four.
@@ -103,13 +106,28 @@ pub fn tell_head(alloc: Global, told: &mut String, case: &Case) -> Result<(), Ca
     Ok(tell_bytes(told, head.get(..length).unwrap_or(&[]))?)
 }
 
-/// `read-head SIZE BYTES`: the layout of a file of this size that begins with these bytes and goes on with zeros, or its first fault.
+/// `old-parts ARCHIVES METHOD FACTOR`: the bytes of a file of version 1, and where each archive
+/// begins in it.
+pub fn tell_old_parts(alloc: Global, told: &mut String, case: &Case) -> Result<(), CaseFault> {
+    let layout = layout_of(alloc, case)?;
+    write!(told, "{}", layout.size_in(OLD_VERSION))?;
+    for i in 0..layout.archive_count() {
+        write!(told, ", {}", layout.offset_in(i, OLD_VERSION))?;
+    }
+    Ok(())
+}
+
+/// `read-head SIZE BYTES`: the layout and the version of a file of this size that begins with
+/// these bytes and goes on with zeros, or its first fault.
 pub fn tell_read_head(alloc: Global, told: &mut String, case: &Case) -> Result<(), CaseFault> {
     let size = case.number(0)?;
     let mut bytes = bytes_from(alloc, case, 1)?;
     bytes.resize(size.min(HEAD_BYTES as u64) as usize, 0)?;
     match read_head(&bytes, size) {
-        Ok(layout) => Ok(tell_lawful(told, &layout)?),
+        Ok((layout, version)) => {
+            tell_lawful(told, &layout)?;
+            Ok(write!(told, " version {version}")?)
+        }
         Err(fault) => Ok(tell_head_fault(told, fault)?),
     }
 }

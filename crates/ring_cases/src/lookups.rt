@@ -34,7 +34,7 @@ fn tell_value_at(
 {
     let patch = ring.patch(alloc)?;
     let mut disk = ring.disk(alloc, "a")?;
-    let view = RingView::new("a", ring.layout);
+    let view = RingView::new("a", ring.layout, ring.version);
     let found = view.cell_at(&mut disk, &patch, archive, bucket);
     Ok(tell_one(told, found, &disk)?)
 }
@@ -91,7 +91,7 @@ fn tell_row_of(
 {
     let patch = ring.patch(alloc)?;
     let mut disk = ring.disk(alloc, "a")?;
-    let view = RingView::new("a", ring.layout);
+    let view = RingView::new("a", ring.layout, ring.version);
     let found = if is_based {
         cells_behind_base(alloc, &mut disk, &view, &patch, archive, first, count)
     } else {
@@ -164,7 +164,7 @@ fn tell_slots_of(
 {
     let patch = ring.patch(alloc)?;
     let mut disk = ring.disk(alloc, "a")?;
-    let view = RingView::new("a", ring.layout);
+    let view = RingView::new("a", ring.layout, ring.version);
     let found = view.stale(alloc, &mut disk, &patch, archive);
     tell_held(told, &found, &disk)
 }

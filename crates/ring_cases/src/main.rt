@@ -6,7 +6,7 @@
 //! |---|---|
 //! | `ARCHIVES METHOD FACTOR` | a layout, as `60x10,300x12 average 500000`: steps and points, and the factor in millionths |
 //! | `CELLS` | cells as `ARCHIVE/SLOT:BUCKET:VALUE`, with commas between |
-//! | `STORED` | the cells that a file holds, or `new` for a file that the patch makes |
+//! | `STORED` | the cells that a file holds, `1!` before those of a file of version 1, or `new` for a file that the patch makes |
 //! | `LAID` | the cells that the patch lays |
 //! | `POINTS` | points as `TIME:VALUE`, with commas between; `TIME:VALUE*N` are N of them, a minute apart |
 //!
@@ -18,6 +18,7 @@ mod batch_sweep;
 mod batches;
 mod caches;
 mod calls;
+mod carries;
 mod fetches;
 mod layouts;
 mod lookups;

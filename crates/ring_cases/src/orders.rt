@@ -6,6 +6,7 @@ use crate::told::tell_blank;
 use crate::words::{halves, number_in, path_in};
 use case_lines::{Case, CaseFault};
 use drain_order::{Picker, Strategy};
+use fixed_num::milli_of;
 use metric_path::MetricPath;
 use point_cache::{PointCache, Put};
 use std::alloc::{AllocError, Global};
@@ -29,7 +30,7 @@ impl Drains {
 
     /// Puts a point.
     pub fn put(&mut self, path: &MetricPath, time: u32) -> Put {
-        self.cache.put(path, time, 7000)
+        self.cache.put(path, time, milli_of(7000))
     }
 
     /// The path that is picked, and not used.

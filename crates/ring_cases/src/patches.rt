@@ -4,6 +4,7 @@ ghost use Rattle.std.specs.Prelude.{◌≡◌, IfOk};
 use crate::told::{tell_blank, tell_cell, tell_layout};
 use crate::words::{archive_in, cells_in, is_new, layout_of, path_in, place_in};
 use case_lines::{Case, CaseFault};
+use fixed_num::wide;
 use ring_format::{Archive, CellWrite, Layout, Patch};
 use std::alloc::{AllocError, Global};
 
@@ -80,7 +81,7 @@ pub fn tell_cell_at(alloc: Global, told: &mut String, case: &Case) -> Result<(),
     let place = place_in(case.text(4)?)?;
     let patch = patch_of(alloc, case)?;
     match patch.cell(place.archive, place.at) {
-        Some((bucket, value)) => Ok(write!(told, "{bucket}:{value}")?),
+        Some((bucket, value)) => Ok(write!(told, "{bucket}:{}", wide(value))?),
         None => Ok(told.push('-')?),
     }
 }

@@ -1,20 +1,24 @@
 //! A ring file on a disk in memory, under a patch.
-ghost use Rattle.std.specs.Prelude.{◌≡◌, ◌≤◌, IfOk, false, length};
-ghost use Rattle.ring_format.specs.LayoutFile.{file_size_of};
+ghost use Rattle.std.specs.Prelude.{◌≡◌, IfOk, false, length};
+ghost use Rattle.ring_format.specs.Cell.{IsVersion};
 ghost use Rattle.ring_archive.specs.Ring.{HoldsRing};
 
 use crate::patches::patch_with;
 use crate::words::{cells_in, layout_of};
 use case_lines::{Case, CaseFault};
+use fixed_num::wide;
 use outside_io::{Disk, MemDisk};
 use ring_archive::RingFault;
-use ring_format::{CELL_BYTES, CellWrite, Layout, Patch, write_cell};
+use ring_format::{
+    CELL_BYTES, CellWrite, Layout, Method, OLD_VERSION, Patch, VERSION, version_of, write_cell,
+};
 use std::alloc::{AllocError, Global};
 
 /// A ring file, and a patch over it.
 #[derive(Drop)]
 pub struct Ring {
     pub layout: Layout,
+    pub version: u32,
     // What the file holds, `None` where the patch makes it anew.
     stored: Option<Vec<CellWrite>>,
     laid: Vec<CellWrite>,
@@ -24,16 +28,19 @@ pub struct Ring {
 
 impl Ring {
     ghost use Rattle.std.specs.Prelude.{◌≡◌, IfOk, is_none};
+    ghost use Rattle.ring_format.specs.Cell.{IsVersion};
     ghost use Rattle.ring_archive.specs.Ring.{HoldsRing};
 
     /// The ring of `ARCHIVES METHOD FACTOR STORED LAID`, and the read that fails, where the word at a place says one.
     pub fn read(alloc: Global, case: &Case, failing_at: usize) -> Result<Ring, CaseFault> {
         let layout = layout_of(alloc, case)?;
-        let stored = stored_in(alloc, &layout, case.text(3)?)?;
+        let (version, text) = version_of_text(case.text(3)?);
+        let stored = stored_in(alloc, &layout, text)?;
         let laid = cells_in(alloc, &layout, case.text(4)?)?;
         let failing = failing_in(case, failing_at)?;
         Ok(Ring {
             layout,
+            version,
             stored,
             laid,
             failing,
@@ -41,14 +48,19 @@ impl Ring {
     }
 
     /// A disk with the file, which is not there where the patch makes it anew, so that a read would fail.
-    pub fn disk(&self, alloc: Global, name: &str) -> Result<MemDisk, AllocError>
-        ensures { IfOk result (λ disk. HoldsRing (is_none self.now.stored)
-            (⟦<MemDisk as Disk>⟧.image disk) name.now self.now.layout.archives) }
+    pub fn disk(&self, alloc: Global, name: &str) -> Result<MemDisk, CaseFault>
+        ensures holds { IfOk result (λ disk. HoldsRing (is_none self.now.stored)
+            (⟦<MemDisk as Disk>⟧.image disk) name.now self.now.version self.now.layout.archives) }
+        ensures version { IfOk result (λ disk. IsVersion self.now.version) }
     {
+        if self.version != OLD_VERSION && self.version != VERSION {
+            return Err(CaseFault::Malformed);
+        }
         let Some(stored) = &self.stored else {
             return Ok(MemDisk::new(alloc, 0));
         };
-        failing_disk_with(alloc, name, self.layout, stored, self.failing)
+        let file = file_of(alloc, &self.layout, self.version, stored)?;
+        failing_disk_of(alloc, name, &self.layout, self.version, file, self.failing)
     }
 
     /// The patch.
@@ -99,56 +111,106 @@ pub fn put_cell(layout: &Layout, cell: &CellWrite, file: &mut [u8])
     }
 }
 
-// A disk with one file, which holds these cells.
-fn disk_with(
+/// The bytes of a file of a version that holds these cells. Of its head only the first word is
+/// there.
+pub fn file_of(
     alloc: Global,
-    name: &str,
-    layout: Layout,
+    layout: &Layout,
+    version: u32,
     cells: &[CellWrite],
-) -> Result<MemDisk, AllocError>
-    ensures { IfOk result
-        (λ disk. HoldsRing false (⟦<MemDisk as Disk>⟧.image disk) name.now layout.archives) }
+) -> Result<Vec<u8>, CaseFault>
+    requires { IsVersion version }
 {
-    let mut file = vec![in alloc; 0; layout.file_size() as usize]?;
-    for cell in cells {
-        put_cell(&layout, cell, &mut file);
+    let mut file = vec![in alloc; 0; layout.size_in(version) as usize]?;
+    if version == OLD_VERSION {
+        put_piece(0, &old_word(layout.method()).to_be_bytes(), &mut file);
     }
-    let mut disk = MemDisk::new(alloc, 0);
-    disk.put_file(name, file)?;
-    Ok(disk)
+    for cell in cells {
+        if version == OLD_VERSION {
+            put_old_cell(layout, cell, &mut file)?;
+        } else {
+            put_cell(layout, cell, &mut file);
+        }
+    }
+    Ok(file)
 }
 
-// The same disk, of which the read with one number fails, none with 0.
-fn failing_disk_with(
+// The first word of a file of version 1.
+fn old_word(method: Method) -> u32 {
+    match method {
+        Method::Average => 1,
+        Method::Sum => 2,
+        Method::Last => 3,
+        Method::Max => 4,
+        Method::Min => 5,
+        Method::AvgZero => 6,
+        Method::AbsMax => 7,
+        Method::AbsMin => 8,
+    }
+}
+
+// Puts a cell over its slot in the bytes of a file of version 1, in which values have 64 bits.
+fn put_old_cell(layout: &Layout, cell: &CellWrite, file: &mut [u8]) -> Result<(), CaseFault>
+    ensures { length file.new ≡ length file.old }
+{
+    let Ok(value) = i64::try_from(wide(cell.value)) else {
+        return Err(CaseFault::Malformed);
+    };
+    if cell.archive < layout.archive_count() {
+        let at = layout.offset_in(cell.archive, OLD_VERSION) as usize + 12 * cell.slot as usize;
+        put_piece(at, &cell.bucket.to_be_bytes(), file);
+        put_piece(at + 4, &value.to_be_bytes(), file);
+    }
+    Ok(())
+}
+
+// A disk with these bytes under a name, of which the read with one number fails, none with 0.
+fn failing_disk_of(
     alloc: Global,
     name: &str,
-    layout: Layout,
-    cells: &[CellWrite],
+    layout: &Layout,
+    version: u32,
+    file: Vec<u8>,
     failing: u64,
-) -> Result<MemDisk, AllocError>
+) -> Result<MemDisk, CaseFault>
+    requires { IsVersion version }
     ensures { IfOk result
-        (λ disk. HoldsRing false (⟦<MemDisk as Disk>⟧.image disk) name.now layout.archives) }
+        (λ disk. HoldsRing false (⟦<MemDisk as Disk>⟧.image disk) name.now version layout.now.archives) }
 {
     let listed = Vec::from_slice(alloc, &[failing])?;
-    let disk = disk_with(alloc, name, layout, cells)?;
+    let disk = disk_of(alloc, name, layout, version, &file)?;
     Ok(disk.failing_reads(listed))
 }
 
-/// A disk with these bytes under a name.
+/// A disk with these bytes under a name, where they have room for a layout in a version.
 pub fn disk_of(
     alloc: Global,
     name: &str,
-    layout: Layout,
+    layout: &Layout,
+    version: u32,
     file: &[u8],
-) -> Result<MemDisk, AllocError>
-    requires { file_size_of layout.archives ≤ length file.now }
+) -> Result<MemDisk, CaseFault>
+    requires { IsVersion version }
     ensures { IfOk result
-        (λ disk. HoldsRing false (⟦<MemDisk as Disk>⟧.image disk) name.now layout.archives) }
+        (λ disk. HoldsRing false (⟦<MemDisk as Disk>⟧.image disk) name.now version layout.now.archives) }
 {
+    if (file.len() as u64) < layout.size_in(version) || version_of(file) != version {
+        return Err(CaseFault::Malformed);
+    }
     let bytes = Vec::from_slice(alloc, file)?;
     let mut disk = MemDisk::new(alloc, 0);
     disk.put_file(name, bytes)?;
     Ok(disk)
+}
+
+// The version of a file, and its cells: `1!` stands before those of one of version 1.
+fn version_of_text(text: &str) -> (u32, &str)
+    ensures { IsVersion result.0 }
+{
+    match text.split_once('!') {
+        Some((_, cells)) => (OLD_VERSION, cells),
+        None => (VERSION, text),
+    }
 }
 
 /// Tells `fault` where a read failed.

@@ -5,6 +5,7 @@ use crate::patches::patch_laying;
 use crate::told::{tell_blank, tell_bytes};
 use crate::words::{halves, is_new, layout_of, number_in, path_in, place_in};
 use case_lines::{Case, CaseFault};
+use fixed_num::milli_of;
 use ring_format::{CellWrite, Layout, Patch, RUN_BYTES};
 use std::alloc::{AllocError, Global};
 use write_shelf::{Run, Shelf};
@@ -63,7 +64,7 @@ fn lay_row(patch: &mut Patch, text: &str) -> Result<(), CaseFault> {
             archive: first.archive,
             slot,
             bucket: 60,
-            value: 1,
+            value: milli_of(1),
         })?;
     }
     Ok(())

@@ -1,6 +1,6 @@
 //! What a case tells, as text.
 
-use fixed_num::Milli;
+use fixed_num::{Milli, wide};
 use ring_format::{Archive, Layout, Method};
 use std::alloc::AllocError;
 
@@ -20,7 +20,7 @@ pub fn tell_whether(told: &mut String, holds: bool) -> Result<(), AllocError> {
 /// A value, or `-` where it is missing.
 pub fn tell_value(told: &mut String, value: Option<Milli>) -> Result<(), AllocError> {
     match value {
-        Some(value) => write!(told, "{value}"),
+        Some(value) => write!(told, "{}", wide(value)),
         None => told.push('-'),
     }
 }
@@ -53,7 +53,7 @@ pub fn tell_cell(
     place: (u32, u32),
     held: (u32, Milli),
 ) -> Result<(), AllocError> {
-    write!(told, "{}/{}:{}:{}", place.0, place.1, held.0, held.1)
+    write!(told, "{}/{}:{}:{}", place.0, place.1, held.0, wide(held.1))
 }
 
 /// Archives, with commas between.

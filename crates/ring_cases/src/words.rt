@@ -1,10 +1,12 @@
 //! What the words of a case say.
+ghost use Rattle.std.specs.Prelude.{IfOk};
+ghost use Rattle.ring_format.specs.Cell.{IsVersion};
 
 use case_lines::{Case, CaseFault};
-use fixed_num::Milli;
+use fixed_num::{Milli, narrow};
 use metric_path::MetricPath;
 use point_cache::{Points, Put};
-use ring_format::{Archive, CellWrite, Layout, LayoutFault, Method};
+use ring_format::{Archive, CellWrite, Layout, LayoutFault, Method, OLD_VERSION, VERSION};
 use std::alloc::Global;
 
 /// An archive, and a slot or a bucket of it: `ARCHIVE/SLOT`.
@@ -31,10 +33,21 @@ pub fn number_in(text: &str) -> Result<u32, CaseFault> {
 
 /// A value in thousandths.
 pub fn value_in(text: &str) -> Result<Milli, CaseFault> {
-    match text.parse::<i64>() {
-        Ok(value) => Ok(value),
+    match text.parse::<i128>() {
+        Ok(number) => narrow(number).ok_or(CaseFault::Malformed),
         Err(_) => Err(CaseFault::Malformed),
     }
+}
+
+/// The version of a file.
+pub fn version_in(case: &Case, at: usize) -> Result<u32, CaseFault>
+    ensures { IfOk result IsVersion }
+{
+    let version = case.small(at)?;
+    if version != OLD_VERSION && version != VERSION {
+        return Err(CaseFault::Malformed);
+    }
+    Ok(version)
 }
 
 /// What stands before a mark in a text, and behind it.

@@ -69,7 +69,7 @@ none_before [] place none = refl
 none_before (x ∷ cells) place none = absurd (omega arith)
 
 -- what is read within a list does not rest on what stands for nothing
-same_default : (cells : Cells) (k : ℕ) (d e : (ℕ × ℕ) × (ℕ × ℤ)) → k < length cells → get_or cells k d ≡ get_or cells k e
+pub same_default : (cells : Cells) (k : ℕ) (d e : (ℕ × ℕ) × (ℕ × ℤ)) → k < length cells → get_or cells k d ≡ get_or cells k e
 same_default [] k d e lt = absurd (omega arith)
 same_default (x ∷ cells) zero d e lt = refl
 same_default (x ∷ cells) (suc k) d e lt = same_default cells k d e (omega arith)

@@ -6,6 +6,7 @@ use Rattle.std.proofs.lemmas.Bool.{cases_lt}
 use Rattle.std.proofs.lemmas.List.{drop-drop, drop_at, take_at, get_or-drop, get_or-take, get_or_past}
 use Rattle.std.proofs.lemmas.Nat.{be_bytes_4, from_be_bytes-to_be_bytes_4}
 use Rattle.ring_format.specs.Head.{number_at, number_bytes}
+use Rattle.ring_format.specs.LayoutFile.{row_size}
 
 abbrev pub IsBytes : List ℕ → Type 0
 IsBytes bytes = (i : ℕ) → get_or bytes i 0 < 256
@@ -38,7 +39,7 @@ number_bytes-read bytes at fits room =
     be_bytes_4 (take 4 (drop at bytes)) _ (omega (arith, length-take 4 (drop at bytes), length-drop at bytes)) (IsBytes-take 4 (drop at bytes) (IsBytes-drop at bytes fits)) refl
 
 -- twelve bytes are three numbers
-pub three_numbers : (bytes : List ℕ) (at : ℕ) → take 12 (drop at bytes) ≡ take 4 (drop at bytes) ++ (take 4 (drop (at + 4) bytes) ++ take 4 (drop (at + 8) bytes))
+pub three_numbers : (bytes : List ℕ) (at : ℕ) → take row_size (drop at bytes) ≡ take 4 (drop at bytes) ++ (take 4 (drop (at + 4) bytes) ++ take 4 (drop (at + 8) bytes))
 three_numbers bytes at =
     take-add 4 8 (drop at bytes) ∙ ap (λ (xs : List ℕ). take 4 (drop at bytes) ++ take 8 xs) (drop-drop 4 at bytes)
     ∙ ap (λ (xs : List ℕ). take 4 (drop at bytes) ++ xs) (take-add 4 4 (drop (at + 4) bytes))

@@ -1,6 +1,7 @@
--- The head of a ring file, all numbers in four bytes, big-endian: the method, the last archive's retention,
+-- The head of a ring file, all numbers in four bytes, big-endian: the first word, the last archive's retention,
 -- the factor, the count of archives, and then a row for each archive: where it begins, its step and its points.
-use Rattle.std.specs.Prelude.{ℕ, ◌+◌, ◌-◌, ◌*◌, ◌==◌, Bool, ◌&&◌, ◌||◌, not, nat_lt, nat_le, List, ◌++◌, length, take, drop, map, find, slice_get, unwrap_or, option_map, Option, Some, None, Result, Ok, Err, if◌then◌else◌}
+-- The first word is the method's number, and in a file of version 2 it is 512 more.
+use Rattle.std.specs.Prelude.{ℕ, ◌+◌, ◌-◌, ◌*◌, ◌==◌, Bool, ◌&&◌, ◌||◌, not, nat_lt, nat_le, List, ◌++◌, length, take, drop, map, find, slice_get, unwrap_or, is_some, option_map, Option, Some, None, Result, Ok, Err, if◌then◌else◌}
 use Rattle.std.specs.Int.{w32, to_be_bytes, from_be_bytes}
 use Rattle.std.specs.List.{zip, flat_map, list_all, range_with_len}
 use Rattle.std.specs.Option.{option_map_or}
@@ -11,7 +12,7 @@ use Rattle.ring_format.specs.declared.fault.LayoutFault.{LayoutFault}
 use Rattle.ring_format.specs.declared.fault.HeadFault.{HeadFault}
 use Rattle.ring_format.specs.declared.fault.HeadFault.TheVariants as faults
 use Rattle.ring_format.specs.Layout.{LayoutValue, retention_of, layout_result}
-use Rattle.ring_format.specs.LayoutFile.{head_size, file_size_of, offset_of}
+use Rattle.ring_format.specs.LayoutFile.{head_size, file_size_in, offset_in, row_size}
 
 -- ---- numbers
 
@@ -46,6 +47,19 @@ method_of n =
     (if n == 7 then Some AbsMax else
     (if n == 8 then Some AbsMin else None)))))))
 
+-- the first word of a file of a version
+abbrev pub first_word : ℕ → Method → ℕ
+first_word version method = if version == 1 then method_number method else 512 + method_number method
+
+-- the method and the version that a first word tells: none where it is neither 1 to 8 nor 513 to 520
+unfoldable pub told_by : ℕ → Option (Method × ℕ)
+told_by word =
+    if nat_lt 512 word then option_map (λ method. (method, 2)) (method_of (word - 512)) else option_map (λ method. (method, 1)) (method_of word)
+
+-- the version of a file by its first word: 1 where that is a method's number, and else 2, also of a file whose head is yet to be written
+unfoldable pub version_of : List ℕ → ℕ
+version_of file = if is_some (method_of (number_at 0 file)) then 1 else 2
+
 -- ---- what a layout's head holds
 
 -- how far back the coarsest archive reaches, which is farthest
@@ -53,8 +67,8 @@ abbrev pub last_retention : List Archive → ℕ
 last_retention archives = unwrap_or (option_map retention_of (slice_get archives (length archives - 1))) 0
 
 -- each archive beside the place where it begins
-abbrev pub rows_of : List Archive → List (ℕ × Archive)
-rows_of archives = zip (map (offset_of archives) (range_with_len 0 (length archives))) archives
+abbrev pub rows_of : ℕ → List Archive → List (ℕ × Archive)
+rows_of version archives = zip (map (offset_in version archives) (range_with_len 0 (length archives))) archives
 
 abbrev pub row_bytes : ℕ × Archive → List ℕ
 row_bytes row = number_bytes row.0 ++ (number_bytes row.1.step ++ number_bytes row.1.points)
@@ -63,12 +77,16 @@ unfoldable pub rows_bytes : List (ℕ × Archive) → List ℕ
 rows_bytes rows = flat_map row_bytes rows
 
 -- the four numbers before the rows
-unfoldable pub front_bytes : LayoutValue → List ℕ
-front_bytes layout =
-    number_bytes (method_number layout.method) ++ (number_bytes (last_retention layout.archives) ++ (number_bytes layout.factor ++ number_bytes (length layout.archives)))
+unfoldable pub front_bytes : ℕ → LayoutValue → List ℕ
+front_bytes version layout =
+    number_bytes (first_word version layout.method) ++ (number_bytes (last_retention layout.archives) ++ (number_bytes layout.factor ++ number_bytes (length layout.archives)))
 
+abbrev pub head_bytes_in : ℕ → LayoutValue → List ℕ
+head_bytes_in version layout = front_bytes version layout ++ rows_bytes (rows_of version layout.archives)
+
+-- the head of a file that is written today
 abbrev pub head_bytes : LayoutValue → List ℕ
-head_bytes layout = front_bytes layout ++ rows_bytes (rows_of layout.archives)
+head_bytes layout = head_bytes_in 2 layout
 
 -- ---- what a file's first bytes hold
 
@@ -81,44 +99,44 @@ count_in bytes = number_at 12 bytes
 
 -- the archive of row `i`
 abbrev pub archive_at : List ℕ → ℕ → Archive
-archive_at bytes i = record { step = number_at (20 + 12 * i) bytes; points = number_at (24 + 12 * i) bytes }
+archive_at bytes i = record { step = number_at (20 + row_size * i) bytes; points = number_at (24 + row_size * i) bytes }
 
 abbrev pub archives_in : List ℕ → List Archive
 archives_in bytes = map (archive_at bytes) (range_with_len 0 (count_in bytes))
 
 -- the first archive that does not begin where what stands before it ends
-abbrev pub misplaced_archive : List ℕ → List Archive → Option ℕ
-misplaced_archive bytes archives =
-    find (λ i. not (number_at (16 + 12 * i) bytes == offset_of archives i)) (range_with_len 0 (length archives))
+abbrev pub misplaced_archive : ℕ → List ℕ → List Archive → Option ℕ
+misplaced_archive version bytes archives =
+    find (λ i. not (number_at (16 + row_size * i) bytes == offset_in version archives i)) (range_with_len 0 (length archives))
 
 -- whether a file is too short for its count of numbers, or for the rows that it tells of
 abbrev pub is_short : List ℕ → ℕ → Bool
 is_short bytes size = nat_lt size 16 || (nat_le (count_in bytes) 25 && nat_lt size (head_size (count_in bytes)))
 
--- ---- the layout of a file, or the first fault of its head
+-- ---- the layout and the version of a file, or the first fault of its head
 
-abbrev pub or_layout_fault : Result LayoutValue LayoutFault → Result LayoutValue HeadFault
-or_layout_fault (Ok layout) = Ok layout
-or_layout_fault (Err fault) = Err (faults.Layout fault)
+abbrev pub or_layout_fault : ℕ → Result LayoutValue LayoutFault → Result (LayoutValue × ℕ) HeadFault
+or_layout_fault version (Ok layout) = Ok (layout, version)
+or_layout_fault version (Err fault) = Err (faults.Layout fault)
 
 -- with archives that lie where they should
-unfoldable pub placed_result : Method → List Archive → List ℕ → ℕ → Result LayoutValue HeadFault
-placed_result method archives bytes size =
+unfoldable pub placed_result : Method × ℕ → List Archive → List ℕ → ℕ → Result (LayoutValue × ℕ) HeadFault
+placed_result told archives bytes size =
     if not (number_at 4 bytes == last_retention archives) then Err faults.Retention else
-    (if not (size == file_size_of archives) then Err faults.Length else
-    or_layout_fault (layout_result archives method (number_at 8 bytes)))
+    (if not (size == file_size_in told.1 archives) then Err faults.Length else
+    or_layout_fault told.1 (layout_result archives told.0 (number_at 8 bytes)))
 
 -- with a count of archives that a layout may have
-unfoldable pub archives_result : Method → List ℕ → ℕ → Result LayoutValue HeadFault
-archives_result method bytes size =
-    option_map_or (λ i. Err (faults.Offset i)) (misplaced_archive bytes (archives_in bytes))
-    (placed_result method (archives_in bytes) bytes size)
+unfoldable pub archives_result : Method × ℕ → List ℕ → ℕ → Result (LayoutValue × ℕ) HeadFault
+archives_result told bytes size =
+    option_map_or (λ i. Err (faults.Offset i)) (misplaced_archive told.1 bytes (archives_in bytes))
+    (placed_result told (archives_in bytes) bytes size)
 
 -- of a file of `size` bytes that begins with these bytes
-unfoldable pub head_result : List ℕ → ℕ → Result LayoutValue HeadFault
+unfoldable pub head_result : List ℕ → ℕ → Result (LayoutValue × ℕ) HeadFault
 head_result bytes size =
     if list_all is_zero (take 16 bytes) then Err faults.Zero else
     (if is_short bytes size then Err faults.Short else
     option_map_or
-    (λ method. if not (nat_le 1 (count_in bytes) && nat_le (count_in bytes) 25) then Err faults.Count else archives_result method bytes size)
-    (method_of (number_at 0 bytes)) (Err faults.Method))
+    (λ told. if not (nat_le 1 (count_in bytes) && nat_le (count_in bytes) 25) then Err faults.Count else archives_result told bytes size)
+    (told_by (number_at 0 bytes)) (Err faults.Method))

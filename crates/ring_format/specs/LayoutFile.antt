@@ -2,15 +2,27 @@
 use Rattle.std.specs.Prelude.{ℕ, ◌+◌, ◌*◌, List, length, take}
 use Rattle.ring_format.specs.declared.archive.Archive.{Archive}
 use Rattle.ring_format.specs.Layout.{point_count}
+use Rattle.ring_format.specs.Cell.{cell_size_in}
 
--- the bytes of a head: four numbers of four bytes, and three for each archive
+-- the bytes of an archive's row in a head: three numbers of four bytes
+abbrev pub row_size : ℕ
+row_size = 12
+
+-- the bytes of a head: four numbers of four bytes, and a row for each archive
 abbrev pub head_size : ℕ → ℕ
-head_size archive_count = 16 + 12 * archive_count
+head_size archive_count = 16 + row_size * archive_count
 
--- the bytes of the whole file, each point in 12 bytes
+-- the bytes of the whole file of a version, each point in a cell
+abbrev pub file_size_in : ℕ → List Archive → ℕ
+file_size_in version archives = head_size (length archives) + cell_size_in version * point_count archives
+
+-- where archive `i` begins in it
+abbrev pub offset_in : ℕ → List Archive → ℕ → ℕ
+offset_in version archives i = head_size (length archives) + cell_size_in version * point_count (take i archives)
+
+-- the same of a file that is written today
 abbrev pub file_size_of : List Archive → ℕ
-file_size_of archives = head_size (length archives) + 12 * point_count archives
+file_size_of archives = file_size_in 2 archives
 
--- where archive `i` begins
 abbrev pub offset_of : List Archive → ℕ → ℕ
-offset_of archives i = head_size (length archives) + 12 * point_count (take i archives)
+offset_of archives i = offset_in 2 archives i

@@ -32,7 +32,7 @@ pub enum HeadFault {
     Zero,
     /// The file has fewer than 16 bytes, or ends within the rows of at most 25 archives.
     Short,
-    /// The number of the method is not 1 to 8.
+    /// The first word is neither 1 to 8 nor 513 to 520.
     Method,
     /// The count of archives is not 1 to 25.
     Count,

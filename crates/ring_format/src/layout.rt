@@ -2,11 +2,12 @@
 ghost use Rattle.std.specs.Prelude.{◌≡◌, ◌<◌, ◌≤◌, ◌+◌, ◌*◌, ◌↔◌, IsTrue, None, Some, IfSome, length, option_map, slice_get};
 ghost use Rattle.ring_format.specs.Layout.{layout_fault, layout_result, point_count, retention_of};
 ghost use Rattle.ring_format.specs.Patch.{IsPlace};
-ghost use Rattle.ring_format.specs.LayoutFile.{file_size_of, head_size, offset_of};
+ghost use Rattle.ring_format.specs.LayoutFile.{file_size_in, file_size_of, head_size, offset_in, offset_of};
+ghost use Rattle.ring_format.specs.Cell.{IsVersion, cell_size, cell_size_in};
 
 use crate::archive::{Archive, Method, point_count};
 use crate::archive_list::ArchiveList;
-use crate::cell::CELL;
+use crate::cell::{VERSION, cell_bytes_in};
 use crate::fault::LayoutFault;
 use crate::fault_search::fault_of;
 use crate::head::{FRONT_BYTES, ROW_BYTES};
@@ -90,12 +91,22 @@ impl Layout {
         self.factor
     }
 
-    /// The bytes of a file of this layout: its head, and 12 for each point.
+    /// The bytes of a new file of this layout: its head, and 20 for each point.
     pub fn file_size(&self) -> u64
         ensures value { result ≡ file_size_of self.now.archives }
-        ensures most { result ≤ 48000316 }
+        ensures most { result ≤ 80000316 }
     {
-        file_size_of(self.archives())
+        self.size_in(VERSION)
+    }
+
+    /// The bytes of a file of this layout in a version: its head, and a cell for each point, of
+    /// 12 bytes in version 1 and of 20 in version 2.
+    pub fn size_in(&self, version: u32) -> u64
+        requires { IsVersion version }
+        ensures value { result ≡ file_size_in version self.now.archives }
+        ensures most { result ≤ 80000316 }
+    {
+        file_size_in(self.archives(), version)
     }
 
     /// The archive at a place, from 0 on.
@@ -129,37 +140,52 @@ impl Layout {
         self.archive(i).retention() as u32
     }
 
-    /// Where the archive at a place begins in a file of this layout.
+    /// Where the archive at a place begins in a new file of this layout.
     pub fn offset(&self, i: u32) -> u32
         requires { i < length self.now.archives }
         ensures value { result ≡ offset_of self.now.archives i }
         ensures within { IfSome (slice_get self.now.archives i)
-            (λ archive. result + 12 * archive.points ≤ file_size_of self.now.archives) }
+            (λ archive. result + cell_size * archive.points ≤ file_size_of self.now.archives) }
     {
-        offset_in(self.archives(), i as usize)
+        self.offset_in(i, VERSION)
+    }
+
+    /// Where the archive at a place begins in a file of this layout in a version.
+    pub fn offset_in(&self, i: u32, version: u32) -> u32
+        requires place { i < length self.now.archives }
+        requires version { IsVersion version }
+        ensures value { result ≡ offset_in version self.now.archives i }
+        ensures within { IfSome (slice_get self.now.archives i)
+            (λ archive. result + cell_size_in version * archive.points
+            ≤ file_size_in version self.now.archives) }
+    {
+        offset_among(self.archives(), i as usize, version)
     }
 }
 
-// Where the archive at a place begins.
+// Where the archive at a place begins in a file of a version.
 #[tactic(auto, using(crate::proofs::LawfulLayouts::points_within))]
-fn offset_in(archives: &[Archive], i: usize) -> u32
+fn offset_among(archives: &[Archive], i: usize, version: u32) -> u32
     requires place { i < length archives.now }
+    requires version { IsVersion version }
     requires few { length archives.now ≤ 25 }
     requires points { point_count archives.now ≤ 4000000 }
-    ensures value { result ≡ offset_of archives.now i }
+    ensures value { result ≡ offset_in version archives.now i }
     ensures within { IfSome (slice_get archives.now i)
-        (λ archive. result + 12 * archive.points ≤ file_size_of archives.now) }
+        (λ archive. result + cell_size_in version * archive.points
+        ≤ file_size_in version archives.now) }
 {
     let points = point_count(&archives[..i]);
-    (head_size(archives.len()) + CELL * points) as u32
+    (head_size(archives.len()) + cell_bytes_in(version) as u64 * points) as u32
 }
 
-/// The bytes of a file with these archives.
-pub(crate) fn file_size_of(archives: &[Archive]) -> u64
-    requires { length archives.now ≤ 25 }
-    ensures { result ≡ file_size_of archives.now }
+/// The bytes of a file of a version with these archives.
+pub(crate) fn file_size_in(archives: &[Archive], version: u32) -> u64
+    requires few { length archives.now ≤ 25 }
+    requires version { IsVersion version }
+    ensures { result ≡ file_size_in version archives.now }
 {
-    head_size(archives.len()) + CELL * point_count(archives)
+    head_size(archives.len()) + cell_bytes_in(version) as u64 * point_count(archives)
 }
 
 /// The bytes of a head.

@@ -1,12 +1,37 @@
-//! The numbers that stand for methods in a file.
-ghost use Rattle.std.specs.Prelude.{◌≡◌};
-ghost use Rattle.ring_format.specs.Head.{method_number, method_of};
+//! The numbers that stand for methods in a file, and the first word of a head.
+ghost use Rattle.std.specs.Prelude.{◌≡◌, ◌≤◌, IfSome};
+ghost use Rattle.ring_format.specs.Cell.{IsVersion};
+ghost use Rattle.ring_format.specs.Head.{first_word, method_number, method_of, told_by};
 
 use crate::archive::Method;
+use crate::cell::{OLD_VERSION, VERSION};
 
-/// The number that stands for a method.
-pub(crate) fn number_of_method(method: Method) -> u32
-    ensures { result ≡ method_number method }
+// How much greater the first word of version 2 is than the method's number.
+const WORD_STEP: u32 = 512;
+
+/// The first word of a file that is written.
+pub(crate) fn first_word(method: Method) -> u32
+    ensures { result ≡ first_word 2 method }
+{
+    WORD_STEP + number_of_method(method)
+}
+
+/// The method and the version that a first word tells, or `None` where it is no first word.
+#[tactic(auto, unfolding(crate::specs::Head::told_by))]
+pub(crate) fn told_by(word: u32) -> Option<(Method, u32)>
+    ensures value { result ≡ told_by word }
+    ensures version { IfSome result (λ told. IsVersion told.1) }
+{
+    if word > WORD_STEP {
+        return Some((method_of(word - WORD_STEP)?, VERSION));
+    }
+    Some((method_of(word)?, OLD_VERSION))
+}
+
+// The number that stands for a method.
+fn number_of_method(method: Method) -> u32
+    ensures value { result ≡ method_number method }
+    ensures most { result ≤ 8 }
 {
     match method {
         Method::Average => 1,

@@ -4,8 +4,8 @@ use Rattle.std.specs.Prelude.{⊤, option_map, replicate, Result, Ok, Err, OnErr
 use Rattle.outside_io.specs.Image.{Image, ChangesOnly, Creates, IsTorn, Tears, WhereKnown, Writes, put_over}
 use Rattle.ring_format.specs.Layout.{layout_fault}
 use Rattle.ring_format.specs.Patch.{PatchValue}
+use Rattle.ring_format.specs.Cell.{cell_size}
 use Rattle.ring_archive.specs.Ring.{IsRingFile, OnFile, ReadsAs, UnderPatch}
-use Rattle.ring_archive.proofs.AlikeLemmas.{aside_alike}
 use Rattle.write_shelf.specs.Runs.{runs_of}
 use Rattle.write_shelf.specs.Shelf.{ComesInTurn, DrainValue, IsBegun, IsFilled, IsRunOf, OfNext, StandsAt, drain_with, marked, next_run, run_bytes}
 use Rattle.write_shelf.specs.declared.run.Run.{Run}
@@ -13,7 +13,7 @@ use Rattle.write_shelf.specs.declared.run.Run.TheVariants.{Create, Cells, Head}
 use Rattle.write_shelf.proofs.BytesLemmas.{length-cells_bytes}
 use Rattle.ring_writer.specs.PartWritten.{Awaits, AwaitsNext, ComesTo, FailsNext, IsPartWritten, PutsRun, RunTorn, RunWritten, TearsRun, WritesNext}
 use Rattle.ring_writer.proofs.KnownLemmas.{known_more, known_then}
-use Rattle.ring_writer.proofs.PartLemmas.{FollowsOn, cells_failed, cells_written, file_made, head_failed, head_written, ring_file_begun}
+use Rattle.ring_writer.proofs.PartLemmas.{FollowsOn, cells_failed, cells_written, file_made, head_failed, head_written, reads_on, ring_file_begun}
 
 -- what follows from an error, where there is one
 pub on_err_then : {T E : Type 0} {P : Type 0} (r : Result T E) → OnErr r P → IsErr r → P
@@ -81,7 +81,7 @@ comes_to : (patch : PatchValue) (left : List Run) (name : List ℕ) (before afte
 comes_to patch left name before after lawful others both = record {
   others = others;
   reads = λ rings. under_moved patch.fresh before after name (λ file. ReadsAs patch file rings)
-      (moved (λ file. ReadsAs patch file rings) (FollowsOn patch left) (λ o n follows reads. aside_alike patch o n rings lawful follows.agree reads) (before name) (after name) both);
+      (moved (λ file. ReadsAs patch file rings) (FollowsOn patch left) (λ o n follows reads. reads_on patch left o n rings lawful follows reads) (before name) (after name) both);
   far = awaits_held patch left (after name) (second (FollowsOn patch left) (IsPartWritten patch left) (λ o n follows. follows.part) (before name) (after name) both);
 }
 
@@ -110,7 +110,7 @@ write_fails : (drain : DrainValue) (left : List Run) (name : List ℕ) (n at : �
 write_fails drain [] name n at bytes before after first other filled stands awaits tears = absurd (some_left drain first)
 write_fails drain (Create size ∷ left) name n at bytes before after first other filled stands awaits tears = absurd other
 write_fails drain (Cells archive slot count ∷ left) name n at bytes before after first other filled stands awaits tears =
-    let long : length (take n bytes) ≡ 12 * count = ap length filled.front ∙ length-cells_bytes drain.patch.cells archive slot count first.sound.laid in
+    let long : length (take n bytes) ≡ cell_size * count = ap length filled.front ∙ length-cells_bytes drain.patch.cells archive slot count first.sound.laid in
     comes_to drain.patch (Cells archive slot count ∷ left) name before after first.lawful tears.1
     (both_of (IsPartWritten drain.patch (Cells archive slot count ∷ left)) (λ o m. IsTorn o m at (length (take n bytes))) (FollowsOn drain.patch (Cells archive slot count ∷ left))
     (λ o m part torn. cells_failed drain.patch archive slot count (length (take n bytes)) left o m first.sound long part (rw stands.place at torn)) (before name) (after name) awaits tears.0)

@@ -8,6 +8,7 @@ use Rattle.ring_format.specs.declared.archive.Archive.{Archive}
 use Rattle.ring_format.specs.Layout.{LayoutValue, point_count}
 use Rattle.ring_format.specs.LayoutFile.{file_size_of, head_size, offset_of}
 use Rattle.ring_format.specs.Patch.{IsPlace}
+use Rattle.ring_format.specs.Cell.{cell_size}
 use Rattle.ring_format.proofs.LawfulLayouts.{points_within}
 use Rattle.ring_archive.specs.Ring.{cell_offset}
 
@@ -15,7 +16,7 @@ abbrev pub blank : Archive
 blank = record { step = 0; points = 0 }
 
 -- an archive ends where a later one begins, or before
-archives_apart : (archives : List Archive) (a b : ℕ) → a < b → b ≤ length archives → offset_of archives a + 12 * (get_or archives a blank).points ≤ offset_of archives b
+archives_apart : (archives : List Archive) (a b : ℕ) → a < b → b ≤ length archives → offset_of archives a + cell_size * (get_or archives a blank).points ≤ offset_of archives b
 archives_apart archives a b less within =
     let all : a < length (take b archives) = omega (arith, length-take b archives) in
     let points = points_within (take b archives) a blank all in
@@ -53,7 +54,7 @@ same_points archives place first same = ap (λ (i : ℕ). (get_or archives i bla
 -- the cell of a place lies apart from those of some neighbours
 pub cells_apart : (layout : LayoutValue) (first place : ℕ × ℕ) (count : ℕ) → first.0 < length layout.archives → first.1 + count ≤ (get_or layout.archives first.0 blank).points → IsPlace layout place
     → (place.0 ≡ first.0 → (place.1 < first.1) ⊎ (first.1 + count ≤ place.1))
-    → (cell_offset layout.archives place + 12 ≤ cell_offset layout.archives first) ⊎ (cell_offset layout.archives first + 12 * count ≤ cell_offset layout.archives place)
+    → (cell_offset 2 layout.archives place + cell_size ≤ cell_offset 2 layout.archives first) ⊎ (cell_offset 2 layout.archives first + cell_size * count ≤ cell_offset 2 layout.archives place)
 cells_apart layout first place count within room is aside =
     let slot = slot_below layout place is in
     elim (cases_lt place.0 first.0) [
@@ -72,6 +73,6 @@ cells_apart layout first place count within room is aside =
 
 -- some neighbours lie behind the head and within the file
 pub cells_within : (layout : LayoutValue) (first : ℕ × ℕ) (count : ℕ) → first.0 < length layout.archives → first.1 + count ≤ (get_or layout.archives first.0 blank).points
-    → (head_size (length layout.archives) ≤ cell_offset layout.archives first) × (cell_offset layout.archives first + 12 * count ≤ file_size_of layout.archives)
+    → (head_size (length layout.archives) ≤ cell_offset 2 layout.archives first) × (cell_offset 2 layout.archives first + cell_size * count ≤ file_size_of layout.archives)
 cells_within layout first count within room =
     (omega arith, omega (arith, points_within layout.archives first.0 blank within))

@@ -4,7 +4,7 @@ use Rattle.std.specs.List.{flat_map}
 use Rattle.outside_io.specs.Image.{Image, ChangesOnly, Creates, Tears, Writes}
 use Rattle.ring_format.specs.LayoutFile.{file_size_of}
 use Rattle.ring_format.specs.Patch.{IsPlace, PatchValue}
-use Rattle.ring_archive.specs.Ring.{IsRingFile, ReadsAs, Rings, UnderPatch, ring_cell, stored_cell}
+use Rattle.ring_archive.specs.Ring.{IsRingFile, ReadsAs, Rings, UnderPatch, cell_from, ring_cell}
 use Rattle.write_shelf.specs.AreRuns.{places_in}
 use Rattle.write_shelf.specs.Shelf.{DrainValue, run_at, run_bytes}
 use Rattle.write_shelf.specs.declared.run.Run.{Run}
@@ -16,13 +16,13 @@ IsLeft left place = Contains (flat_map places_in left) place
 
 -- The file of a patch with these runs left to write: it has its whole length; its head stands,
 -- unless the patch is fresh and its last run, the head, is left; and each slot that none of these
--- runs writes holds what the file means under the patch, which under a fresh patch is zero where no
--- cell is laid.
+-- runs writes holds, in version 2, what the file means under the patch, which under a fresh patch is
+-- zero where no cell is laid.
 pub record IsPartWritten (patch : PatchValue) (left : List Run) (file : List ℕ) : Type 0 where
   pub long : length file ≡ file_size_of patch.layout.archives
   pub head : (patch.fresh ≡ false) ⊎ (left ≡ []) → IsRingFile patch.layout file
   pub cells : (place : ℕ × ℕ) → IsPlace patch.layout place → (IsLeft left place → ⊥)
-      → stored_cell patch.layout.archives file place ≡ ring_cell patch file place
+      → cell_from 2 patch.layout.archives file place ≡ ring_cell patch file place
 
 -- what stands under a file's name when these runs are left: anything or nothing, where the file is
 -- to be created

@@ -1,8 +1,8 @@
 -- How the known values of a finer archive become one value of a coarser: exact sums, quotients rounded down, and picked values.
-use Rattle.std.specs.Prelude.{ℕ, ◌*◌, ◌==◌, ℤ, pos, ◌+ℤ◌, ◌-◌, Bool, nat_lt, nat_le, List, length, Option, Some, None, if◌then◌else◌, unsigned_abs, slice_get}
+use Rattle.std.specs.Prelude.{ℕ, ◌*◌, ◌==◌, ℤ, pos, ◌+ℤ◌, ◌-◌, Bool, nat_lt, nat_le, List, length, Option, None, if◌then◌else◌, unsigned_abs, slice_get}
 use Rattle.std.specs.Int.{int_div_euclid, int_max, int_min}
 use Rattle.std.specs.List.{fold, reduce}
-use Rattle.fixed_num.specs.Decimal.{fits_i64}
+use Rattle.fixed_num.specs.Milli.{value_of}
 use Rattle.ring_format.specs.declared.archive.Method.{Method}
 use Rattle.ring_format.specs.declared.archive.Method.TheVariants.{Average, Sum, Last, Max, Min, AvgZero, AbsMax, AbsMin}
 
@@ -10,13 +10,9 @@ use Rattle.ring_format.specs.declared.archive.Method.TheVariants.{Average, Sum, 
 unfoldable pub sum_of : List ℤ → ℤ
 sum_of known = fold ◌+ℤ◌ (pos 0) known
 
--- a number, where it fits 64 bits with a sign
-unfoldable pub fitting : ℤ → Option ℤ
-fitting number = if fits_i64 number then Some number else None
-
 -- a number got from known values: none where none is known or it does not fit
 unfoldable pub result_from : List ℤ → ℤ → Option ℤ
-result_from known number = if length known == 0 then None else fitting number
+result_from known number = if length known == 0 then None else value_of number
 
 -- the sum over a number of places, rounded down
 unfoldable pub mean_over : ℕ → List ℤ → ℤ

@@ -1,7 +1,7 @@
 //! The methods that add up the known values, in 128 bits, where no sum of so few is out of range.
 
 ghost use Rattle.std.specs.Prelude.{◌≡◌, ◌≤◌, length};
-ghost use Rattle.rollup.specs.Rollup.{fitting, mean_over, result_from, sum_of};
+ghost use Rattle.rollup.specs.Rollup.{mean_over, result_from, sum_of};
 
 use fixed_num::{Milli, narrow, wide};
 
@@ -14,7 +14,7 @@ pub(crate) fn total(known: &[Milli]) -> Option<Milli>
     if known.is_empty() {
         return None;
     }
-    fitting(sum_of(known))
+    narrow(sum_of(known))
 }
 
 /// The exact sum over the number of places, rounded down: `None` exactly where no value is known or it
@@ -28,7 +28,7 @@ pub(crate) fn mean_over(count: u32, known: &[Milli]) -> Option<Milli>
     if known.is_empty() {
         return None;
     }
-    fitting(sum_of(known).div_euclid(i128::from(count)))
+    narrow(sum_of(known).div_euclid(i128::from(count)))
 }
 
 // The exact sum.
@@ -42,12 +42,4 @@ fn sum_of(known: &[Milli]) -> i128
         sum += wide(*value);
     }
     sum
-}
-
-// The value of a number, where it fits.
-#[tactic(auto, unfolding(crate::specs::Rollup::fitting))]
-fn fitting(number: i128) -> Option<Milli>
-    ensures { result ≡ fitting number }
-{
-    narrow(number)
 }

@@ -3,7 +3,7 @@ ghost use Rattle.std.specs.Prelude.{◌≡◌, ◌+◌, ◌≤◌, ◌<◌, ◌+
 ghost use Rattle.fixed_num.specs.Print.{milli_text};
 ghost use Rattle.sample_text.specs.Sample.{clock_text, clock_word, drain_line, drain_text, drawn, lines_text, metric_at, metric_text, metric_word, time_at, value_at};
 
-use fixed_num::{MILLI_TEXT, Milli, print_milli};
+use fixed_num::{MILLI_TEXT, Milli, milli_of, print_milli};
 use itoa::Buffer;
 use std::marker::Model;
 
@@ -79,9 +79,9 @@ impl Lines {
     }
 
     fn push_value(&mut self, value: Milli)
-        requires { length self.old + 24 ≤ 128 }
+        requires { length self.old + 40 ≤ 128 }
         ensures text { self.new ≡ self.old ++ milli_text value }
-        ensures size { length self.new ≤ length self.old + 24 }
+        ensures size { length self.new ≤ length self.old + 40 }
     {
         let mut text = [0; MILLI_TEXT];
         let length = print_milli(value, &mut text);
@@ -132,7 +132,7 @@ impl Lines {
     fn push_metric(&mut self, seed: u64, number: u32)
         requires { length self.old ≤ 28 }
         ensures text { self.new ≡ self.old ++ metric_text seed number }
-        ensures size { length self.new ≤ length self.old + 75 }
+        ensures size { length self.new ≤ length self.old + 91 }
         ensures some { 0 < length self.new }
     {
         self.push_metric_word();
@@ -173,7 +173,7 @@ fn metric_at(seed: u64) -> u64
 fn value_at(seed: u64) -> Milli
     ensures { result ≡ value_at seed }
 {
-    (drawn(seed) / 100 % 2_000_001) as i64 - 1_000_000
+    milli_of((drawn(seed) / 100 % 2_000_001) as i64 - 1_000_000)
 }
 
 fn time_at(number: u32) -> u64

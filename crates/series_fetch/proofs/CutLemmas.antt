@@ -58,11 +58,11 @@ cut_at xs time i within parts = record {
 }
 
 -- the first point that is not before a time cuts there
-pub cut_here : (xs : List (ℕ × ℤ)) (time i : ℕ) → IsRising xs → i < length xs → AllWithin (λ p. p.0 < time) xs 0 i → time ≤ (get_or xs i (0, pos 0)).0 → IsCut xs time i
-cut_here xs time i up within before here = record {
+pub cut_here : (xs : List (ℕ × ℤ)) (time i : ℕ) (d : ℕ × ℤ) → IsRising xs → i < length xs → AllWithin (λ p. p.0 < time) xs 0 i → time ≤ (get_or xs i d).0 → IsCut xs time i
+cut_here xs time i d up within before here = record {
   within = omega arith;
   before = before;
-  behind = λ k d l u. rw (get_or_default xs k d (0, pos 0) u) (omega (arith, here, rises_by xs i k (0, pos 0) up l u));
+  behind = λ k e l u. rw (get_or_default xs k e d u) (omega (arith, here, rises_by xs i k d up l u));
 }
 
 -- a later time cuts no earlier

@@ -1,5 +1,5 @@
 -- Values and those before them.
-use Rattle.std.proofs.Common.{◌≡◌, ℕ, ℤ, pos, ◌+◌, ◌+ℤ◌, ◌<◌, List, [], ◌∷◌, ◌++◌, length, get_or, take, fold, map, Option, Some, None, FitsSigned, w64, refl, sym, ap, ◌∙◌, arith, add-one}
+use Rattle.std.proofs.Common.{◌≡◌, ℕ, ℤ, pos, ◌+◌, ◌+ℤ◌, ◌<◌, List, [], ◌∷◌, ◌++◌, length, get_or, take, fold, map, Option, Some, None, refl, sym, ap, ◌∙◌, arith, add-one}
 use Rattle.std.specs.List.{cons_option, last_or, range_with_len}
 use Rattle.std.specs.Option.{option_or}
 use Rattle.std.proofs.lemmas.Int.{ints}
@@ -9,7 +9,7 @@ use Rattle.std.proofs.lemmas.List.Sums.{fold-append}
 use Rattle.std.proofs.lemmas.Simd.{map-map}
 use Rattle.series_set.specs.Average.{IsWithinSums, known, sum_of}
 use Rattle.series_set.proofs.SumLemmas.{within_more}
-use Rattle.series_funcs.specs.Quotients.{fitting}
+use Rattle.fixed_num.specs.Milli.{IsMilli, value_of}
 use Rattle.series_funcs.specs.declared.changing.Change.TheVariants.{NotBelow}
 use Rattle.series_funcs.specs.Shaped.{at, before, change_at, changed_each, changed_value, derivative_at, differs, integral_at, last_known, minus, one_where, rises}
 use Rattle.series_funcs.proofs.PlaceByPlace.{Placed, length-placed, placed_next}
@@ -43,7 +43,7 @@ sums_missing values place sum within is so_far =
     let same : known (take (place + 1) values) ≡ known (take place values) = known_next values place within ∙ rw is (append-nil (known (take place values))) in
     record { is = so_far.is ∙ ap (fold ◌+ℤ◌ (pos 0)) (sym same); within = within_next place sum so_far.within }
 
-pub sums_known : (values : List (Option ℤ)) (place : ℕ) (sum v : ℤ) → place < length values → at values place ≡ Some v → FitsSigned w64 v → SumsUpTo values place sum → SumsUpTo values (place + 1) (sum +ℤ v)
+pub sums_known : (values : List (Option ℤ)) (place : ℕ) (sum v : ℤ) → place < length values → at values place ≡ Some v → IsMilli v → SumsUpTo values place sum → SumsUpTo values (place + 1) (sum +ℤ v)
 sums_known values place sum v within is fits so_far =
     let more : known (take (place + 1) values) ≡ known (take place values) ++ v ∷ [] = known_next values place within ∙ rw is refl in
     record {
@@ -55,9 +55,9 @@ pub integral_missing : (values : List (Option ℤ)) (place : ℕ) → at values 
 unfolding integral_at
 integral_missing values place is = rw is refl
 
-pub integral_known : (values : List (Option ℤ)) (place : ℕ) (sum v : ℤ) → at values place ≡ Some v → SumsUpTo values (place + 1) sum → fitting sum ≡ integral_at values place
+pub integral_known : (values : List (Option ℤ)) (place : ℕ) (sum v : ℤ) → at values place ≡ Some v → SumsUpTo values (place + 1) sum → value_of sum ≡ integral_at values place
 unfolding integral_at sum_of
-integral_known values place sum v is so_far = rw is (ap fitting so_far.is)
+integral_known values place sum v is so_far = rw is (ap value_of so_far.is)
 
 -- ---- rises
 

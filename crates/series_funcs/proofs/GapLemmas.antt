@@ -76,9 +76,9 @@ fill_first most values now place last fill in_gap rest placed fills none is =
     fills.last_is
 
 -- one missing value more
-pub filled_more : (most : Option ℕ) (values now : List (Option ℤ)) (place : ℕ) (last fill : Option ℤ) (in_gap : Bool) → place < length values → at values place ≡ None → last ≡ last_known (take place values) → Placed (kept_at most values) values now place → in_gap ≡ true → fill ≡ fill_at most values place
-    → Placed (kept_at most values) values (set now place fill) (place + 1) × Fills most values (place + 1) last in_gap fill
-filled_more most values now place last fill in_gap within missing last_is placed gap is = (
-  placed_more (kept_at most values) values now place None fill within (is ∙ kept_missing most values place missing) placed,
+pub filled_more : (most : Option ℕ) (values now : List (Option ℤ)) (place : ℕ) (last fill value : Option ℤ) (in_gap : Bool) → value ≡ fill → place < length values → at values place ≡ None → last ≡ last_known (take place values) → Placed (kept_at most values) values now place → in_gap ≡ true → fill ≡ fill_at most values place
+    → Placed (kept_at most values) values (set now place value) (place + 1) × Fills most values (place + 1) last in_gap fill
+filled_more most values now place last fill value in_gap same within missing last_is placed gap is = (
+  placed_more (kept_at most values) values now place None value within (same ∙ is ∙ kept_missing most values place missing) placed,
   subst (λ (b : Bool). Fills most values (place + 1) last b fill) (sym gap) (fills_missing most values place last fill within missing last_is is),
 )

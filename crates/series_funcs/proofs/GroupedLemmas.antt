@@ -12,7 +12,6 @@ use Rattle.std.proofs.lemmas.Slice.Eq.{bytes_eq-Decides}
 use Rattle.series_set.specs.Series.{SeriesValue, end_of, latest_end, widest_step}
 use Rattle.series_funcs.specs.Combined.{AreCombinable, IsSoonAfter}
 use Rattle.series_funcs.specs.declared.kinds.Regroup.{Regroup}
-use Rattle.series_funcs.specs.Each.{each_of}
 use Rattle.series_funcs.specs.Regrouped.{Groups, combine_of, combined_groups, first_seen, group_text, groups_by, regroup, with_text}
 
 same : (a b : List ℕ) → bytes_eq a b ≡ true → a ≡ b

@@ -14,7 +14,8 @@ use Rattle.series_set.specs.CommonGrid.{EndsSoonAfter, common_grid, value_count}
 use Rattle.series_set.specs.OnGrid.{on_grid}
 use Rattle.series_funcs.specs.declared.kinds.Combine.{Combine}
 use Rattle.series_funcs.specs.declared.kinds.Combine.TheVariants.{Sum, Average, Min, Max, Range, Diff, Multiply}
-use Rattle.series_funcs.specs.Quotients.{fitting, times}
+use Rattle.series_funcs.specs.Quotients.{times}
+use Rattle.fixed_num.specs.Milli.{value_of}
 
 -- ---- at one moment
 
@@ -24,12 +25,12 @@ gathered method known = rolled method known (length known)
 
 -- the greatest less the least
 unfoldable pub spread : List ℤ → Option ℤ
-spread known = option_and_then (λ most. option_and_then (λ least. fitting (most -ℤ least)) (gathered method.Min known)) (gathered method.Max known)
+spread known = option_and_then (λ most. option_and_then (λ least. value_of (most -ℤ least)) (gathered method.Min known)) (gathered method.Max known)
 
 -- the first less each other one
 unfoldable pub difference : List ℤ → Option ℤ
 difference [] = None
-difference (first ∷ others) = fitting (fold ◌-ℤ◌ first others)
+difference (first ∷ others) = value_of (fold ◌-ℤ◌ first others)
 
 -- one factor more; none from a product that does not fit
 abbrev pub times_next : Option ℤ → ℤ → Option ℤ

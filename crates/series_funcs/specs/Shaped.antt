@@ -1,5 +1,5 @@
 -- What the functions of one series make of its values.
-use Rattle.std.specs.Prelude.{ℕ, ◌+◌, ◌-◌, ◌^◌, ℤ, pos, neg_ℤ, ◌+ℤ◌, ◌-ℤ◌, ◌*ℤ◌, unsigned_abs, int_lt, Bool, true, false, not, nat_lt, nat_le, List, ◌∷◌, length, map, take, drop, Option, Some, None, is_none, is_some, if◌then◌else◌, ⊤, ◌<◌}
+use Rattle.std.specs.Prelude.{ℕ, ◌+◌, ◌-◌, ◌^◌, ℤ, pos, neg_ℤ, ◌+ℤ◌, ◌-ℤ◌, ◌*ℤ◌, unsigned_abs, int_lt, Bool, true, false, not, nat_lt, nat_le, List, ◌∷◌, length, map, take, drop, Option, Some, None, is_none, is_some, if◌then◌else◌, ⊤, ◌<◌, ◌≤◌}
 use Rattle.std.specs.Int.{int_min}
 use Rattle.std.specs.List.{last_or, prefix_len, range_with_len, reduce, slice_index_or, suffix_len}
 use Rattle.std.specs.Ordering.{int_eq}
@@ -11,7 +11,8 @@ use Rattle.series_funcs.specs.declared.changing.Change.TheVariants.{Magnitude, R
 use Rattle.series_funcs.specs.declared.kinds.Shape.{Shape}
 use Rattle.series_funcs.specs.declared.kinds.Shape.TheVariants.{Absolute, Scale, Offset, OffsetToZero, Derivative, NonNegativeDerivative, PerSecond, Integral, Delay, KeepLastValue, TransformNull, IsNonNull, Changed, RemoveAboveValue, RemoveBelowValue, ScaleToSeconds}
 use Rattle.series_funcs.specs.Named.{call_text}
-use Rattle.series_funcs.specs.Quotients.{fitting, floor_quotient}
+use Rattle.series_funcs.specs.Quotients.{floor_quotient}
+use Rattle.fixed_num.specs.Milli.{value_of}
 
 -- ---- each value by itself
 
@@ -20,13 +21,13 @@ abbrev pub one_where : Bool → ℤ
 one_where holds = if holds then pos 1000 else pos 0
 
 unfoldable pub magnitude : ℤ → Option ℤ
-magnitude v = fitting (pos (unsigned_abs v))
+magnitude v = value_of (pos (unsigned_abs v))
 
 unfoldable pub ratio_to : ℤ → ℕ → ℤ → Option ℤ
-ratio_to factor divisor v = fitting (floor_quotient (v *ℤ factor) (pos divisor))
+ratio_to factor divisor v = value_of (floor_quotient (v *ℤ factor) (pos divisor))
 
 unfoldable pub plus : ℤ → ℤ → Option ℤ
-plus other v = fitting (v +ℤ other)
+plus other v = value_of (v +ℤ other)
 
 abbrev pub not_above : ℤ → ℤ → Option ℤ
 not_above most v = if int_lt most v then None else Some v
@@ -46,7 +47,7 @@ changed_value (NotBelow least) value = option_and_then (not_below least) value
 -- a divisor that is not 0, and a number that a value less another can be
 abbrev pub MayChange : Change → Type 0
 MayChange (Ratio factor divisor) = 0 < divisor
-MayChange (Plus other) = unsigned_abs other < 2 ^ 64
+MayChange (Plus other) = unsigned_abs other ≤ 10 ^ 30
 MayChange _ = ⊤
 
 unfoldable pub changed_each : Change → List (Option ℤ) → List (Option ℤ)
@@ -67,7 +68,7 @@ at_places f values = map (f values) (range_with_len 0 (length values))
 
 -- a value less another; missing where either is
 unfoldable pub minus : Option ℤ → Option ℤ → Option ℤ
-minus value other = option_and_then (λ v. option_and_then (λ o. fitting (v -ℤ o)) other) value
+minus value other = option_and_then (λ v. option_and_then (λ o. value_of (v -ℤ o)) other) value
 
 -- the value one place before; missing at the first
 abbrev pub before : List (Option ℤ) → ℕ → Option ℤ
@@ -79,7 +80,7 @@ derivative_at values place = minus (at values place) (before values place)
 
 -- the sum of the known up to a place, where the value there is known
 unfoldable pub integral_at : List (Option ℤ) → ℕ → Option ℤ
-integral_at values place = option_and_then (λ _. fitting (sum_of (known (take (place + 1) values)))) (at values place)
+integral_at values place = option_and_then (λ _. value_of (sum_of (known (take (place + 1) values)))) (at values place)
 
 -- the value so many places before; missing at the first so many
 abbrev pub delayed_at : ℕ → List (Option ℤ) → ℕ → Option ℤ

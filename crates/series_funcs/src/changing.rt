@@ -1,13 +1,13 @@
 //! What is made of each value by itself.
-ghost use Rattle.std.specs.Prelude.{◌≡◌, ◌≤◌, ◌<◌, ◌^◌, length, pos, unsigned_abs};
+ghost use Rattle.std.specs.Prelude.{◌≡◌, ◌≤◌, ◌<◌, ◌^◌, length, unsigned_abs};
 ghost use Rattle.std.specs.Int.{int_min};
 ghost use Rattle.std.specs.List.{reduce};
 ghost use Rattle.series_set.specs.Average.{known};
-ghost use Rattle.series_funcs.specs.Quotients.{fitting, floor_quotient};
 ghost use Rattle.series_funcs.specs.Shaped.{above_least, changed_each, changed_value, MayChange, magnitude, not_above, not_below, one_where, plus, ratio_to};
 
-use crate::quotients::{fitting, quotient};
-use fixed_num::{Milli, wide};
+use crate::quotients::product_over;
+use fixed_num::{Milli, milli_of, narrow, wide, zero};
+use series_set::Reading;
 
 /// What is made of each value by itself. A missing one stays missing where nothing else is said.
 #[derive(Clone, Copy)]
@@ -16,7 +16,7 @@ pub(crate) enum Change {
     Magnitude,
     /// The value times a factor, over a divisor that is not 0, rounded down.
     Ratio { factor: i64, divisor: u64 },
-    /// The value and a number of at most 64 bits and a sign.
+    /// The value and a number that is a value, or would be with the other sign.
     Plus { other: i128 },
     /// The value, or this one for a missing one.
     KnownOr { other: Milli },
@@ -32,17 +32,18 @@ pub(crate) enum Change {
 pub(crate) fn one_where(holds: bool) -> Milli
     ensures { result ≡ one_where holds }
 {
-    if holds { 1000 } else { 0 }
+    if holds { milli_of(1000) } else { zero() }
 }
 
 /// Changes each value.
 #[tactic(auto, unfolding(crate::specs::Shaped::changed_each))]
-pub(crate) fn change_each(values: &mut Vec<Option<Milli>>, change: &Change)
+pub(crate) fn change_each(values: &mut Vec<Reading>, change: &Change)
     requires { MayChange change.now }
     ensures { values.new.items ≡ changed_each change.now values.old.items }
 {
     for place in 0..values.len() {
-        values[place] = changed_value(change, values[place]);
+        let value = changed_value(change, values[place].get());
+        values[place] = Reading::of(value);
     }
 }
 
@@ -66,7 +67,7 @@ fn changed_value(change: &Change, value: Option<Milli>) -> Option<Milli>
 fn magnitude(value: Milli) -> Option<Milli>
     ensures { result ≡ magnitude value }
 {
-    fitting(wide(value).abs())
+    narrow(wide(value).abs())
 }
 
 #[tactic(auto, unfolding(crate::specs::Shaped::ratio_to))]
@@ -74,24 +75,15 @@ fn ratio_to(factor: i64, divisor: u64, value: Milli) -> Option<Milli>
     requires { 0 < divisor }
     ensures { result ≡ ratio_to factor divisor value }
 {
-    over(wide(value) * wide(factor), divisor)
-}
-
-// A number over another, rounded down.
-fn over(number: i128, divisor: u64) -> Option<Milli>
-    requires some { 0 < divisor }
-    requires above { unsigned_abs number < 2 ^ 127 }
-    ensures { result ≡ fitting (floor_quotient number (pos divisor)) }
-{
-    quotient(number, i128::from(divisor))
+    product_over(value, i128::from(factor), divisor)
 }
 
 #[tactic(auto, unfolding(crate::specs::Shaped::plus))]
 fn plus(other: i128, value: Milli) -> Option<Milli>
-    requires { unsigned_abs other < 2 ^ 64 }
+    requires { unsigned_abs other ≤ 10 ^ 30 }
     ensures { result ≡ plus other value }
 {
-    fitting(wide(value) + other)
+    narrow(wide(value) + other)
 }
 
 fn not_above(most: Milli, value: Milli) -> Option<Milli>
@@ -114,7 +106,7 @@ pub(crate) fn not_below(least: Milli, value: Milli) -> Option<Milli>
 
 /// Takes the least known value from each.
 #[tactic(auto, unfolding(crate::specs::Shaped::above_least))]
-pub(crate) fn take_least(values: &mut Vec<Option<Milli>>)
+pub(crate) fn take_least(values: &mut Vec<Reading>)
     ensures { values.new.items ≡ above_least values.old.items }
 {
     let Some(least) = least_known(values.as_slice()) else {
@@ -128,8 +120,8 @@ pub(crate) fn take_least(values: &mut Vec<Option<Milli>>)
     );
 }
 
-fn least_known(values: &[Option<Milli>]) -> Option<Milli>
+fn least_known(values: &[Reading]) -> Option<Milli>
     ensures { result ≡ reduce int_min (known values.now) }
 {
-    values.iter().filter_map(|value| *value).min()
+    values.iter().filter_map(|value| value.get()).min()
 }

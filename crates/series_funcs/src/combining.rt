@@ -8,11 +8,14 @@ ghost use Rattle.series_set.specs.CommonGrid.{IsGrid, has_grid, value_count};
 ghost use Rattle.series_funcs.specs.Combined.{AreCombinable, IsSoonAfter, all_on, column, combine, combined_columns, combined_known, combined_on, combined_series, difference, most_series, product, spread, times_next, value_at};
 
 use crate::kinds::Combine;
-use crate::quotients::{fitting, times};
-use fixed_num::{Milli, wide};
+use crate::quotients::times;
+use fixed_num::{Milli, narrow, wide};
 use ring_format::Method;
 use rollup::roll;
-use series_set::{Allowance, EvalFault, Grid, Series, SeriesSet, Size, bucket_value, common_grid};
+use series_set::{
+    Allowance, EvalFault, Grid, Reading, Series, SeriesSet, Size, bucket_value, common_grid,
+    flattened,
+};
 use std::alloc::{AllocError, Global};
 
 /// The series combined to one of this name and path, on their common grid; no series give none. At each moment it has what the values
@@ -95,7 +98,7 @@ fn combined_values(
     kind: Combine,
     set: &SeriesSet,
     grid: &Grid,
-) -> Result<Vec<Option<Milli>>, AllocError>
+) -> Result<Vec<Reading>, AllocError>
     requires few { length set.now ≤ most_series }
     requires grid { IsGrid grid.now }
     requires early { grid.now.end ≤ latest_end }
@@ -123,7 +126,7 @@ fn combined_columns(
     kind: Combine,
     series: &[Series],
     count: usize,
-) -> Result<Vec<Option<Milli>>, AllocError>
+) -> Result<Vec<Reading>, AllocError>
     requires { length series.now ≤ most_series }
     ensures { IfOk result (λ values. values.items ≡ combined_columns kind series.now count) }
 {
@@ -131,7 +134,7 @@ fn combined_columns(
     let mut values = Vec::with_capacity(alloc, count)?;
     for place in 0..count {
         gather_known(series, place, &mut known)?;
-        values.push(combined_known(kind, &known, series.len()))?;
+        values.push(Reading::of(combined_known(kind, &known, series.len())))?;
     }
     Ok(values)
 }
@@ -161,7 +164,7 @@ fn combined_buckets(
     kind: Combine,
     series: &[Series],
     grid: &Grid,
-) -> Result<Vec<Option<Milli>>, AllocError>
+) -> Result<Vec<Reading>, AllocError>
     requires few { length series.now ≤ most_series }
     requires grid { IsGrid grid.now }
     requires early { grid.now.end ≤ latest_end }
@@ -174,7 +177,7 @@ fn combined_buckets(
     for bucket in 0..count {
         gather_bucket(series, grid, bucket, &mut known)?;
         let value = combined_known(kind, &known, series.len());
-        values.push(value)?;
+        values.push(Reading::of(value))?;
     }
     Ok(values)
 }
@@ -206,7 +209,7 @@ fn gather_bucket(
 pub(crate) fn value_at(series: &Series, place: usize) -> Option<Milli>
     ensures { result ≡ value_at place series.now }
 {
-    series.values().get(place).copied().flatten()
+    flattened(series.values().get(place).copied())
 }
 
 // What values have together of which these are known.
@@ -240,7 +243,7 @@ fn spread(known: &[Milli]) -> Option<Milli>
     let count = known.len() as u32;
     let most = roll(Method::Max, known, count)?;
     let least = roll(Method::Min, known, count)?;
-    fitting(wide(most) - wide(least))
+    narrow(wide(most) - wide(least))
 }
 
 // The first value less each other one.
@@ -250,7 +253,7 @@ fn difference(known: &[Milli]) -> Option<Milli>
     ensures { result ≡ difference known.now }
 {
     let (first, others) = known.split_first()?;
-    fitting(less_others(*first, others))
+    narrow(less_others(*first, others))
 }
 
 fn less_others(first: Milli, others: &[Milli]) -> i128

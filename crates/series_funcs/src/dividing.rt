@@ -13,7 +13,7 @@ use crate::naming::call_text;
 use crate::quotients::ratio;
 use fixed_num::Milli;
 use series_set::{
-    Allowance, EvalFault, Grid, Series, SeriesSet, Size, check_pair, common_grid, on_grid,
+    Allowance, EvalFault, Grid, Reading, Series, SeriesSet, Size, check_pair, common_grid, on_grid,
 };
 use std::alloc::{AllocError, Global};
 
@@ -186,7 +186,7 @@ fn ratios_on(
     divisor: &Series,
     grid: &Grid,
     room: &Allowance,
-) -> Result<Vec<Option<Milli>>, AllocError>
+) -> Result<Vec<Reading>, AllocError>
     requires grid { IsGrid grid.now }
     requires early { grid.now.end ≤ latest_end }
     ensures { IfOk result (λ values. values.items
@@ -212,12 +212,13 @@ fn ratios(
     dividend: &Series,
     divisor: &Series,
     count: usize,
-) -> Result<Vec<Option<Milli>>, AllocError>
+) -> Result<Vec<Reading>, AllocError>
     ensures { IfOk result (λ values. values.items ≡ ratios dividend.now divisor.now count) }
 {
     let mut values = Vec::with_capacity(alloc, count)?;
     for place in 0..count {
-        values.push(ratio_of(value_at(dividend, place), value_at(divisor, place)))?;
+        let value = ratio_of(value_at(dividend, place), value_at(divisor, place));
+        values.push(Reading::of(value))?;
     }
     Ok(values)
 }
@@ -262,12 +263,12 @@ fn undivided(
 }
 
 // As many values, all missing.
-fn all_missing(alloc: Global, values: &[Option<Milli>]) -> Result<Vec<Option<Milli>>, AllocError>
+fn all_missing(alloc: Global, values: &[Reading]) -> Result<Vec<Reading>, AllocError>
     ensures { IfOk result (λ missing. missing.items ≡ map (λ _. None) values.now) }
 {
     let mut missing = Vec::with_capacity(alloc, values.len())?;
     for _value in values {
-        missing.push(None)?;
+        missing.push(Reading::missing())?;
     }
     Ok(missing)
 }

@@ -11,8 +11,8 @@ use crate::kinds::{Gather, Shape};
 use crate::looking_back::{add_up, delayed, differ, keep_last, rise, tell_changes};
 use crate::naming::{CallName, call_text};
 use crate::summary::summarized;
-use fixed_num::{Milli, wide};
-use series_set::{Allowance, EvalFault, Series, SeriesSet, Size};
+use fixed_num::wide;
+use series_set::{Allowance, EvalFault, Reading, Series, SeriesSet, Size};
 use std::alloc::{AllocError, Global};
 
 /// What the function makes of each series, under the name of the call. It owns the series, so that most functions change their values where
@@ -174,9 +174,9 @@ fn shaped_values(
     alloc: Global,
     kind: &Shape,
     step: u64,
-    mut values: Vec<Option<Milli>>,
+    mut values: Vec<Reading>,
     room: &Allowance,
-) -> Result<Vec<Option<Milli>>, AllocError>
+) -> Result<Vec<Reading>, AllocError>
     requires some { 1 ≤ step }
     requires few { length values.items ≤ most_values }
     ensures { IfOk result (λ shaped. shaped.items ≡ shaped_values kind.now step values.items) }

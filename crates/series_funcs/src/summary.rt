@@ -13,7 +13,7 @@ use crate::naming::{CallName, call_text};
 use fixed_num::Milli;
 use ring_format::Method;
 use rollup::roll;
-use series_set::{Allowance, EvalFault, Grid, Series, Size};
+use series_set::{Allowance, EvalFault, Grid, Reading, Series, Size};
 use std::alloc::{AllocError, Global};
 
 /// The series in buckets of so many seconds that begin at multiples of them: each has what its known values give. Room is taken for it.
@@ -73,7 +73,7 @@ fn summary_values(
     gather: Gather,
     series: &Series,
     grid: Grid,
-) -> Result<Vec<Option<Milli>>, AllocError>
+) -> Result<Vec<Reading>, AllocError>
     requires grid { IsGrid grid }
     requires early { grid.end ≤ latest_end }
     ensures { IfOk result (λ values. values.items
@@ -88,7 +88,7 @@ fn summary_values(
         limit += grid.step;
         let until = series.place_of(limit);
         put_run(series, from, until, &mut known)?;
-        values.push(gathered(gather, &known))?;
+        values.push(Reading::of(gathered(gather, &known)))?;
         from = until;
     }
     Ok(values)
@@ -110,12 +110,12 @@ fn put_run(
     put_known(&series.values()[from..until], gathered)
 }
 
-fn put_known(values: &[Option<Milli>], gathered: &mut Vec<Milli>) -> Result<(), AllocError>
+fn put_known(values: &[Reading], gathered: &mut Vec<Milli>) -> Result<(), AllocError>
     ensures { OnOk result (gathered.new.items ≡ known values.now) }
 {
     gathered.clear();
     for value in values {
-        let Some(value) = *value else { continue };
+        let Some(value) = value.get() else { continue };
         gathered.push(value)?;
     }
     Ok(())

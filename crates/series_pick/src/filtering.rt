@@ -50,5 +50,5 @@ pub(crate) fn with_known(set: SeriesSet) -> SeriesSet
 fn has_known(series: &Series) -> bool
     ensures { result ≡ has_known series.now }
 {
-    series.values().iter().any(|value| value.is_some())
+    series.values().iter().any(|value| value.is_known())
 }

@@ -7,7 +7,7 @@ ghost use Rattle.series_set.specs.Average.{known};
 ghost use Rattle.series_pick.specs.Measures.{measure_of, total};
 
 use fixed_num::{Milli, wide};
-use series_set::{Series, average_known};
+use series_set::{Reading, Series, average_known, flattened};
 
 /// What is measured of a series' known values.
 #[derive(Clone, Copy)]
@@ -56,32 +56,27 @@ pub(crate) fn measure_of(measure: Measure, series: &Series) -> Option<i128>
     }
 }
 
-fn greatest_known(values: &[Option<Milli>]) -> Option<Milli>
+fn greatest_known(values: &[Reading]) -> Option<Milli>
     ensures { result ≡ reduce int_max (known values.now) }
 {
-    values.iter().filter_map(|value| *value).max()
+    values.iter().filter_map(|value| value.get()).max()
 }
 
-fn least_known(values: &[Option<Milli>]) -> Option<Milli>
+fn least_known(values: &[Reading]) -> Option<Milli>
     ensures { result ≡ reduce int_min (known values.now) }
 {
-    values.iter().filter_map(|value| *value).min()
+    values.iter().filter_map(|value| value.get()).min()
 }
 
-fn last_known(values: &[Option<Milli>]) -> Option<Milli>
+fn last_known(values: &[Reading]) -> Option<Milli>
     ensures { result ≡ last_or None (known values.now) }
 {
-    values
-        .iter()
-        .rev()
-        .find(|value| value.is_some())
-        .copied()
-        .flatten()
+    flattened(values.iter().rev().find(|value| value.is_known()).copied())
 }
 
 // The exact sum of the known values.
 #[tactic(auto, unfolding(series_set::specs::Average::sum_of))]
-fn total_known(values: &[Option<Milli>]) -> Option<i128>
+fn total_known(values: &[Reading]) -> Option<i128>
     requires { length values.now ≤ most_values }
     ensures value { result ≡ total (known values.now) }
     ensures short { IfSome result (λ number. unsigned_abs number < 2 ^ 127) }
@@ -89,7 +84,7 @@ fn total_known(values: &[Option<Milli>]) -> Option<i128>
     let mut sum = 0;
     let mut count: u32 = 0;
     for value in values {
-        let Some(known) = *value else { continue };
+        let Some(known) = value.get() else { continue };
         sum += wide(known);
         count += 1;
     }

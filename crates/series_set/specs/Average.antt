@@ -1,5 +1,5 @@
 -- The average of known values.
-use Rattle.std.specs.Prelude.{ℕ, ℤ, pos, neg_ℤ, ◌*◌, ◌-◌, ◌^◌, ◌+ℤ◌, ◌≤ℤ◌, ◌==◌, List, length, Option, Some, None, if◌then◌else◌}
+use Rattle.std.specs.Prelude.{ℕ, ℤ, pos, neg_ℤ, ◌*◌, ◌^◌, ◌+ℤ◌, ◌≤ℤ◌, ◌==◌, List, length, Option, Some, None, if◌then◌else◌}
 use Rattle.std.specs.Int.{int_div_euclid}
 use Rattle.std.specs.List.{filter_map, fold}
 
@@ -11,10 +11,10 @@ known values = filter_map (λ value. value) values
 unfoldable pub sum_of : List ℤ → ℤ
 sum_of values = fold ◌+ℤ◌ (pos 0) values
 
--- where the sum of so many values of 64 bits lies
+-- where the sum of so many values lies
 pub record IsWithinSums (count : ℕ) (sum : ℤ) : Type 0 where
-  pub least : neg_ℤ (pos (2 ^ 63 * count)) ≤ℤ sum
-  pub greatest : sum ≤ℤ pos ((2 ^ 63 - 1) * count)
+  pub least : neg_ℤ (pos (10 ^ 30 * count)) ≤ℤ sum
+  pub greatest : sum ≤ℤ pos (10 ^ 30 * count)
 
 -- the sum over the number of values, rounded down: towards the lesser number; missing where there is no value
 unfoldable pub average : List ℤ → Option ℤ

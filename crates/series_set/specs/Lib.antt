@@ -1,4 +1,5 @@
 pub mod Series
+pub mod Readings
 pub mod Average
 pub mod CommonGrid
 pub mod OnGrid

@@ -8,6 +8,7 @@ ghost use Rattle.series_set.specs.OnGrid.{bucket_value, on_grid};
 
 use crate::averaging::average_known;
 use crate::grid::Grid;
+use crate::reading::{Reading, flattened};
 use crate::series::Series;
 use fixed_num::Milli;
 use std::alloc::{AllocError, Global};
@@ -34,11 +35,7 @@ pub fn on_grid(alloc: Global, series: &Series, grid: &Grid) -> Result<Series, Al
 }
 
 // The averages of a grid's buckets.
-fn bucket_values(
-    alloc: Global,
-    series: &Series,
-    grid: Grid,
-) -> Result<Vec<Option<Milli>>, AllocError>
+fn bucket_values(alloc: Global, series: &Series, grid: Grid) -> Result<Vec<Reading>, AllocError>
     requires grid { IsGrid grid }
     requires early { grid.end ≤ latest_end }
     ensures { IfOk result (λ values. values.items ≡
@@ -51,7 +48,7 @@ fn bucket_values(
     for _bucket in 0..count {
         limit += grid.step;
         let until = series.place_of(limit);
-        values.push(average_of_run(series, from, until))?;
+        values.push(Reading::of(average_of_run(series, from, until)))?;
         from = until;
     }
     Ok(values)
@@ -82,7 +79,7 @@ pub fn bucket_value(series: &Series, grid: &Grid, place: usize) -> Option<Milli>
 fn value_at(series: &Series, place: usize) -> Option<Milli>
     ensures { result ≡ slice_index_or series.now.values place None }
 {
-    series.values().get(place).copied().flatten()
+    flattened(series.values().get(place).copied())
 }
 
 // The average of the known values from a place on and before another.

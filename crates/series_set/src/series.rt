@@ -7,7 +7,7 @@ ghost use Rattle.series_set.specs.Sizes.{size_of};
 
 use crate::allowance::Size;
 use crate::grid::Grid;
-use fixed_num::Milli;
+use crate::reading::Reading;
 use std::alloc::AllocError;
 use std::marker::Model;
 
@@ -33,7 +33,7 @@ pub struct Series {
     path: String,
     start: u64,
     step: u64,
-    values: Vec<Option<Milli>>,
+    values: Vec<Reading>,
 }
 
 impl Model for Series {
@@ -67,7 +67,7 @@ impl Series {
         path: String,
         start: u64,
         step: u64,
-        values: Vec<Option<Milli>>,
+        values: Vec<Reading>,
     ) -> Option<Series>
         ensures { let series : SeriesValue = record {
           name = string_bytes name;
@@ -95,7 +95,7 @@ impl Series {
         path: String,
         start: u64,
         step: u64,
-        values: Vec<Option<Milli>>,
+        values: Vec<Reading>,
     ) -> Series
         requires { IsSeries (record {
           name = string_bytes name;
@@ -159,7 +159,7 @@ impl Series {
     }
 
     /// The values in order of time, in thousandths, `None` where one is missing.
-    pub fn values(&self) -> &[Option<Milli>]
+    pub fn values(&self) -> &[Reading]
         ensures value { result.now ≡ self.now.values }
         ensures legal { IsSeries self.now }
     {
@@ -205,7 +205,7 @@ impl Series {
     }
 
     /// Takes the values out; the series is left without any.
-    pub fn take_values(&mut self) -> Vec<Option<Milli>>
+    pub fn take_values(&mut self) -> Vec<Reading>
         ensures values { result.items ≡ self.old.values }
         ensures left { self.new ≡ record self.old { values = [] } }
         ensures legal { IsSeries self.old }
@@ -215,7 +215,7 @@ impl Series {
     }
 
     /// The series with other values.
-    pub fn with_values(self, values: Vec<Option<Milli>>) -> Series
+    pub fn with_values(self, values: Vec<Reading>) -> Series
         requires { IsSeries (record self { values = values.items }) }
         ensures { result ≡ record self { values = values.items } }
     {

@@ -6,8 +6,8 @@ ghost use Rattle.series_set.specs.Series.{end_of, latest_end, most_values};
 ghost use Rattle.series_set.specs.Thinned.{group_averages, grouped, thinned};
 
 use crate::averaging::average_known;
+use crate::reading::Reading;
 use crate::series::Series;
-use fixed_num::Milli;
 use std::alloc::{AllocError, Global};
 
 /// The series with at most so many values: groups of neighbouring values, from the first on and as small as that allows, each give the
@@ -47,9 +47,9 @@ fn grouped(alloc: Global, series: &Series, size: u64) -> Result<Series, AllocErr
 #[tactic(auto, unfolding(crate::specs::Thinned::group_averages))]
 fn group_averages(
     alloc: Global,
-    values: &[Option<Milli>],
+    values: &[Reading],
     size: usize,
-) -> Result<Vec<Option<Milli>>, AllocError>
+) -> Result<Vec<Reading>, AllocError>
     requires some { 1 ≤ size }
     requires few { length values.now ≤ most_values }
     ensures { IfOk result (λ averages. averages.items ≡ group_averages size values.now) }
@@ -57,13 +57,13 @@ fn group_averages(
     let count = values.len().div_ceil(size);
     let mut averages = Vec::with_capacity(alloc, count)?;
     for n in 0..count {
-        averages.push(average_known(group(values, size, n)))?;
+        averages.push(Reading::of(average_known(group(values, size, n))))?;
     }
     Ok(averages)
 }
 
 // The group at a place, from 0 on.
-fn group(values: &[Option<Milli>], size: usize, n: usize) -> &[Option<Milli>]
+fn group(values: &[Reading], size: usize, n: usize) -> &[Reading]
     requires some { 1 ≤ size }
     requires few { length values.now ≤ most_values }
     requires within { n < div_ceil (length values.now) size }

@@ -1,6 +1,6 @@
 -- A drain begins: its metric leaves the pending ones, and is kept as it is after the drain.
 use Rattle.std.proofs.Common.{◌≡◌, inl, inr, ◌∙◌, ℕ, suc, ℤ, ◌+◌, ◌<◌, ◌==◌, All, Bool, true, false, List, length, Option, Some, None, IfSome, IsSomeAnd, refl, sym, ap, subst, arith, option_map, if◌then◌else◌}
-use Rattle.std.specs.Prelude.{not}
+use Rattle.std.specs.Prelude.{◌&&◌, is_some, not, unwrap_or}
 use Rattle.std.specs.Option.{option_map_or}
 use Rattle.std.specs.Map.{remove_entry}
 use Rattle.std.specs.Str.{bytes_eq}
@@ -14,10 +14,10 @@ use Rattle.metric_path.specs.Path.{path_fault}
 use Rattle.ring_format.specs.Layout.{LayoutValue, layout_fault}
 use Rattle.ring_format.specs.Patch.{PatchValue}
 use Rattle.ring_archive.specs.Ring.{IsRingFile, UnderPatch}
-use Rattle.archive_update.specs.Batch.{archive_for}
+use Rattle.archive_update.specs.Batch.{HaveNoHome}
 use Rattle.metric_index.specs.Index.{Sets, entry_of}
 use Rattle.metric_table.specs.declared.known.Known.{Known}
-use Rattle.metric_table.specs.Table.{drained as once_more}
+use Rattle.metric_table.specs.Table.{drained as once_more, kept_version}
 use Rattle.point_cache.specs.Pending.{Cache, points_of}
 use Rattle.drain_order.specs.Pick.{pick, queue_after}
 use Rattle.drain_order.specs.Picking.{Picking}
@@ -25,57 +25,54 @@ use Rattle.write_shelf.specs.Runs.{runs_of}
 use Rattle.write_shelf.specs.Shelf.{DrainValue, drain_with}
 use Rattle.ring_writer.specs.PartWritten.{Awaits}
 use Rattle.ring_writer.proofs.NextLemmas.{new_awaits, ring_awaits}
-use Rattle.carbon_model.specs.State.{Kept, Metrics, State, layout_or, points_in}
+use Rattle.carbon_model.specs.State.{Kept, Metrics, State, form_of, layout_or, points_in}
 use Rattle.carbon_model.specs.RingFiles.{IsOfClass, StandsUnder, is_patched}
 use Rattle.carbon_model.specs.Replay.{with_drained}
 use Rattle.shard_core.specs.Plans.{Begins, Drains, MakesBatch, NeedsNoWrite, PlansFor}
 use Rattle.shard_core.specs.Shard.{HasFiles, Holds, HoldsKept, HoldsShelf, Inside, IsLawfulRing, IsOfKept, IsUnderWay, KeepsLayouts, patch_on}
-use Rattle.shard_core.specs.Table.{IsEntry, Lists, Table, drains_in, kept_layout, layout_kept}
+use Rattle.shard_core.specs.Table.{IsEntry, Lists, Table, drains_in, kept_form, form_kept}
 use Rattle.shard_core.proofs.FileLemmas.{same_text}
+use Rattle.shard_core.proofs.KeptLemmas.{file_at, kept_as, no_layout, none_is, two_where_old, version_by}
 use Rattle.shard_core.proofs.PendingLemmas.{fewer_without}
 use Rattle.shard_core.proofs.PlanLemmas.{LaysNothing, PlansOver, itself, on_shelf, plan_stands, read_before, whole_held}
 
 -- ---- the file of the metric
 
-pub kept_as : (known : Known) → known.is_kept ≡ true → layout_kept (Some known) ≡ Some known.layout
-kept_as known kept = rw kept refl
+old_where_two : (known : Known) → kept_version known ≡ Some 2 → not (known.is_kept && not known.is_old) ≡ false
+old_where_two known two = by known.is_kept known.is_old two
+  where
+    by : (kept older : Bool) → version_by kept older ≡ Some 2 → not (kept && not older) ≡ false
+    by true true e = let same : 1 ≡ 2 = ap (λ (o : Option ℕ). unwrap_or o 1) e in absurd (omega (arith, same))
+    by true false e = refl
+    by false older e = absurd (none-some 2 e)
 
-pub kept_none : (known : Known) → known.is_kept ≡ false → layout_kept (Some known) ≡ None
-kept_none known none = rw none refl
+fresh_where_none : (known : Known) (fresh : Bool) → fresh ≡ not (known.is_kept && not known.is_old) → kept_version known ≡ None → fresh ≡ true
+fresh_where_none known fresh is none = is ∙ rw (none_is known none) refl
 
--- a kept metric that no patch is of has its ring file
-pub file_at : (class : ℕ) (table : Table) (patch : Option PatchValue) (image : Option Image) (path : List ℕ) (known : Known) → IsOfClass class path → is_patched patch path ≡ false → entry_of table path ≡ Some known
-    → HasFiles class table patch image → known.is_kept ≡ true → IfSome image (λ i. IsSomeAnd (i (file_name_of path)) (IsLawfulRing known.layout))
-file_at class table patch None path known one apart there files kept = tt
-file_at class table patch (Some image) path known one apart there files kept =
-    subst (λ (o : Option LayoutValue). IfSome o (λ layout. IsSomeAnd (image (file_name_of path)) (IsLawfulRing layout))) (ap layout_kept there ∙ kept_as known kept) (files path one.legal one.here apart)
-
-kept_where_old : (b fresh : Bool) → fresh ≡ not b → fresh ≡ false → b ≡ true
-kept_where_old true fresh is old = refl
-kept_where_old false fresh is old = absurd (true≢false (sym is ∙ old))
+some_where_kept : (known : Known) → is_some (kept_version known) ≡ known.is_kept
+some_where_kept known = by known.is_kept
+  where
+    by : (b : Bool) → is_some (version_by b known.is_old) ≡ b
+    by true = refl
+    by false = refl
 
 -- ---- what is kept
 
-pub no_layout : (kept : Option Kept) → None ≡ option_map (λ (k : Kept). k.layout) kept → kept ≡ None
-no_layout None e = refl
-no_layout (Some k) e = absurd (none-some k.layout e)
-
-before_by : (b : Bool) (known : Known) (given : LayoutValue) (kept : Option Kept) (layout : LayoutValue) → known.is_kept ≡ b → layout ≡ known.layout → layout_kept (Some known) ≡ option_map (λ k. k.layout) kept
-    → (known.is_kept ≡ false → known.layout ≡ given) → read_before (not b) given kept layout
-before_by true known given kept layout is l index rules = sym index ∙ kept_as known is ∙ ap (λ (m : LayoutValue). Some m) (sym l)
-before_by false known given kept layout is l index rules = (no_layout kept (sym (kept_none known is) ∙ index), l ∙ rules is)
+before_by : (version : Option ℕ) (known : Known) (given : LayoutValue) (kept : Option Kept) (layout : LayoutValue) → kept_version known ≡ version → layout ≡ known.layout
+    → form_kept (Some known) ≡ option_map form_of kept → (known.is_kept ≡ false → known.layout ≡ given) → read_before version given kept layout
+before_by None known given kept layout is l index rules = (no_layout kept (sym (kept_as known None is) ∙ index), l ∙ rules (none_is known is))
+before_by (Some version) known given kept layout is l index rules = sym index ∙ kept_as known (Some version) is ∙ ap (λ (m : LayoutValue). Some (version, m)) (sym l)
 
 -- what was kept of the metric, by what is known of it
-pub was_before : (known : Known) (patch : PatchValue) (given : LayoutValue) (kept : Option Kept) → patch.fresh ≡ not known.is_kept → patch.layout ≡ known.layout
-    → layout_kept (Some known) ≡ option_map (λ k. k.layout) kept → (known.is_kept ≡ false → known.layout ≡ given) → read_before patch.fresh given kept patch.layout
-was_before known patch given kept fresh l index rules =
-    subst (λ (b : Bool). read_before b given kept patch.layout) (sym fresh) (before_by known.is_kept known given kept patch.layout refl l index rules)
+pub was_before : (known : Known) (patch : PatchValue) (given : LayoutValue) (kept : Option Kept) → patch.layout ≡ known.layout
+    → form_kept (Some known) ≡ option_map form_of kept → (known.is_kept ≡ false → known.layout ≡ given) → read_before (kept_version known) given kept patch.layout
+was_before known patch given kept l index rules = before_by (kept_version known) known given kept patch.layout refl l index rules
 
-layout_known : (fresh : Bool) (given : LayoutValue) (kept : Option Kept) (layout : LayoutValue) → read_before fresh given kept layout → layout ≡ layout_or given kept
-layout_known true given None layout known = known.1
-layout_known true given (Some k) layout known = absurd (none-some k (sym known.0))
-layout_known false given None layout known = absurd (none-some layout known)
-layout_known false given (Some k) layout known = sym (ap (λ (o : Option LayoutValue). option_map_or (λ m. m) o layout) known)
+layout_known : (version : Option ℕ) (given : LayoutValue) (kept : Option Kept) (layout : LayoutValue) → read_before version given kept layout → layout ≡ layout_or given kept
+layout_known None given None layout known = known.1
+layout_known None given (Some k) layout known = absurd (none-some k (sym known.0))
+layout_known (Some version) given None layout known = absurd (none-some (version, layout) known)
+layout_known (Some version) given (Some k) layout known = sym (ap (λ (o : Option (ℕ × LayoutValue)). option_map_or (λ form. form.1) o layout) known)
 
 pub plan_holds : (told known_image : Option Image) (class : ℕ) (table table' : Table) (shelf : Option DrainValue) (kept : List ℕ → Option Kept) (path : List ℕ) (given : LayoutValue) (known : Known) (patch : PatchValue) (now : ℕ) (points : List (ℕ × ℤ))
     → IsOfClass class path → entry_of table path ≡ Some known → Sets table table' path (Some (once_more known)) → PlansFor known known_image path points now patch → (known.is_kept ≡ false → known.layout ≡ given)
@@ -83,28 +80,29 @@ pub plan_holds : (told known_image : Option Image) (class : ℕ) (table table' :
     → HoldsKept told class table None known_image kept → HoldsKept told class table' (patch_on shelf) known_image (with_drained kept path given now points)
 plan_holds told known_image class table table' shelf kept path given known patch now points one there sets plans rules files put holds = record {
   layouts = λ p of_class. elim (same_text p path) [
-    | inl same ↦ subst (λ (q : List ℕ). kept_layout table' q ≡ option_map (λ k. k.layout) (with_drained kept path given now points q)) (sym same.1)
-        (ap layout_kept sets.here ∙ ap (λ (m : LayoutValue). Some m) (sym plans.layout ∙ layout_known patch.fresh given (kept path) patch.layout before) ∙ sym drained_layout)
-    | inr other ↦ rw other.0 (ap layout_kept (sets.others p other.1) ∙ holds.layouts p of_class)
+    | inl same ↦ subst (λ (q : List ℕ). kept_form table' q ≡ option_map form_of (with_drained kept path given now points q)) (sym same.1)
+        (ap form_kept sets.here ∙ ap (λ (m : LayoutValue). Some (2, m)) (sym plans.layout ∙ layout_known (kept_version known) given (kept path) patch.layout before) ∙ sym drained_layout)
+    | inr other ↦ rw other.0 (ap form_kept (sets.others p other.1) ∙ holds.layouts p of_class)
   ];
   files = by told known_image plans.batch files holds.files;
 }
   where
-    before : read_before patch.fresh given (kept path) patch.layout
-    before = was_before known patch given (kept path) plans.fresh plans.layout (sym (ap layout_kept there) ∙ holds.layouts path one) rules
+    before : read_before (kept_version known) given (kept path) patch.layout
+    before = was_before known patch given (kept path) plans.layout (sym (ap form_kept there) ∙ holds.layouts path one) rules
 
-    drained_layout : option_map (λ k. k.layout) (with_drained kept path given now points path) ≡ Some (layout_or given (kept path))
+    drained_layout : option_map form_of (with_drained kept path given now points path) ≡ Some (2, layout_or given (kept path))
     drained_layout = rw (itself path) refl
 
-    by : (t k : Option Image) → UnderPatch patch.fresh k (file_name_of path) (PlansOver patch.fresh patch path now points) → HasFiles class table None k
+    by : (t k : Option Image) → UnderPatch (not known.is_kept) k (file_name_of path) (PlansOver (not known.is_kept) patch path now points) → HasFiles class table None k
         → WhereKnown t k (λ opening image. StandsUnder opening image None kept class) → WhereKnown t k (λ opening image. StandsUnder opening image (patch_on shelf) (with_drained kept path given now points) class)
     by None None under fs stands = tt
     by None (Some image) under fs stands = absurd stands
     by (Some opening) None under fs stands = absurd stands
     by (Some opening) (Some image) under fs stands =
-        plan_stands opening image shelf kept class path given patch now points one plans.own put before
-        (λ old. subst (λ (m : LayoutValue). IsSomeAnd (image (file_name_of path)) (IsLawfulRing m)) (sym plans.layout)
-        (file_at class table None (Some image) path known one refl there fs (kept_where_old known.is_kept patch.fresh plans.fresh old))) under stands
+        plan_stands opening image shelf kept class path (kept_version known) given patch now points one plans.own put (fresh_where_none known patch.fresh plans.fresh) before
+        (λ old. subst (λ (m : LayoutValue). IsSomeAnd (image (file_name_of path)) (IsLawfulRing 2 m)) (sym plans.layout)
+        (file_at class table None (Some image) path known 2 one refl there fs (two_where_old known patch.fresh plans.fresh old)))
+        (subst (λ (b : Bool). UnderPatch (not b) (Some image) (file_name_of path) (PlansOver (not b) patch path now points)) (sym (some_where_kept known)) under) stands
 
 -- ---- the whole shard
 
@@ -154,22 +152,28 @@ drains_picked old cache picker table shelf path now patch empty one leaves makes
 
 -- ---- whether there is something to write
 
-needs_by : (b : Bool) (known : Known) (P : LayoutValue → Type 0) → known.is_kept ≡ b → IsSomeAnd (layout_kept (Some known)) P → (b ≡ true) × P known.layout
-needs_by true known P is some = (refl, subst (λ (o : Option LayoutValue). IsSomeAnd o P) (kept_as known is) some)
-needs_by false known P is some = absurd (subst (λ (o : Option LayoutValue). IsSomeAnd o P) (kept_none known is) some)
+-- no cell is to be written into a file of this version and layout
+abbrev NoHomeIn : Inside → List ℕ → ℕ → ℕ × LayoutValue → Type 0
+NoHomeIn shard path now form = (form.0 ≡ 2) × HaveNoHome form.1.archives now (points_of shard.cache.metrics path)
+
+needs_by : (version : Option ℕ) (layout : LayoutValue) (P : ℕ × LayoutValue → Type 0) → IsSomeAnd (option_map (λ v. (v, layout)) version) P → (v : ℕ) × ((version ≡ Some v) × P (v, layout))
+needs_by None layout P some = absurd some
+needs_by (Some v) layout P some = (v, (refl, some))
 
 pub needs_none : (shard : Inside) (path : List ℕ) (now : ℕ) (patch : PatchValue) → MakesBatch shard path now patch → LaysNothing patch → NeedsNoWrite shard path now
 needs_none shard path now patch makes none =
-    let kept = kept_where_old makes.known.is_kept patch.fresh makes.plans.fresh none.0 in
-    subst (λ (o : Option LayoutValue). IsSomeAnd o (λ layout. All (λ p. archive_for layout.archives now p.0 ≡ None) (points_of shard.cache.metrics path))) (sym (ap layout_kept makes.there ∙ kept_as makes.known kept))
-    (subst (λ (m : LayoutValue). All (λ p. archive_for m.archives now p.0 ≡ None) (points_of shard.cache.metrics path)) makes.plans.layout (makes.plans.cells.0 none.1))
+    let two = two_where_old makes.known patch.fresh makes.plans.fresh none.0 in
+    subst (λ (o : Option (ℕ × LayoutValue)). IsSomeAnd o (NoHomeIn shard path now)) (sym (ap form_kept makes.there ∙ kept_as makes.known (Some 2) two))
+    (refl, subst (λ (m : LayoutValue). HaveNoHome m.archives now (points_of shard.cache.metrics path)) makes.plans.layout ((makes.plans.cells none.0).0 none.1))
 
 pub none_needed : (shard : Inside) (path : List ℕ) (now : ℕ) (patch : PatchValue) → MakesBatch shard path now patch → NeedsNoWrite shard path now → LaysNothing patch
 none_needed shard path now patch makes needs =
-    let some = needs_by makes.known.is_kept makes.known (λ layout. All (λ p. archive_for layout.archives now p.0 ≡ None) (points_of shard.cache.metrics path)) refl
-    (subst (λ (o : Option Known). IsSomeAnd (layout_kept o) (λ layout. All (λ p. archive_for layout.archives now p.0 ≡ None) (points_of shard.cache.metrics path))) makes.there needs) in (
-      makes.plans.fresh ∙ ap not some.0,
-      makes.plans.cells.1 (subst (λ (m : LayoutValue). All (λ p. archive_for m.archives now p.0 ≡ None) (points_of shard.cache.metrics path)) (sym makes.plans.layout) some.1),
+    let some = needs_by (kept_version makes.known) makes.known.layout (NoHomeIn shard path now)
+    (subst (λ (o : Option Known). IsSomeAnd (form_kept o) (NoHomeIn shard path now)) makes.there needs) in
+    let two : kept_version makes.known ≡ Some 2 = some.1.0 ∙ ap (λ (v : ℕ). Some v) some.1.1.0 in
+    let old : patch.fresh ≡ false = makes.plans.fresh ∙ old_where_two makes.known two in (
+      old,
+      (makes.plans.cells old).1 (subst (λ (m : LayoutValue). HaveNoHome m.archives now (points_of shard.cache.metrics path)) (sym makes.plans.layout) some.1.1.1),
     )
 
 pub begins : (old : Inside) (cache : Cache) (picker : Picking) (table : Table) (shelf : Option DrainValue) (path : List ℕ) (now : ℕ) (patch : PatchValue) → old.shelf ≡ None → IsOfClass old.class path → Leaves old cache picker path
@@ -194,18 +198,18 @@ begins old cache picker table shelf path now patch empty one leaves makes sets p
 -- ---- what the shard holds then
 
 pub files_begun : (class : ℕ) (table table' : Table) (path : List ℕ) (known : Known) (shelf : Option DrainValue) (patch : PatchValue) (image : Option Image) → IsOfClass class path → entry_of table path ≡ Some known
-    → Sets table table' path (Some (once_more known)) → patch.path ≡ path → patch.layout ≡ known.layout → patch.fresh ≡ not known.is_kept → shelf ≡ drain_with patch (runs_of patch)
+    → Sets table table' path (Some (once_more known)) → patch.path ≡ path → patch.layout ≡ known.layout → patch.fresh ≡ not (known.is_kept && not known.is_old) → shelf ≡ drain_with patch (runs_of patch)
     → HasFiles class table None image → HasFiles class table' (patch_on shelf) image
 files_begun class table table' path known shelf patch None one there sets its l fresh put files = tt
 files_begun class table table' path known shelf patch (Some image) one there sets its l fresh put files = λ p legal here apart. elim (same_text p path) [
   | inl same ↦ elim (on_shelf patch) [
     | inl none ↦
-        let kept = kept_where_old known.is_kept patch.fresh fresh none.1.0 in
-        subst (λ (q : List ℕ). IfSome (kept_layout table' q) (λ layout. IsSomeAnd (image (file_name_of q)) (IsLawfulRing layout))) (sym same.1)
-        (rw sets.here (file_at class table None (Some image) path known one refl there files kept))
+        let two = two_where_old known patch.fresh fresh none.1.0 in
+        subst (λ (q : List ℕ). IfSome (kept_form table' q) (λ form. IsSomeAnd (image (file_name_of q)) (IsLawfulRing form.0 form.1))) (sym same.1)
+        (rw sets.here (file_at class table None (Some image) path known 2 one refl there files two))
     | inr some ↦ absurd (true≢false (sym (subst (λ (o : Option DrainValue). is_patched (patch_on o) p ≡ true) (sym (put ∙ some.0)) (ap (λ (q : List ℕ). bytes_eq q p) (its ∙ sym same.1) ∙ itself p)) ∙ apart))
   ]
-  | inr other ↦ subst (λ (o : Option Known). IfSome (layout_kept o) (λ layout. IsSomeAnd (image (file_name_of p)) (IsLawfulRing layout))) (sym (sets.others p other.1)) (files p legal here refl)
+  | inr other ↦ subst (λ (o : Option Known). IfSome (form_kept o) (λ form. IsSomeAnd (image (file_name_of p)) (IsLawfulRing form.0 form.1))) (sym (sets.others p other.1)) (files p legal here refl)
 ]
 
 begun_far : (patch : PatchValue) (held : Option (List ℕ)) → (patch.fresh ≡ false → IsSomeAnd held (IsRingFile patch.layout)) → Awaits patch (runs_of patch) held
@@ -216,7 +220,7 @@ begun_far patch held ring = by patch.fresh refl
     by false old = ring_awaits patch held old (ring old)
 
 pub shelf_begun : (class : ℕ) (table table' : Table) (path : List ℕ) (known : Known) (shelf : Option DrainValue) (patch : PatchValue) (image : Option Image) → IsOfClass class path → entry_of table path ≡ Some known
-    → Sets table table' path (Some (once_more known)) → patch.path ≡ path → patch.layout ≡ known.layout → patch.fresh ≡ not known.is_kept → shelf ≡ drain_with patch (runs_of patch)
+    → Sets table table' path (Some (once_more known)) → patch.path ≡ path → patch.layout ≡ known.layout → patch.fresh ≡ not (known.is_kept && not known.is_old) → shelf ≡ drain_with patch (runs_of patch)
     → (IsOfKept class table' patch) → HasFiles class table None image → HoldsShelf class table' shelf image
 shelf_begun class table table' path known shelf patch image one there sets its l fresh put of_kept files = elim (on_shelf patch) [
   | inl none ↦ rw (put, none.0) tt
@@ -225,10 +229,9 @@ shelf_begun class table table' path known shelf patch image one there sets its l
   where
     ring : (i : Image) → HasFiles class table None (Some i) → patch.fresh ≡ false → IsSomeAnd (i (file_name_of patch.path)) (IsRingFile patch.layout)
     ring i fs old =
-        let kept = kept_where_old known.is_kept patch.fresh fresh old in
-        let here = file_at class table None (Some i) path known one refl there fs kept in
+        let here = file_at class table None (Some i) path known 2 one refl there fs (two_where_old known patch.fresh fresh old) in
         subst (λ (q : List ℕ). IsSomeAnd (i (file_name_of q)) (IsRingFile patch.layout)) (sym its)
-        (whole_held (i (file_name_of path)) patch.layout (subst (λ (m : LayoutValue). IsSomeAnd (i (file_name_of path)) (IsLawfulRing m)) (sym l) here))
+        (whole_held (i (file_name_of path)) patch.layout (subst (λ (m : LayoutValue). IsSomeAnd (i (file_name_of path)) (IsLawfulRing 2 m)) (sym l) here))
 
     by : (k : Option Image) → HasFiles class table None k → IfSome k (λ i. IsUnderWay (record { patch = patch; left = runs_of patch }) (i (file_name_of patch.path)))
     by None fs = tt
@@ -257,7 +260,7 @@ pub kept_begun : (class : ℕ) (table table' : Table) (path : List ℕ) (known :
 kept_begun class table table' path known patch one sets its l lawful = record {
   legal = subst (λ (p : List ℕ). path_fault p ≡ None) (sym its) one.legal;
   here = subst (λ (p : List ℕ). class_of p ≡ class) (sym its) one.here;
-  kept = ap (kept_layout table') its ∙ ap layout_kept sets.here ∙ ap (λ (m : LayoutValue). Some m) (sym l);
+  kept = ap (kept_form table') its ∙ ap form_kept sets.here ∙ ap (λ (m : LayoutValue). Some (2, m)) (sym l);
   lawful = subst (λ (m : LayoutValue). layout_fault m.archives m.factor ≡ None) (sym l) lawful;
 }
 

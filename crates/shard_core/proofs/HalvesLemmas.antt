@@ -1,13 +1,14 @@
 -- The halves of a shard through puts, plans and writes.
-use Rattle.std.proofs.Common.{◌≡◌, ◌∙◌, ℕ, ℤ, All, true, List, Option, Some, None, refl, sym, subst}
+use Rattle.std.proofs.Common.{◌≡◌, ◌∙◌, ℕ, ℤ, All, true, List, Option, Some, None, IfSome, refl, sym, subst}
 use Rattle.metric_path.specs.FileName.{file_name_of}
 use Rattle.fixed_num.specs.Moment.{is_moment}
 use Rattle.metric_index.specs.Index.{entry_of}
+use Rattle.metric_table.specs.Table.{kept_version}
 use Rattle.metric_table.specs.declared.known.Known.{Known}
 use Rattle.point_cache.specs.Points.{IsRising}
 use Rattle.point_cache.specs.Pending.{points_of}
 use Rattle.drain_order.specs.Picking.{Picking}
-use Rattle.ring_archive.specs.Ring.{IsRingFile}
+use Rattle.ring_archive.specs.Ring.{IsRingFileIn, OnFile}
 use Rattle.ring_archive.proofs.UnderLemmas.{on_file_map}
 use Rattle.write_shelf.specs.Shelf.{DrainValue}
 use Rattle.carbon_model.specs.RingFiles.{IsOfClass}
@@ -15,7 +16,8 @@ use Rattle.shard_core.specs.Halves.{AreHalves, DeskInside, FilesInside, both}
 use Rattle.shard_core.specs.Plans.{Begins, MayPlan, OnlyPicks}
 use Rattle.shard_core.specs.Puts.{OnlyTakes}
 use Rattle.shard_core.specs.Shard.{AreOfClass, HasFiles, HoldsShelf, IsLawfulRing, patch_on}
-use Rattle.shard_core.proofs.BeginLemmas.{begins_from, file_at}
+use Rattle.shard_core.proofs.BeginLemmas.{begins_from}
+use Rattle.shard_core.proofs.KeptLemmas.{file_at}
 use Rattle.shard_core.proofs.PendingLemmas.{points_have_moments}
 use Rattle.shard_core.proofs.PutLemmas.{files_same, shelf_same}
 use Rattle.shard_core.proofs.WriteLemmas.{Written}
@@ -53,8 +55,14 @@ may_plan desk files path known points halves empty one own there rising is =
     let rings : HasFiles desk.class desk.table None files.known = subst (λ (shelf : Option DrainValue). HasFiles desk.class desk.table (patch_on shelf) files.known) empty halves.rings in record {
       rising = rising;
       moments = subst (λ (ps : List (ℕ × ℤ)). All (λ p. is_moment p.0 ≡ true) ps) (sym is) (points_have_moments desk.class desk.cache.metrics path own);
-      file = λ kept. on_file_map files.known (file_name_of path) (IsLawfulRing known.layout) (IsRingFile known.layout) (file_at desk.class desk.table None files.known path known one refl there rings kept) (λ file is. is.1);
+      file = by rings (kept_version known) refl;
     }
+  where
+    by : HasFiles desk.class desk.table None files.known → (kept : Option ℕ) → kept_version known ≡ kept → IfSome kept (λ version. OnFile files.known (file_name_of path) (IsRingFileIn version known.layout))
+    by rings None e = tt
+    by rings (Some version) e =
+        on_file_map files.known (file_name_of path) (IsLawfulRing version known.layout) (IsRingFileIn version known.layout)
+        (file_at desk.class desk.table None files.known path known version one refl there rings e) (λ file is. is.1)
 
 -- ---- writes
 

@@ -16,7 +16,7 @@ use Rattle.point_cache.specs.declared.put.Put.TheVariants as put
 use Rattle.carbon_history.specs.declared.entry.Entry.{Entry}
 use Rattle.carbon_model.specs.Replay.{IsLegalHistory, after, replay}
 use Rattle.carbon_model.specs.RingFiles.{IsOfClass, Opens, SameKept, Settings, StandsUnder, kept_at, kept_on, kept_under, of_legal}
-use Rattle.carbon_model.specs.State.{Kept, State}
+use Rattle.carbon_model.specs.State.{Kept, State, form_of}
 use Rattle.shard_core.specs.Opened.{IsOpened, Opens as OpensTable}
 use Rattle.shard_core.specs.Plans.{PlansTo}
 use Rattle.shard_core.specs.Puts.{TakesPoint}
@@ -60,7 +60,7 @@ opens_kept class (Some image) table kept opens shown laid =
     let same : (path : List ℕ) → IsOfClass class path → opens.kept path ≡ kept path =
     λ path one. opens.shown path one ∙ sym (legal_kept image path one.legal) ∙ sym (shown path one.here) in
     record {
-      layouts = λ path one. opens.holds.layouts path one ∙ ap (option_map (λ (k : Kept). k.layout)) (same path one);
+      layouts = λ path one. opens.holds.layouts path one ∙ ap (option_map form_of) (same path one);
       files = stands_as image image class opens.kept kept same opens.holds.files;
     }
 

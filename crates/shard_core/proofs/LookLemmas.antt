@@ -26,14 +26,14 @@ use Rattle.series_fetch.specs.Window.{window}
 use Rattle.series_fetch.specs.declared.range.Window.{Window}
 use Rattle.series_fetch.specs.declared.range.Window.TheVariants.{Empty, Range}
 use Rattle.carbon_model.specs.Found.{Finds, IsKnown}
-use Rattle.carbon_model.specs.State.{Kept, State, layout_of, layout_or, points_in}
+use Rattle.carbon_model.specs.State.{Kept, State, form_of, layout_of, layout_or, points_in}
 use Rattle.carbon_model.specs.RingFiles.{IsOfClass}
 use Rattle.shard_core.specs.Looks.{FindsFor, IsFoundAs, IsFoundIn, IsKnownTo, IsReadableLook, IsSoundLook, Looks, LooksAtFound, MayRead, NamesOf, TellsOf, looked_as, looked_if, looked_in, looked_paths}
 use Rattle.shard_core.specs.Shard.{AreOfClass, Holds, Inside, KnowsAs}
-use Rattle.shard_core.specs.Table.{IsEntry, Lists, Table, layout_kept}
+use Rattle.shard_core.specs.Table.{IsEntry, Lists, Table, form_kept}
 use Rattle.shard_core.specs.declared.looked.Looked.{Looked}
 use Rattle.shard_core.proofs.FileLemmas.{same_text}
-use Rattle.shard_core.proofs.KeptLemmas.{kept_as, kept_none}
+use Rattle.shard_core.proofs.KeptLemmas.{kept_as, version_none, version_some}
 use Rattle.shard_core.proofs.PendingLemmas.{points_have_moments}
 
 -- ---- the metrics of the state are those of the table
@@ -41,9 +41,9 @@ use Rattle.shard_core.proofs.PendingLemmas.{points_have_moments}
 pub points_here : (told : Option Image) (shard : Inside) (s : State) (path : List ℕ) → class_of path ≡ shard.class → Holds told shard s → points_in s path ≡ points_of shard.cache.metrics path
 points_here told shard s path one holds = ap (λ (ms : Metrics). points_of ms path) (ap s.pending one ∙ sym holds.pending)
 
-kept_some : (o : Option Known) (kept : Option Kept) → layout_kept o ≡ option_map (λ k. k.layout) kept → IsSome kept → IsSome o
+kept_some : (o : Option Known) (kept : Option Kept) → form_kept o ≡ option_map form_of kept → IsSome kept → IsSome o
 kept_some None None index some = some
-kept_some None (Some k) index some = absurd (none-some k.layout index)
+kept_some None (Some k) index some = absurd (none-some (form_of k) index)
 kept_some (Some known) kept index some = refl
 
 pub state_listed : (told : Option Image) (shard : Inside) (s : State) (path : List ℕ) → IsOfClass shard.class path → Lists shard.class shard.rules shard.cache.metrics shard.table → Holds told shard s → IsKnown s path
@@ -51,29 +51,30 @@ pub state_listed : (told : Option Image) (shard : Inside) (s : State) (path : Li
 state_listed told shard s path one lists holds (inl some) = lists.pending path (subst (λ (ps : List (ℕ × ℤ)). ps ≢ []) (points_here told shard s path one.here holds) some)
 state_listed told shard s path one lists holds (inr kept) = kept_some (entry_of shard.table path) (s.kept path) (holds.kept.layouts path one) kept
 
-some_kept : (known : Known) (kept : Option Kept) → known.is_kept ≡ true → layout_kept (Some known) ≡ option_map (λ k. k.layout) kept → IsSome kept
-some_kept known None is index = absurd (none-some known.layout (sym index ∙ rw is refl))
+some_kept : (known : Known) (kept : Option Kept) → known.is_kept ≡ true → form_kept (Some known) ≡ option_map form_of kept → IsSome kept
+some_kept known None is index = absurd (none-some (if known.is_old then 1 else 2, known.layout) (sym index ∙ kept_as known (Some (if known.is_old then 1 else 2)) (version_some known is)))
 some_kept known (Some k) is index = refl
 
 known_by : (b : Bool) (told : Option Image) (shard : Inside) (s : State) (path : List ℕ) (known : Known) → known.is_kept ≡ b → entry_of shard.table path ≡ Some known → IsOfClass shard.class path
     → IsEntry shard.class shard.rules shard.cache.metrics path known → Holds told shard s → IsKnown s path
-known_by true told shard s path known is there one entry holds = inr (some_kept known (s.kept path) is (sym (ap layout_kept there) ∙ holds.kept.layouts path one))
+known_by true told shard s path known is there one entry holds = inr (some_kept known (s.kept path) is (sym (ap form_kept there) ∙ holds.kept.layouts path one))
 known_by false told shard s path known is there one entry holds = inl (subst (λ (ps : List (ℕ × ℤ)). ps ≢ []) (sym (points_here told shard s path one.here holds)) (entry.pending is))
 
 pub entry_at : (shard : Inside) (path : List ℕ) (known : Known) → entry_of shard.table path ≡ Some known → Lists shard.class shard.rules shard.cache.metrics shard.table → IsEntry shard.class shard.rules shard.cache.metrics path known
 entry_at shard path known there lists = subst (λ (o : Option Known). IfSome o (IsEntry shard.class shard.rules shard.cache.metrics path)) there (lists.entries path)
 
-layout_by_kept : (b : Bool) (known : Known) (given : LayoutValue) (kept : Option Kept) → known.is_kept ≡ b → layout_kept (Some known) ≡ option_map (λ k. k.layout) kept → (known.is_kept ≡ false → known.layout ≡ given) → known.layout ≡ layout_or given kept
-layout_by_kept true known given None is index rules = absurd (none-some known.layout (sym index ∙ rw is refl))
-layout_by_kept true known given (Some k) is index rules = ap (λ (o : Option LayoutValue). option_map_or (λ m. m) o known.layout) (sym (kept_as known is) ∙ index)
+layout_by_kept : (b : Bool) (known : Known) (given : LayoutValue) (kept : Option Kept) → known.is_kept ≡ b → form_kept (Some known) ≡ option_map form_of kept → (known.is_kept ≡ false → known.layout ≡ given) → known.layout ≡ layout_or given kept
+layout_by_kept true known given None is index rules = absurd (none-some (if known.is_old then 1 else 2, known.layout) (sym index ∙ kept_as known (Some (if known.is_old then 1 else 2)) (version_some known is)))
+layout_by_kept true known given (Some k) is index rules =
+    ap (λ (o : Option (ℕ × LayoutValue)). option_map_or (λ form. form.1) o known.layout) (sym (kept_as known (Some (if known.is_old then 1 else 2)) (version_some known is)) ∙ index)
 layout_by_kept false known given None is index rules = rules is
-layout_by_kept false known given (Some k) is index rules = absurd (none-some k.layout (sym (kept_none known is) ∙ index))
+layout_by_kept false known given (Some k) is index rules = absurd (none-some (form_of k) (sym (kept_as known None (version_none known is)) ∙ index))
 
 -- the layout of a known metric is that of the state
 pub layout_here : (told : Option Image) (shard : Inside) (s : State) (path : List ℕ) (known : Known) → entry_of shard.table path ≡ Some known → IsOfClass shard.class path → Lists shard.class shard.rules shard.cache.metrics shard.table
     → Holds told shard s → known.layout ≡ layout_of s path
 layout_here told shard s path known there one lists holds =
-    layout_by_kept known.is_kept known (s.rules path) (s.kept path) refl (sym (ap layout_kept there) ∙ holds.kept.layouts path one)
+    layout_by_kept known.is_kept known (s.rules path) (s.kept path) refl (sym (ap form_kept there) ∙ holds.kept.layouts path one)
     (λ none. (entry_at shard path known there lists).given none ∙ sym (holds.rules path one.here))
 
 pub drains_here : (told : Option Image) (shard : Inside) (s : State) (path : List ℕ) (known : Known) → entry_of shard.table path ≡ Some known → IsOfClass shard.class path → Holds told shard s → known.drains ≡ s.drains path

@@ -1,6 +1,6 @@
 -- A planned drain: what stands on the shelf, and what the disk under it keeps.
 use Rattle.std.proofs.Common.{◌≡◌, ◌⊎◌, inl, inr, ◌∙◌, ℕ, ℤ, ◌+◌, ◌==◌, ◌&&◌, Bool, true, false, List, [], ◌∷◌, ◌++◌, Option, Some, None, IfSome, IsSomeAnd, refl, sym, ap, subst, option_map, if◌then◌else◌}
-use Rattle.std.specs.Prelude.{nat_lt, option_and_then, unwrap_or}
+use Rattle.std.specs.Prelude.{is_some, nat_lt, not, option_and_then, unwrap_or}
 use Rattle.std.specs.Map.{keys_of}
 use Rattle.std.specs.Str.{bytes_eq}
 use Rattle.std.proofs.lemmas.Bool.{true≢false}
@@ -18,7 +18,7 @@ use Rattle.write_shelf.specs.Runs.{last_runs, runs_in, runs_of, runs_on}
 use Rattle.write_shelf.specs.Shelf.{DrainValue, drain_with}
 use Rattle.write_shelf.specs.declared.run.Run.{Run}
 use Rattle.write_shelf.specs.declared.run.Run.TheVariants.{Create, Cells}
-use Rattle.carbon_model.specs.State.{Kept, layout_or, no_rings, rings_of}
+use Rattle.carbon_model.specs.State.{Kept, form_of, layout_or, no_rings, rings_of}
 use Rattle.carbon_model.specs.RingFiles.{IsOfClass, SameKept, StandsUnder, is_sound, kept_in, kept_on, kept_through}
 use Rattle.carbon_model.specs.Replay.{kept_after, with_drained}
 use Rattle.shard_core.specs.Shard.{IsLawfulRing, patch_on}
@@ -67,13 +67,13 @@ on_shelf patch = by patch.fresh patch.cells refl refl
 
 -- ---- what is kept then
 
-same_some : (a b : LayoutValue) → Some a ≡ Some b → a ≡ b
-same_some a b e = ap (λ (o : Option LayoutValue). unwrap_or o a) e
+same_some : (a b : ℕ × LayoutValue) → Some a ≡ Some b → a ≡ b
+same_some a b e = ap (λ (o : Option (ℕ × LayoutValue)). unwrap_or o a) e
 
--- what was kept before the drain, of a metric whose patch is fresh or not
-abbrev pub read_before : (fresh : Bool) (given : LayoutValue) (kept : Option Kept) (layout : LayoutValue) → Type 0
-read_before true given kept layout = (kept ≡ None) × (layout ≡ given)
-read_before false given kept layout = option_map (λ k. k.layout) kept ≡ Some layout
+-- what was kept before the drain, of a metric with a file of this version or without one
+abbrev pub read_before : (version : Option ℕ) (given : LayoutValue) (kept : Option Kept) (layout : LayoutValue) → Type 0
+read_before None given kept layout = (kept ≡ None) × (layout ≡ given)
+read_before (Some version) given kept layout = option_map form_of kept ≡ Some (version, layout)
 
 -- the patch makes the batch, over whatever its file reads as
 abbrev pub PlansOver : Bool → PatchValue → List ℕ → ℕ → List (ℕ × ℤ) → List ℕ → Type 0
@@ -85,15 +85,16 @@ planned_over : (held : Option (List ℕ)) (patch : PatchValue) (path : List ℕ)
 planned_over None patch path now points rings plans reads = absurd plans
 planned_over (Some file) patch path now points rings plans reads = plans rings (any_path [] path patch.layout file rings reads)
 
-planned_reads : (fresh : Bool) (given : LayoutValue) (kept : Option Kept) (image : Image) (path : List ℕ) (patch : PatchValue) (now : ℕ) (points : List (ℕ × ℤ)) → patch.fresh ≡ fresh
-    → read_before fresh given kept patch.layout → SameKept (kept_on image path) kept → UnderPatch fresh (Some image) (file_name_of path) (PlansOver fresh patch path now points)
+planned_reads : (version : Option ℕ) (given : LayoutValue) (kept : Option Kept) (image : Image) (path : List ℕ) (patch : PatchValue) (now : ℕ) (points : List (ℕ × ℤ)) → (version ≡ None → patch.fresh ≡ true)
+    → read_before version given kept patch.layout → SameKept (kept_on image path) kept
+    → UnderPatch (not (is_some version)) (Some image) (file_name_of path) (PlansOver (not (is_some version)) patch path now points)
     → (patch.layout ≡ layout_or given kept) × ReadsAs patch (unwrap_or (image (file_name_of path)) []) (batch patch.layout now points (rings_of kept))
-planned_reads true given None image path patch now points f known same plans =
-    (known.1, fresh_alike patch [] (unwrap_or (image (file_name_of path)) []) (batch patch.layout now points no_rings) f (plans no_rings (fresh_is_empty path patch.layout)))
-planned_reads true given (Some k) image path patch now points f known same plans = absurd (none-some k (sym known.0))
-planned_reads false given None image path patch now points f known same plans = absurd (none-some patch.layout known)
-planned_reads false given (Some k) image path patch now points f known same plans =
-    let l : patch.layout ≡ k.layout = sym (same_some k.layout patch.layout known) in
+planned_reads None given None image path patch now points f known same plans =
+    (known.1, fresh_alike patch [] (unwrap_or (image (file_name_of path)) []) (batch patch.layout now points no_rings) (f refl) (plans no_rings (fresh_is_empty path patch.layout)))
+planned_reads None given (Some k) image path patch now points f known same plans = absurd (none-some k (sym known.0))
+planned_reads (Some version) given None image path patch now points f known same plans = absurd (none-some (version, patch.layout) known)
+planned_reads (Some version) given (Some k) image path patch now points f known same plans =
+    let l : patch.layout ≡ k.layout = sym (ap (λ (form : ℕ × LayoutValue). form.1) (same_some (form_of k) (version, patch.layout) known)) in
     let was = subst (λ (m : LayoutValue). IsSomeAnd (image (file_name_of path)) (λ file. ReadsAs (bare [] m) file k.rings)) (sym l) (reads_from_kept (image (file_name_of path)) k same) in
     (l, planned_over (image (file_name_of path)) patch path now points k.rings plans was)
 
@@ -104,32 +105,32 @@ ReadsDrained patch given kept now points file = ReadsAs patch file (batch patch.
 through_is : (patch : PatchValue) (given : LayoutValue) (kept : Option Kept) (now : ℕ) (points : List (ℕ × ℤ)) (held : Option (List ℕ)) → patch.layout ≡ layout_or given kept
     → ReadsDrained patch given kept now points (unwrap_or held []) → SameKept (Some (kept_through patch held)) (Some (kept_after given kept now points))
 through_is patch given kept now points held l reads =
-    (l, λ i bucket. reads i bucket ∙ ap (λ (m : LayoutValue). batch m now points (rings_of kept) i bucket) l)
+    (refl, l, λ i bucket. reads i bucket ∙ ap (λ (m : LayoutValue). batch m now points (rings_of kept) i bucket) l)
 
 alone_is : (patch : PatchValue) (given : LayoutValue) (kept : Option Kept) (now : ℕ) (points : List (ℕ × ℤ)) (held : Option (List ℕ)) → LaysNothing patch → patch.layout ≡ layout_or given kept
-    → IsSomeAnd held (IsLawfulRing patch.layout) → ReadsDrained patch given kept now points (unwrap_or held []) → SameKept (option_and_then kept_in held) (Some (kept_after given kept now points))
+    → IsSomeAnd held (IsLawfulRing 2 patch.layout) → ReadsDrained patch given kept now points (unwrap_or held []) → SameKept (option_and_then kept_in held) (Some (kept_after given kept now points))
 alone_is patch given kept now points None none l ring reads = absurd ring
 alone_is patch given kept now points (Some file) none l ring reads =
     let alone = bare_reads patch patch.layout file (batch patch.layout now points (rings_of kept)) refl none.0 none.1 reads in
-    subst (λ (k : Option Kept). SameKept k (Some (kept_after given kept now points))) (sym (ring_is_kept patch.layout file ring.0 ring.1))
-    (l, λ i bucket. alone i bucket ∙ ap (λ (m : LayoutValue). batch m now points (rings_of kept) i bucket) l)
+    subst (λ (k : Option Kept). SameKept k (Some (kept_after given kept now points))) (sym (ring_is_kept 2 patch.layout file (inr refl) ring.0 ring.1))
+    (refl, l, λ i bucket. alone i bucket ∙ ap (λ (m : LayoutValue). batch m now points (rings_of kept) i bucket) l)
 
-sound_held : (held : Option (List ℕ)) (layout : LayoutValue) → IsSomeAnd held (IsLawfulRing layout) → IfSome held (λ file. is_sound file ≡ true)
+sound_held : (held : Option (List ℕ)) (layout : LayoutValue) → IsSomeAnd held (IsLawfulRing 2 layout) → IfSome held (λ file. is_sound file ≡ true)
 sound_held None layout ring = absurd ring
-sound_held (Some file) layout ring = ring_is_sound layout file ring.0 ring.1
+sound_held (Some file) layout ring = ring_is_sound 2 layout file (inr refl) ring.0 ring.1
 
-pub whole_held : (held : Option (List ℕ)) (layout : LayoutValue) → IsSomeAnd held (IsLawfulRing layout) → IsSomeAnd held (IsRingFile layout)
+pub whole_held : (held : Option (List ℕ)) (layout : LayoutValue) → IsSomeAnd held (IsLawfulRing 2 layout) → IsSomeAnd held (IsRingFile layout)
 whole_held None layout ring = absurd ring
 whole_held (Some file) layout ring = ring.1
 
 -- ---- the disk under what is on the shelf
 
-pub plan_stands : (opening image : Image) (shelf : Option DrainValue) (kept : List ℕ → Option Kept) (class : ℕ) (path : List ℕ) (given : LayoutValue) (patch : PatchValue) (now : ℕ) (points : List (ℕ × ℤ)) → IsOfClass class path
-    → patch.path ≡ path → shelf ≡ drain_with patch (runs_of patch) → read_before patch.fresh given (kept path) patch.layout
-    → (patch.fresh ≡ false → IsSomeAnd (image (file_name_of path)) (IsLawfulRing patch.layout))
-    → UnderPatch patch.fresh (Some image) (file_name_of path) (PlansOver patch.fresh patch path now points)
+pub plan_stands : (opening image : Image) (shelf : Option DrainValue) (kept : List ℕ → Option Kept) (class : ℕ) (path : List ℕ) (version : Option ℕ) (given : LayoutValue) (patch : PatchValue) (now : ℕ) (points : List (ℕ × ℤ)) → IsOfClass class path
+    → patch.path ≡ path → shelf ≡ drain_with patch (runs_of patch) → (version ≡ None → patch.fresh ≡ true) → read_before version given (kept path) patch.layout
+    → (patch.fresh ≡ false → IsSomeAnd (image (file_name_of path)) (IsLawfulRing 2 patch.layout))
+    → UnderPatch (not (is_some version)) (Some image) (file_name_of path) (PlansOver (not (is_some version)) patch path now points)
     → StandsUnder opening image None kept class → StandsUnder opening image (patch_on shelf) (with_drained kept path given now points) class
-plan_stands opening image shelf kept class path given patch now points one its put before ring plans stands = elim (on_shelf patch) [
+plan_stands opening image shelf kept class path version given patch now points one its put fresh before ring plans stands = elim (on_shelf patch) [
   | inl none ↦
       subst (λ (o : Option DrainValue). StandsUnder opening image (patch_on o) (with_drained kept path given now points) class) (sym (put ∙ none.0))
       (stands_moved opening image image None None kept (with_drained kept path given now points) class path one tt tt (λ other _. refl) (λ p e. rw e refl)
@@ -144,7 +145,7 @@ plan_stands opening image shelf kept class path given patch now points one its p
 ]
   where
     reads : (patch.layout ≡ layout_or given (kept path)) × ReadsAs patch (unwrap_or (image (file_name_of path)) []) (batch patch.layout now points (rings_of (kept path)))
-    reads = planned_reads patch.fresh given (kept path) image path patch now points refl before (stands.rings path one) plans
+    reads = planned_reads version given (kept path) image path patch now points fresh before (stands.rings path one) plans
 
     own : bytes_eq patch.path path ≡ true
     own = ap (λ (p : List ℕ). bytes_eq p path) its ∙ itself path

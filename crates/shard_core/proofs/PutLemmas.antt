@@ -151,11 +151,11 @@ unknown_is_empty class rules metrics table path lists none = by (points_of metri
         absurd (true≢false (sym some ∙ ap (λ (o : Option Known). is_some o) none))
 
 pub lists_first : (class : ℕ) (rules : RulesValue) (old new : Cache) (table table' : Table) (path : List ℕ) (time : ℕ) (value : ℤ) → class_of path ≡ class → Puts old new path time value Stored
-    → Sets table table' path (Some (undrained (layout_by rules path) false)) → Lists class rules old.metrics table → Lists class rules new.metrics table'
+    → Sets table table' path (Some (undrained (layout_by rules path) false false)) → Lists class rules old.metrics table → Lists class rules new.metrics table'
 lists_first class rules old new table table' path time value here puts sets lists =
     subst (λ (c : Cache). Lists class rules c.metrics table') (sym puts.1.1)
     (lists_put class rules old.metrics table table' path time value lists
-    (record { known = undrained (layout_by rules path) false; there = sets.here; here = here; given = λ _. refl }) sets.others)
+    (record { known = undrained (layout_by rules path) false false; there = sets.here; here = here; given = λ _. refl }) sets.others)
 
 -- and where it was not stored
 pub lists_out : (class : ℕ) (rules : RulesValue) (old new : Cache) (table table' table'' : Table) (path : List ℕ) (time : ℕ) (value : ℤ) (entry : Option Known) (put : Put) → (put ≡ Stored → ⊥)
@@ -174,7 +174,7 @@ lists_out class rules old new table table' table'' path time value entry NoMemor
 pub files_same : (class : ℕ) (table table' : Table) (patch : Option PatchValue) (image : Option Image) → SaysTheSame table table' → HasFiles class table patch image → HasFiles class table' patch image
 files_same class table table' patch None says files = tt
 files_same class table table' patch (Some image) says files = λ path legal here apart.
-    subst (λ (o : Option LayoutValue). IfSome o (λ layout. IsSomeAnd (image (file_name_of path)) (IsLawfulRing layout))) (sym (says.kept path)) (files path legal here apart)
+    subst (λ (o : Option (ℕ × LayoutValue)). IfSome o (λ form. IsSomeAnd (image (file_name_of path)) (IsLawfulRing form.0 form.1))) (sym (says.kept path)) (files path legal here apart)
 
 pub shelf_same : (class : ℕ) (table table' : Table) (shelf : Option DrainValue) (image : Option Image) → SaysTheSame table table' → HoldsShelf class table shelf image → HoldsShelf class table' shelf image
 shelf_same class table table' None image says holds = tt

@@ -4,9 +4,12 @@ use Rattle.std.specs.Prelude.{option_and_then, slice_get, unwrap_or}
 use Rattle.outside_io.specs.Image.{Image}
 use Rattle.ring_format.specs.declared.archive.Archive.{Archive}
 use Rattle.ring_format.specs.declared.fault.HeadFault.{HeadFault}
+use Rattle.ring_format.specs.Cell.{IsVersion}
 use Rattle.ring_format.specs.Layout.{LayoutValue}
 use Rattle.ring_format.specs.Patch.{Cells, PatchValue}
-use Rattle.ring_archive.specs.Ring.{ReadsAs, Rings, UnderPatch, bare, is_bucket, ring_cell, value_in, value_of}
+use Rattle.ring_archive.specs.declared.view.RingView.{RingView}
+use Rattle.ring_archive.specs.View.{IsThere}
+use Rattle.ring_archive.specs.Ring.{HoldsRing, ReadsAs, Rings, UnderPatch, bare, is_bucket, ring_cell, value_in, value_of}
 use Rattle.ring_archive.proofs.AlikeLemmas.{fresh_alike}
 use Rattle.carbon_model.specs.State.{Kept}
 use Rattle.carbon_model.specs.RingFiles.{SameKept, head_of, kept_in, kept_with}
@@ -42,9 +45,9 @@ bare_reads patch layout file rings l fresh cells reads =
     (subst (λ (cs : Cells). ReadsAs (record { path = patch.path; layout = patch.layout; fresh = patch.fresh; cells = cs }) file rings) cells reads)))
 
 -- two kept metrics of one layout read alike
-same_from_head : (r : Result LayoutValue HeadFault) (file : List ℕ) (k : Kept) → SameKept (kept_with file r) (Some k) → ReadsAs (bare [] k.layout) file k.rings
+same_from_head : (r : Result (LayoutValue × ℕ) HeadFault) (file : List ℕ) (k : Kept) → SameKept (kept_with file r) (Some k) → ReadsAs (bare [] k.layout) file k.rings
 same_from_head (Err fault) file k same = absurd same
-same_from_head (Ok layout) file k same = subst (λ (l : LayoutValue). ReadsAs (bare [] l) file k.rings) same.0 same.1
+same_from_head (Ok told) file k same = subst (λ (l : LayoutValue). ReadsAs (bare [] l) file k.rings) same.1 same.2
 
 pub reads_from_kept : (held : Option (List ℕ)) (k : Kept) → SameKept (option_and_then kept_in held) (Some k) → IsSomeAnd held (λ file. ReadsAs (bare [] k.layout) file k.rings)
 reads_from_kept None k same = absurd same
@@ -76,6 +79,11 @@ from_under patch image name rings under = by patch.fresh refl under
     by : (b : Bool) → patch.fresh ≡ b → UnderPatch b (Some image) name (λ file. ReadsAs patch file rings) → ReadsAs patch (unwrap_or (image name) []) rings
     by true fresh reads = fresh_alike patch [] (unwrap_or (image name) []) rings fresh reads
     by false old reads = over (image name) reads
+
+-- the file of a view that was made for a file of this name, version and layout
+pub view_is_there : (view : RingView) (fresh : Bool) (image : Option Image) (name : List ℕ) (version : ℕ) (layout : LayoutValue) → view.name.now ≡ name → view.version ≡ version → view.layout ≡ layout
+    → IsVersion version → HoldsRing fresh image name version layout.archives → IsThere view fresh image
+view_is_there view fresh image name version layout named in_version laid one holds = rw (named, in_version, laid) (one, holds)
 
 -- ---- results
 

@@ -1,5 +1,5 @@
 -- What a start notes of the files of a disk.
-use Rattle.std.proofs.Common.{◌≡◌, inl, inr, ◌∙◌, ℕ, ◌+◌, ◌<◌, ◌≤◌, true, false, List, [], get_or, length, map, take, Option, Some, None, Result, Ok, Err, OnOk, IfSome, IsSomeAnd, String, string_bytes, refl, sym, ap, subst, arith, option_map}
+use Rattle.std.proofs.Common.{◌≡◌, inl, inr, ◌∙◌, ℕ, ◌+◌, ◌==◌, ◌<◌, ◌≤◌, true, false, List, [], get_or, length, map, take, Option, Some, None, Result, Ok, Err, OnOk, IfSome, IsSomeAnd, String, string_bytes, refl, sym, ap, subst, arith, option_map, if◌then◌else◌}
 use Rattle.std.specs.Prelude.{IsSome, drop, min, option_and_then, slice_get, string_cmp, unwrap_or}
 use Rattle.std.specs.List.Sorted.{IsPermutation, IsSorted}
 use Rattle.std.specs.String.{string_cmp_total}
@@ -17,17 +17,17 @@ use Rattle.outside_io.specs.Image.{Image, LengthIs, ListsNames, ReadsFile}
 use Rattle.metric_path.specs.Class.{class_of}
 use Rattle.metric_path.specs.FileName.{file_name_of}
 use Rattle.metric_path.proofs.FileNameLemmas.{file_names_differ}
-use Rattle.ring_format.specs.Head.{head_bytes, head_result}
+use Rattle.ring_format.specs.Cell.{IsVersion}
+use Rattle.ring_format.specs.Head.{head_bytes_in, head_result}
 use Rattle.ring_format.specs.Layout.{LayoutValue, layout_fault}
-use Rattle.ring_format.specs.LayoutFile.{file_size_of}
 use Rattle.ring_format.specs.declared.fault.HeadFault.{HeadFault}
 use Rattle.ring_format.specs.declared.fault.HeadFault.TheVariants as faults
-use Rattle.ring_archive.specs.Ring.{IsRingFile}
-use Rattle.carbon_model.specs.State.{Kept, no_rings}
+use Rattle.ring_format.proofs.ReadHeads.{IsHeadOf}
+use Rattle.carbon_model.specs.State.{Kept, form_of, no_rings}
 use Rattle.carbon_model.specs.RingFiles.{IsOfClass, SameKept, head_of, is_sound, is_sound_head, kept_in, kept_on, kept_with}
 use Rattle.metric_index.specs.Index.{entry_of}
-use Rattle.shard_core.specs.Shard.{HasFiles}
-use Rattle.shard_core.specs.Table.{Table, kept_layout, layout_kept}
+use Rattle.shard_core.specs.Shard.{HasFiles, IsLawfulRing}
+use Rattle.shard_core.specs.Table.{Table, kept_form, form_kept}
 use Rattle.shard_core.specs.Opened.{FirstDamaged, IsOpened, Opens}
 use Rattle.shard_core.specs.StartFaults.{IsDamagedFile}
 use Rattle.shard_core.specs.Starting.{FirstAmong, IsDamagedName, IsNoted, Noted, Notes, NotesHead, OnDamaged, TellsHead}
@@ -36,20 +36,27 @@ use Rattle.shard_core.specs.declared.fault.StartFault.TheVariants.{Damaged, Disk
 use Rattle.shard_core.specs.declared.starting.FileHead.{FileHead}
 use Rattle.shard_core.specs.declared.starting.FileHead.TheVariants as heads
 use Rattle.shard_core.proofs.FileLemmas.{head_is_read, head_is_short, ring_is_kept, ring_is_sound, same_text}
+use Rattle.shard_core.proofs.KeptLemmas.{form_version}
 
 -- ---- heads
 
 -- the bytes that are read are the first of the file
-bytes_of_file : (bytes file : List ℕ) (size : ℕ) (r : Result LayoutValue HeadFault) → bytes ≡ take 316 file → size ≡ length file → r ≡ head_result bytes size → head_of file ≡ r
+bytes_of_file : (bytes file : List ℕ) (size : ℕ) (r : Result (LayoutValue × ℕ) HeadFault) → bytes ≡ take 316 file → size ≡ length file → r ≡ head_result bytes size → head_of file ≡ r
 unfolding head_of
 bytes_of_file bytes file size r front long read = sym (read ∙ ap (λ (xs : List ℕ). head_result xs size) front ∙ ap (head_result (take 316 file)) long)
 
-pub tells_ring : (layout : LayoutValue) (bytes file : List ℕ) (size : ℕ) → bytes ≡ take 316 file → size ≡ length file
-    → (take (length (head_bytes layout)) bytes ≡ head_bytes layout) × (size ≡ file_size_of layout.archives) × (layout_fault layout.archives layout.factor ≡ None)
-    → (layout_fault layout.archives layout.factor ≡ None) × IsRingFile layout file
-tells_ring layout bytes file size front long read = (
-  read.2,
-  (sym (take-take (length (head_bytes layout)) 316 file (head_is_short layout read.2)) ∙ ap (take (length (head_bytes layout))) (sym front) ∙ read.0, sym long ∙ read.1),
+pub tells_ring : (told : LayoutValue × ℕ) (bytes file : List ℕ) (size : ℕ) → bytes ≡ take 316 file → size ≡ length file → IsHeadOf bytes size told
+    → IsVersion told.1 × IsLawfulRing told.1 told.0 file
+tells_ring told bytes file size front long read = (
+  read.0,
+  (
+    read.3,
+    (
+      sym (take-take (length (head_bytes_in told.1 told.0)) 316 file (head_is_short told.1 told.0 read.3))
+          ∙ ap (take (length (head_bytes_in told.1 told.0))) (sym front) ∙ read.1,
+      sym long ∙ read.2,
+    ),
+  ),
 )
 
 -- a fault that tells of a head of zero
@@ -95,25 +102,27 @@ head_on_disk (Some image) now name bytes size head same long count read told =
 -- ---- one name
 
 -- what is found of a path, and what its file keeps
-abbrev KeepsLayout : Option (List ℕ) → Option LayoutValue → Type 0
-KeepsLayout held found = (found ≡ option_map (λ (k : Kept). k.layout) (option_and_then kept_in held)) × IfSome held (λ file. is_sound file ≡ true)
+abbrev KeepsForm : Option (List ℕ) → Option (ℕ × LayoutValue) → Type 0
+KeepsForm held found = (found ≡ option_map form_of (option_and_then kept_in held)) × IfSome held (λ file. is_sound file ≡ true)
 
-abbrev IsRingOf : Option (List ℕ) → LayoutValue → Type 0
-IsRingOf held layout = IsSomeAnd held (λ file. (layout_fault layout.archives layout.factor ≡ None) × IsRingFile layout file)
+abbrev IsRingOf : Option (List ℕ) → ℕ × LayoutValue → Type 0
+IsRingOf held form = IsSomeAnd held (IsLawfulRing form.0 form.1)
 
-ring_held : (held : Option (List ℕ)) (layout : LayoutValue) → IsRingOf held layout → KeepsLayout held (Some layout)
-ring_held None layout ring = absurd ring
-ring_held (Some file) layout ring =
-    (sym (ap (option_map (λ (k : Kept). k.layout)) (ring_is_kept layout file ring.0 ring.1)), ring_is_sound layout file ring.0 ring.1)
+ring_held : (held : Option (List ℕ)) (form : ℕ × LayoutValue) → IsVersion form.0 → IsRingOf held form → KeepsForm held (Some form)
+ring_held None form is ring = absurd ring
+ring_held (Some file) form is ring =
+    (sym (ap (option_map form_of) (ring_is_kept form.0 form.1 file is ring.0 ring.1)), ring_is_sound form.0 form.1 file is ring.0 ring.1)
 
-ok_is_no_err : (layout : LayoutValue) (r : Result LayoutValue HeadFault) → r ≡ Ok layout → r ≡ Err faults.Zero → ⊥
-ok_is_no_err layout r ok err = absurd cc
+ok_is_no_err : (told : LayoutValue × ℕ) (r : Result (LayoutValue × ℕ) HeadFault) → r ≡ Ok told → r ≡ Err faults.Zero → ⊥
+ok_is_no_err told r ok err = absurd cc
 
-zero_held : (held : Option (List ℕ)) (found : Option LayoutValue) → IfSome held (λ file. head_of file ≡ Err faults.Zero) → IfSome found (IsRingOf held) → KeepsLayout held found
-zero_held None None zeros rings = (refl, tt)
-zero_held None (Some layout) zeros rings = absurd rings
-zero_held (Some file) None zeros rings = (sym (ap (λ r. option_map (λ (k : Kept). k.layout) (kept_with file r)) zeros), ap is_sound_head zeros)
-zero_held (Some file) (Some layout) zeros rings = absurd (ok_is_no_err layout (head_of file) (head_is_read layout file rings.0 rings.1) zeros)
+zero_held : (held : Option (List ℕ)) (found : Option (ℕ × LayoutValue)) → IfSome found (λ form. IsVersion form.0) → IfSome held (λ file. head_of file ≡ Err faults.Zero) → IfSome found (IsRingOf held)
+    → KeepsForm held found
+zero_held None None is zeros rings = (refl, tt)
+zero_held None (Some form) is zeros rings = absurd rings
+zero_held (Some file) None is zeros rings = (sym (ap (λ r. option_map form_of (kept_with file r)) zeros), ap is_sound_head zeros)
+zero_held (Some file) (Some form) is zeros rings =
+    absurd (ok_is_no_err (form.1, form.0) (head_of file) (head_is_read form.0 form.1 file is rings.0 rings.1) zeros)
 
 -- the path of a file name is the only one that has it
 the_path : (class : ℕ) (image : Image) (name path p : List ℕ) (layouts : Table) → IsOfClass class path → file_name_of path ≡ name → IsOfClass class p → file_name_of p ≡ name
@@ -121,32 +130,37 @@ the_path : (class : ℕ) (image : Image) (name path p : List ℕ) (layouts : Tab
 the_path class image name path p layouts one named other same noted =
     subst (λ (q : List ℕ). IsNoted image layouts q) (sym (file_names_differ p path other.legal one.legal (same ∙ sym named))) noted
 
--- the layout of a metric that is noted, and of every other
-noted_here : (path : List ℕ) (layout : LayoutValue) (old new : Table) → NotesHead path (heads.Ring layout) old new → kept_layout new path ≡ Some layout
-noted_here path layout old new notes = ap layout_kept notes.here
+-- the version and the layout of a metric that is noted, and of every other
+noted_version : (version : ℕ) → IsVersion version → (if version == 1 then 1 else 2) ≡ version
+noted_version version (inl one) = rw one refl
+noted_version version (inr two) = rw two refl
 
-noted_else : (path : List ℕ) (layout : LayoutValue) (old new : Table) (p : List ℕ) → (p ≡ path → ⊥) → NotesHead path (heads.Ring layout) old new → kept_layout new p ≡ kept_layout old p
-noted_else path layout old new p other notes = ap layout_kept (notes.others p other)
+noted_here : (path : List ℕ) (layout : LayoutValue) (version : ℕ) (old new : Table) → IsVersion version → NotesHead path (heads.Ring layout version) old new → kept_form new path ≡ Some (version, layout)
+noted_here path layout version old new is notes = ap form_kept notes.here ∙ ap (λ (v : ℕ). Some (v, layout)) (noted_version version is)
 
-ring_files : (class : ℕ) (image : Image) (path : List ℕ) (layout : LayoutValue) (old new : Table) → IsRingOf (image (file_name_of path)) layout → NotesHead path (heads.Ring layout) old new
+noted_else : (path : List ℕ) (layout : LayoutValue) (version : ℕ) (old new : Table) (p : List ℕ) → (p ≡ path → ⊥) → NotesHead path (heads.Ring layout version) old new → kept_form new p ≡ kept_form old p
+noted_else path layout version old new p other notes = ap form_kept (notes.others p other)
+
+ring_files : (class : ℕ) (image : Image) (path : List ℕ) (layout : LayoutValue) (version : ℕ) (old new : Table) → IsVersion version → IsRingOf (image (file_name_of path)) (version, layout)
+    → NotesHead path (heads.Ring layout version) old new
     → HasFiles class old None (Some image) → HasFiles class new None (Some image)
-ring_files class image path layout old new ring notes files p legal here apart = elim (same_text p path) [
-  | inl same ↦ subst (λ (q : List ℕ). IfSome (kept_layout new q) (IsRingOf (image (file_name_of q)))) (sym same.1) (rw (noted_here path layout old new notes) ring)
-  | inr other ↦ rw (noted_else path layout old new p other.1 notes) (files p legal here refl)
+ring_files class image path layout version old new is ring notes files p legal here apart = elim (same_text p path) [
+  | inl same ↦ subst (λ (q : List ℕ). IfSome (kept_form new q) (IsRingOf (image (file_name_of q)))) (sym same.1) (rw (noted_here path layout version old new is notes) ring)
+  | inr other ↦ rw (noted_else path layout version old new p other.1 notes) (files p legal here refl)
 ]
 
 notes_here : (class : ℕ) (image : Image) (path : List ℕ) (head : FileHead) (old new : Table) → IsOfClass class path → TellsHead (image (file_name_of path)) head → NotesHead path head old new
     → HasFiles class old None (Some image) → Notes class image (file_name_of path) old new
-notes_here class image path (heads.Ring layout) old new one tells notes files = record {
-  files = ring_files class image path layout old new tells notes files;
-  here = λ p other named. the_path class image (file_name_of path) path p new one refl other named (rw (noted_here path layout old new notes) (ring_held (image (file_name_of path)) layout tells));
-  same = λ p other differs. noted_else path layout old new p (λ e. differs (ap file_name_of e)) notes;
+notes_here class image path (heads.Ring layout version) old new one tells notes files = record {
+  files = ring_files class image path layout version old new tells.0 tells.1 notes files;
+  here = λ p other named. the_path class image (file_name_of path) path p new one refl other named (rw (noted_here path layout version old new tells.0 notes) (ring_held (image (file_name_of path)) (version, layout) tells.0 tells.1));
+  same = λ p other differs. noted_else path layout version old new p (λ e. differs (ap file_name_of e)) notes;
 }
 notes_here class image path heads.Zero old new one tells notes files = record {
   files = subst (λ (layouts : Table). HasFiles class layouts None (Some image)) (sym notes) files;
   here = λ p other named. the_path class image (file_name_of path) path p new one refl other named
-      (subst (λ (layouts : Table). IsNoted image layouts path) (sym notes) (zero_held (image (file_name_of path)) (kept_layout old path) tells (files path one.legal one.here refl)));
-  same = λ p other differs. ap (λ (t : Table). kept_layout t p) notes;
+      (subst (λ (layouts : Table). IsNoted image layouts path) (sym notes) (zero_held (image (file_name_of path)) (kept_form old path) (form_version (entry_of old path)) tells (files path one.legal one.here refl)));
+  same = λ p other differs. ap (λ (t : Table). kept_form t p) notes;
 }
 notes_here class image path heads.Faulty old new one tells notes files = absurd notes
 
@@ -272,16 +286,16 @@ listed_at image old new name lists sorted there =
 all_noted : {A : Type 0} (held : Option (List ℕ)) (class : ℕ) (image : Image) (old new : List (String A)) (layouts : Table) (path : List ℕ) → image (file_name_of path) ≡ held → IsOfClass class path
     → ListsNames image (map string_bytes old) → IsPermutation old new → Noted class image (map string_bytes new) (length new) layouts → IsNoted image layouts path
 all_noted None class image old new layouts path is one lists sorted noted =
-    let found = kept_layout layouts path in
+    let found = kept_form layouts path in
     let rings = subst (λ (held : Option (List ℕ)). IfSome found (IsRingOf held)) is (noted.files path one.legal one.here refl) in
-    subst (λ (held : Option (List ℕ)). KeepsLayout held found) (sym is) (zero_held None found tt rings)
+    subst (λ (held : Option (List ℕ)). KeepsForm held found) (sym is) (zero_held None found (form_version (entry_of layouts path)) tt rings)
 all_noted (Some file) class image old new layouts path is one lists sorted noted =
     let at = listed_at image old new (file_name_of path) lists sorted (subst (λ (held : Option (List ℕ)). IsSome held) (sym is) refl) in
     noted.named at.0 at.1 path one at.2
 
 same_itself : (kept : Option Kept) → SameKept kept kept
 same_itself None = tt
-same_itself (Some k) = (refl, λ i bucket. refl)
+same_itself (Some k) = (refl, refl, λ i bucket. refl)
 
 opened : {A : Type 0} (class : ℕ) (image : Image) (old new : List (String A)) (layouts : Table) → ListsNames image (map string_bytes old) → IsPermutation old new → Noted class image (map string_bytes new) (length new) layouts
     → Opens class (Some image) layouts
@@ -302,11 +316,11 @@ opened class image old new layouts lists sorted noted =
 
 -- what is kept on a disk of which nothing but the layouts is known
 abbrev with_layouts : Table → List ℕ → Option Kept
-with_layouts layouts path = option_map (λ layout. record { layout = layout; rings = no_rings }) (kept_layout layouts path)
+with_layouts layouts path = option_map (λ form. record { version = form.0; layout = form.1; rings = no_rings }) (kept_form layouts path)
 
-its_layout : (o : Option LayoutValue) → o ≡ option_map (λ (k : Kept). k.layout) (option_map (λ (layout : LayoutValue). record { layout = layout; rings = no_rings }) o)
-its_layout None = refl
-its_layout (Some layout) = refl
+its_form : (o : Option (ℕ × LayoutValue)) → o ≡ option_map form_of (option_map (λ (form : ℕ × LayoutValue). record { version = form.0; layout = form.1; rings = no_rings }) o)
+its_form None = refl
+its_form (Some form) = refl
 
 pub opened_known : {A : Type 0} (class : ℕ) (known now : Option Image) (old new : List (String A)) (layouts : Table) → now ≡ known → IfSome known (λ image. ListsNames image (map string_bytes old)) → IsPermutation old new
     → IfSome now (λ image. Noted class image (map string_bytes new) (length new) layouts) → Opens class known layouts
@@ -314,7 +328,7 @@ opened_known class None now old new layouts same lists sorted noted = record {
   kept = with_layouts layouts;
   shown = tt;
   holds = record {
-    layouts = λ path one. its_layout (kept_layout layouts path);
+    layouts = λ path one. its_form (kept_form layouts path);
     files = tt;
   };
 }
@@ -348,7 +362,7 @@ damaged_known NoMemory class known now old new same lists sorted first = tt
 -- ---- what is known at the start
 
 noted_opened : (class : ℕ) (path : List ℕ) (head : FileHead) (old new : Table) → class_of path ≡ class → NotesHead path head old new → IsOpened class old → IsOpened class new
-noted_opened class path (heads.Ring layout) old new one notes opened = λ p. elim (same_text p path) [
+noted_opened class path (heads.Ring layout version) old new one notes opened = λ p. elim (same_text p path) [
   | inl same ↦ subst (λ (q : List ℕ). IfSome (entry_of new q) (λ known. (class_of q ≡ class) × ((known.is_kept ≡ true) × (known.drains ≡ 0)))) (sym same.1)
       (rw notes.here (one, (refl, refl)))
   | inr other ↦ rw (notes.others p other.1) (opened p)

@@ -30,14 +30,15 @@ goes_next old new place metric only picks own here sound =
           let some = sound.some in
           let empty : length metric.points ≡ 0 = ap length (at.points ∙ ap (λ (ms : Metrics). points_of ms metric.path) none) in
           absurd (omega (arith, some, empty));
+      has = sound.some;
       may = λ files halves empty. may_plan old files metric.path metric.known metric.points halves empty one own at.drainable.there sound.rising at.points;
     }
 
 pub nothing_next : (old new : DeskInside) → Picks old.picker new.picker old.cache None → old.cache.metrics ≡ []
 nothing_next old new picks = none_then_empty old.picker.strategy old.picker.queue old.cache.metrics picks.told
 
-pub same_known : (one other : Known) → one.layout ≡ other.layout → one.is_kept ≡ other.is_kept → one.drains ≡ other.drains → one ≡ other
-same_known one other layout kept drains = λ i. record { layout = layout i; is_kept = kept i; drains = drains i }
+pub same_known : (one other : Known) → one.layout ≡ other.layout → one.is_kept ≡ other.is_kept → one.is_old ≡ other.is_old → one.drains ≡ other.drains → one ≡ other
+same_known one other layout kept old drains = λ i. record { layout = layout i; is_kept = kept i; is_old = old i; drains = drains i }
 
 pub same_parts : (one other : LayoutValue) → one.archives ≡ other.archives → one.method ≡ other.method → one.factor ≡ other.factor → one ≡ other
 same_parts one other archives method factor = λ i. record { archives = archives i; method = method i; factor = factor i }

@@ -16,7 +16,7 @@ use Rattle.point_cache.specs.Pending.{Metrics, points_of, with_put}
 use Rattle.schema_rules.specs.LayoutBy.{layout_by}
 use Rattle.schema_rules.specs.RulesOf.{RulesValue}
 use Rattle.shard_core.specs.Opened.{IsOpened}
-use Rattle.shard_core.specs.Table.{IsEntry, Lists, SaysTheSame, Table, layout_kept}
+use Rattle.shard_core.specs.Table.{IsEntry, Lists, SaysTheSame, Table, form_kept}
 use Rattle.shard_core.proofs.FileLemmas.{same_text}
 
 either : {X : Type 0} (b : Bool) (a x y : X) → x ≡ y → (if b then a else x) ≡ (if b then a else y)
@@ -111,16 +111,16 @@ lists_alike class rules metrics table table' same lists = record {
 
 pub says_alike : (table table' : Table) → ((p : List ℕ) → entry_of table' p ≡ entry_of table p) → SaysTheSame table table'
 says_alike table table' same = record {
-  kept = λ p. ap layout_kept (same p);
+  kept = λ p. ap form_kept (same p);
   drains = λ p. ap (λ (o : Option Known). option_map_or (λ known. known.drains) o 0) (same p);
 }
 
 -- a metric that was not known, and of which nothing is kept, says nothing
-pub says_new : (table table' : Table) (path : List ℕ) (layout : LayoutValue) → entry_of table path ≡ None → Sets table table' path (Some (undrained layout false)) → SaysTheSame table table'
+pub says_new : (table table' : Table) (path : List ℕ) (layout : LayoutValue) → entry_of table path ≡ None → Sets table table' path (Some (undrained layout false false)) → SaysTheSame table table'
 says_new table table' path layout none sets = record {
   kept = λ p. elim (same_text p path) [
-    | inl same ↦ rw same.1 (ap layout_kept sets.here ∙ sym (ap layout_kept none))
-    | inr other ↦ ap layout_kept (sets.others p other.1)
+    | inl same ↦ rw same.1 (ap form_kept sets.here ∙ sym (ap form_kept none))
+    | inr other ↦ ap form_kept (sets.others p other.1)
   ];
   drains = λ p. elim (same_text p path) [
     | inl same ↦ rw same.1 (ap (λ (o : Option Known). option_map_or (λ known. known.drains) o 0) sets.here ∙ sym (ap (λ (o : Option Known). option_map_or (λ known. known.drains) o 0) none))

@@ -18,7 +18,7 @@ use Rattle.write_shelf.specs.declared.run.Run.TheVariants.{Create, Cells, Head}
 use Rattle.carbon_model.specs.State.{Kept}
 use Rattle.carbon_model.specs.RingFiles.{IsOfClass, SameKept, StandsUnder, is_patched, is_sound, kept_in, kept_on, kept_through}
 use Rattle.shard_core.specs.Shard.{HasFiles, HoldsKept, HoldsShelf, Inside, IsLawfulRing, IsOfKept, Stays, patch_on}
-use Rattle.shard_core.specs.Table.{Table, kept_layout}
+use Rattle.shard_core.specs.Table.{Table, kept_form}
 use Rattle.shard_core.proofs.FileLemmas.{itself, ring_is_kept, ring_is_sound, same_text}
 use Rattle.shard_core.proofs.ReadingLemmas.{any_path, from_under, under_from}
 use Rattle.shard_core.proofs.StandLemmas.{stands_moved}
@@ -28,25 +28,26 @@ is_there None layout ring = absurd ring
 is_there (Some file) layout ring = tt
 
 -- the file of a patch whose runs are all written
-alone_held : (held : Option (List ℕ)) (patch : PatchValue) (k : Kept) → layout_fault patch.layout.archives patch.layout.factor ≡ None → IsSomeAnd held (IsPartWritten patch []) → patch.layout ≡ k.layout
+alone_held : (held : Option (List ℕ)) (patch : PatchValue) (k : Kept) → layout_fault patch.layout.archives patch.layout.factor ≡ None → IsSomeAnd held (IsPartWritten patch []) → 2 ≡ k.version → patch.layout ≡ k.layout
     → ReadsAs patch (unwrap_or held []) k.rings → SameKept (option_and_then kept_in held) (Some k) × IfSome held (λ file. is_sound file ≡ true)
-alone_held None patch k lawful part l reads = absurd part
-alone_held (Some file) patch k lawful part l reads =
+alone_held None patch k lawful part v l reads = absurd part
+alone_held (Some file) patch k lawful part v l reads =
     let laid = part_laid patch file lawful part in
     let alone = any_path patch.path [] patch.layout file k.rings (laid.reads k.rings reads) in (
-      subst (λ (o : Option Kept). SameKept o (Some k)) (sym (ring_is_kept patch.layout file lawful laid.whole)) (l, alone),
-      ring_is_sound patch.layout file lawful laid.whole,
+      subst (λ (o : Option Kept). SameKept o (Some k)) (sym (ring_is_kept 2 patch.layout file (inr refl) lawful laid.whole)) (v, l, alone),
+      ring_is_sound 2 patch.layout file (inr refl) lawful laid.whole,
     )
 
 -- what the patch means stays
 through_moves : (before after : Image) (patch : PatchValue) (left : List Run) (k : Kept) → (patch.fresh ≡ false → IsSomeAnd (before (file_name_of patch.path)) (IsRingFile patch.layout))
     → ComesTo patch left (file_name_of patch.path) before after → SameKept (Some (kept_through patch (before (file_name_of patch.path)))) (Some k)
-    → (patch.layout ≡ k.layout) × ReadsAs patch (unwrap_or (after (file_name_of patch.path)) []) k.rings
+    → (2 ≡ k.version) × (patch.layout ≡ k.layout) × ReadsAs patch (unwrap_or (after (file_name_of patch.path)) []) k.rings
 through_moves before after patch left k ring comes same = (
   same.0,
+  same.1,
   from_under patch after (file_name_of patch.path) k.rings
       (comes.reads k.rings
-      (under_from patch (before (file_name_of patch.path)) before (file_name_of patch.path) k.rings refl (λ old. is_there (before (file_name_of patch.path)) patch.layout (ring old)) same.1)),
+      (under_from patch (before (file_name_of patch.path)) before (file_name_of patch.path) k.rings refl (λ old. is_there (before (file_name_of patch.path)) patch.layout (ring old)) same.2)),
 )
 
 -- the runs that are left stand on the shelf, and with none the disk stands alone
@@ -59,11 +60,11 @@ pub write_stands : (opening before after : Image) (patch : PatchValue) (left : L
 write_stands opening before after patch left kept class one lawful ring comes ring' stands =
     by (kept patch.path) refl (subst (λ (b : Bool). SameKept (if b then Some (kept_through patch (before (file_name_of patch.path))) else kept_on before patch.path) (kept patch.path)) (itself patch.path) (stands.rings patch.path one))
   where
-    with_left : (runs : List Run) (k : Kept) → left ≡ runs → kept patch.path ≡ Some k → (patch.layout ≡ k.layout) × ReadsAs patch (unwrap_or (after (file_name_of patch.path)) []) k.rings
+    with_left : (runs : List Run) (k : Kept) → left ≡ runs → kept patch.path ≡ Some k → (2 ≡ k.version) × (patch.layout ≡ k.layout) × ReadsAs patch (unwrap_or (after (file_name_of patch.path)) []) k.rings
         → StandsUnder opening after (patch_on (drain_with patch runs)) kept class
     with_left [] k none is moved =
         let far : IsSomeAnd (after (file_name_of patch.path)) (IsPartWritten patch []) = subst (λ (rs : List Run). Awaits patch rs (after (file_name_of patch.path))) none comes.far in
-        let alone = alone_held (after (file_name_of patch.path)) patch k lawful far moved.0 moved.1 in
+        let alone = alone_held (after (file_name_of patch.path)) patch k lawful far moved.0 moved.1 moved.2 in
         stands_moved opening before after (Some patch) None kept kept class patch.path one refl tt comes.others (λ p e. refl) (rw is alone.0) (λ _. alone.1) tt stands
     with_left (run ∷ runs) k some is moved =
         stands_moved opening before after (Some patch) (Some patch) kept kept class patch.path one refl refl comes.others (λ p e. refl) (rw (itself patch.path, is) moved)
@@ -119,9 +120,9 @@ write_files class table patch left None None its comes files = tt
 write_files class table patch left None (Some after) its comes files = absurd comes
 write_files class table patch left (Some before) None its comes files = absurd comes
 write_files class table patch left (Some before) (Some after) its comes files = λ path legal one apart. elim (same_text path patch.path) [
-  | inl same ↦ subst (λ (q : List ℕ). IfSome (kept_layout table q) (λ layout. IsSomeAnd (after (file_name_of q)) (IsLawfulRing layout))) (sym same.1)
+  | inl same ↦ subst (λ (q : List ℕ). IfSome (kept_form table q) (λ form. IsSomeAnd (after (file_name_of q)) (IsLawfulRing form.0 form.1))) (sym same.1)
       (rw its.kept (own left refl (subst (λ (q : List ℕ). is_patched (patch_on (drain_with patch left)) q ≡ false) same.1 apart)))
-  | inr other ↦ subst (λ (held : Option (List ℕ)). IfSome (kept_layout table path) (λ layout. IsSomeAnd held (IsLawfulRing layout)))
+  | inr other ↦ subst (λ (held : Option (List ℕ)). IfSome (kept_form table path) (λ form. IsSomeAnd held (IsLawfulRing form.0 form.1)))
       (sym (comes.others (file_name_of path) (λ e. other.1 (file_names_differ path patch.path legal its.legal e))))
       (files path legal one (differs path other.1))
 ]
@@ -132,11 +133,11 @@ write_files class table patch left (Some before) (Some after) its comes files = 
       | inr apart ↦ apart.0
     ]
 
-    lawful_held : (held : Option (List ℕ)) → IsSomeAnd held (IsRingFile patch.layout) → IsSomeAnd held (IsLawfulRing patch.layout)
+    lawful_held : (held : Option (List ℕ)) → IsSomeAnd held (IsRingFile patch.layout) → IsSomeAnd held (IsLawfulRing 2 patch.layout)
     lawful_held None ring = absurd ring
     lawful_held (Some file) ring = (its.lawful, ring)
 
-    own : (runs : List Run) → left ≡ runs → is_patched (patch_on (drain_with patch left)) patch.path ≡ false → IsSomeAnd (after (file_name_of patch.path)) (IsLawfulRing patch.layout)
+    own : (runs : List Run) → left ≡ runs → is_patched (patch_on (drain_with patch left)) patch.path ≡ false → IsSomeAnd (after (file_name_of patch.path)) (IsLawfulRing 2 patch.layout)
     own [] none apart = lawful_held (after (file_name_of patch.path)) (none_ring patch (after (file_name_of patch.path)) (subst (λ (rs : List Run). Awaits patch rs (after (file_name_of patch.path))) none comes.far))
     own (run ∷ runs) some apart =
         absurd (true≢false (sym (itself patch.path) ∙ subst (λ (rs : List Run). is_patched (patch_on (drain_with patch rs)) patch.path ≡ false) some apart))

@@ -1,5 +1,5 @@
 -- What a plan makes of a shard.
-use Rattle.std.specs.Prelude.{◌≡◌, ◌≢◌, ◌↔◌, ◌<◌, ◌-◌, ◌^◌, true, ℕ, ℤ, List, [], All, length, not, slice_get, Option, None, Some, IfSome, IsSome, IsSomeAnd}
+use Rattle.std.specs.Prelude.{◌≡◌, ◌≢◌, ◌↔◌, ◌<◌, ◌-◌, ◌^◌, ◌&&◌, true, false, ℕ, ℤ, List, [], All, length, not, slice_get, Option, None, Some, IfSome, IsSome, IsSomeAnd}
 use Rattle.std.specs.Map.{remove_entry}
 use Rattle.std.specs.Str.{bytes_eq}
 use Rattle.outside_io.specs.Image.{Image}
@@ -8,9 +8,10 @@ use Rattle.metric_path.specs.FileName.{file_name_of}
 use Rattle.ring_format.specs.Layout.{layout_fault}
 use Rattle.ring_format.specs.Patch.{PatchValue}
 use Rattle.fixed_num.specs.Moment.{is_moment}
-use Rattle.ring_archive.specs.Ring.{IsRingFile, OnFile, ReadsAs, Rings, UnderPatch}
-use Rattle.archive_update.specs.Batch.{batch, archive_for}
+use Rattle.ring_archive.specs.Ring.{IsRingFileIn, OnFile, ReadsAs, Rings, UnderPatch}
+use Rattle.archive_update.specs.Batch.{batch, HaveNoHome}
 use Rattle.metric_index.specs.Index.{entry_of}
+use Rattle.metric_table.specs.Table.{kept_version}
 use Rattle.metric_table.specs.declared.known.Known.{Known}
 use Rattle.point_cache.specs.Points.{IsRising}
 use Rattle.point_cache.specs.Pending.{Cache, points_of}
@@ -22,7 +23,7 @@ use Rattle.carbon_model.specs.State.{State, picked}
 use Rattle.carbon_model.specs.Replay.{drained}
 use Rattle.shard_core.specs.Halves.{AreHalves, DeskInside, FilesInside, both}
 use Rattle.shard_core.specs.Shard.{Holds, Inside, Stays}
-use Rattle.shard_core.specs.Table.{Table, kept_layout}
+use Rattle.shard_core.specs.Table.{Table, kept_form}
 use Rattle.shard_core.specs.declared.planned.Planned.{Planned}
 use Rattle.shard_core.specs.declared.planned.Planned.TheVariants.{Took, Busy, Idle, DiskFault, NoMemory}
 
@@ -33,12 +34,12 @@ Drains old new path now =
     (told : Option Image) (s : State) → Holds told old s
     → (picked s old.class ≡ Some path) × Holds told new (drained s path now)
 
--- no cell is to be written: something is kept of the metric, and each pending point is older than
--- all that its archives reach back
+-- no cell is to be written: something is kept of the metric in version 2, and each pending point is
+-- older than all that its archives reach back
 abbrev pub NeedsNoWrite : Inside → List ℕ → ℕ → Type 0
 NeedsNoWrite shard path now =
-    IsSomeAnd (kept_layout shard.table path)
-    (λ layout. All (λ p. archive_for layout.archives now p.0 ≡ None) (points_of shard.cache.metrics path))
+    IsSomeAnd (kept_form shard.table path)
+    (λ form. (form.0 ≡ 2) × HaveNoHome form.1.archives now (points_of shard.cache.metrics path))
 
 -- a drain of a metric with all its runs left to write
 pub record IsUnwritten (path : List ℕ) (drain : DrainValue) : Type 0 where
@@ -104,18 +105,21 @@ pub record IsDrainable (table : Table) (path : List ℕ) (known : Known) : Type 
 pub record MayPlan (known : Known) (image : Option Image) (path : List ℕ) (points : List (ℕ × ℤ)) : Type 0 where
   pub rising : IsRising points
   pub moments : All (λ p. is_moment p.0 ≡ true) points
-  pub file : known.is_kept ≡ true → OnFile image (file_name_of path) (IsRingFile known.layout)
+  pub file : IfSome (kept_version known)
+      (λ version. OnFile image (file_name_of path) (IsRingFileIn version known.layout))
 
 -- The patch makes the batch of these points of a metric of which this is known, over whatever its
--- file reads as. It is fresh where nothing is kept of the metric.
+-- file reads as. It is fresh where nothing is kept of the metric in version 2; then it has what the
+-- file had.
 pub record PlansFor (known : Known) (image : Option Image) (path : List ℕ) (points : List (ℕ × ℤ)) (now : ℕ) (patch : PatchValue) : Type 0 where
   pub own : patch.path ≡ path
   pub layout : patch.layout ≡ known.layout
-  pub fresh : patch.fresh ≡ not known.is_kept
-  pub batch : UnderPatch patch.fresh image (file_name_of path) (λ file. (rings : Rings)
-      → ReadsAs (record { path = path; layout = patch.layout; fresh = patch.fresh; cells = [] }) file rings
+  pub fresh : patch.fresh ≡ not (known.is_kept && not known.is_old)
+  pub batch : UnderPatch (not known.is_kept) image (file_name_of path) (λ file. (rings : Rings)
+      → ReadsAs (record { path = path; layout = patch.layout; fresh = not known.is_kept; cells = [] })
+      file rings
       → ReadsAs patch file (batch patch.layout now points rings))
-  pub cells : (patch.cells ≡ []) ↔ All (λ p. archive_for patch.layout.archives now p.0 ≡ None) points
+  pub cells : patch.fresh ≡ false → (patch.cells ≡ []) ↔ HaveNoHome patch.layout.archives now points
 
 -- the same of the pending points of a metric, which was not drained too often
 pub record MakesBatch (shard : Inside) (path : List ℕ) (now : ℕ) (patch : PatchValue) : Type 0 where

@@ -1,5 +1,5 @@
 -- What is read of a metric that was looked at.
-use Rattle.std.specs.Prelude.{◌≡◌, ◌≢◌, Bool, ℕ, ℤ, List, length, Option, None, Some, IfSome, IsSomeAnd, Result, Ok, Err, option_and_then, if◌then◌else◌}
+use Rattle.std.specs.Prelude.{◌≡◌, ◌≢◌, ℕ, ℤ, List, length, Option, None, Some, IfSome, IsSomeAnd, Result, Ok, Err, option_and_then, if◌then◌else◌}
 use Rattle.std.specs.Str.{bytes_eq}
 use Rattle.outside_io.specs.Image.{Image}
 use Rattle.ring_format.specs.Layout.{LayoutValue}
@@ -11,10 +11,11 @@ use Rattle.series_fetch.specs.Window.{HasBuckets}
 use Rattle.series_fetch.specs.Shown.{shown}
 use Rattle.carbon_model.specs.State.{State, no_rings, rings_of}
 use Rattle.metric_index.specs.Index.{entry_of}
+use Rattle.metric_table.specs.Table.{kept_version}
 use Rattle.shard_core.specs.Halves.{AreHalves, DeskInside, FilesInside, both}
 use Rattle.shard_core.specs.Looks.{MayRead}
 use Rattle.shard_core.specs.Shard.{Holds, Inside, patch_on}
-use Rattle.shard_core.specs.Table.{Table, drains_in, kept_layout}
+use Rattle.shard_core.specs.Table.{Table, drains_in, kept_form}
 use Rattle.shard_core.specs.declared.looked.Looked.{Looked}
 use Rattle.shard_core.specs.declared.looked.LookFault.{LookFault}
 use Rattle.shard_core.specs.declared.looked.LookFault.TheVariants.{Moved, DiskFault, NoMemory}
@@ -36,7 +37,7 @@ pub record ShowsPending (layout : LayoutValue) (pending : List (ℕ × ℤ)) (wi
 -- nothing they are over some archives.
 pub record Shows (shard : Inside) (looked : Looked) (values : List (Option ℤ)) : Type 0 where
   pub pending : ShowsPending looked.layout looked.pending looked.window values
-  pub bare : kept_layout shard.table looked.path ≡ None
+  pub bare : kept_form shard.table looked.path ≡ None
       → values ≡ shown looked.layout no_rings looked.pending looked.window
   pub kept : (told : Option Image) (s : State) → Holds told shard s → IfSome told (λ opening.
       values ≡ shown looked.layout (rings_of (s.kept looked.path)) looked.pending looked.window)
@@ -52,19 +53,19 @@ ReadsTo shard looked (Err NoMemory) = drains_in shard.table looked.path ≡ look
 
 -- ---- the files alone
 
--- something is kept of a metric, or not
-abbrev pub IsKept : Table → List ℕ → Bool → Type 0
-IsKept table path is_kept = IsSomeAnd (entry_of table path) (λ known. known.is_kept ≡ is_kept)
+-- what is kept of a metric is of this version, or nothing is
+abbrev pub IsKept : Table → List ℕ → Option ℕ → Type 0
+IsKept table path version = IsSomeAnd (entry_of table path) (λ known. kept_version known ≡ version)
 
 -- files may be read for what was looked at of a metric, of which their desk says whether something is
 -- kept
 pub record MayFetch (desk : DeskInside) (files : FilesInside) (looked : Looked)
-    (is_kept : Bool) : Type 0 where
+    (version : Option ℕ) : Type 0 where
   pub halves : AreHalves desk files
   pub may : MayRead (both desk files) looked
-  pub kept : IsKept desk.table looked.path is_kept
+  pub kept : IsKept desk.table looked.path version
 
 -- the same, whichever their desk is
-pub record MayBeFetched (files : FilesInside) (looked : Looked) (is_kept : Bool) : Type 0 where
+pub record MayBeFetched (files : FilesInside) (looked : Looked) (version : Option ℕ) : Type 0 where
   pub desk : DeskInside
-  pub may : MayFetch desk files looked is_kept
+  pub may : MayFetch desk files looked version

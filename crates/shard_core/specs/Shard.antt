@@ -7,17 +7,17 @@ use Rattle.metric_path.specs.FileName.{file_name_of}
 use Rattle.fixed_num.specs.Moment.{is_moment}
 use Rattle.ring_format.specs.Layout.{LayoutValue, layout_fault}
 use Rattle.ring_format.specs.Patch.{PatchValue}
-use Rattle.ring_archive.specs.Ring.{IsRingFile}
+use Rattle.ring_archive.specs.Ring.{IsRingFile, IsRingFileIn}
 use Rattle.ring_writer.specs.PartWritten.{Awaits}
 use Rattle.metric_index.specs.Index.{entry_of}
 use Rattle.write_shelf.specs.Shelf.{DrainValue}
-use Rattle.carbon_model.specs.State.{Kept, Metrics, State}
+use Rattle.carbon_model.specs.State.{Kept, Metrics, State, form_of}
 use Rattle.carbon_model.specs.RingFiles.{IsOfClass, StandsUnder, is_patched}
 use Rattle.drain_order.specs.Picking.{Picking}
 use Rattle.point_cache.specs.Pending.{Cache}
 use Rattle.schema_rules.specs.LayoutBy.{layout_by}
 use Rattle.schema_rules.specs.RulesOf.{RulesValue}
-use Rattle.shard_core.specs.Table.{Table, drains_in, kept_layout}
+use Rattle.shard_core.specs.Table.{Table, drains_in, kept_form}
 
 -- pending metrics have legal paths of the class, and their points legal moments
 abbrev pub AreOfClass : ℕ → Metrics → Type 0
@@ -30,22 +30,24 @@ AreOfClass class metrics =
 abbrev pub patch_on : Option DrainValue → Option PatchValue
 patch_on shelf = option_map (λ drain. drain.patch) shelf
 
--- a ring file of a lawful layout
-abbrev pub IsLawfulRing : LayoutValue → List ℕ → Type 0
-IsLawfulRing layout file = (layout_fault layout.archives layout.factor ≡ None) × IsRingFile layout file
+-- a ring file of a version and a lawful layout
+abbrev pub IsLawfulRing : ℕ → LayoutValue → List ℕ → Type 0
+IsLawfulRing version layout file =
+    (layout_fault layout.archives layout.factor ≡ None) × IsRingFileIn version layout file
 
--- each kept metric of the class, but that of the patch, has a ring file of its layout, where the
--- disk tells its image
+-- each kept metric of the class, but that of the patch, has a ring file of its version and layout,
+-- where the disk tells its image
 abbrev pub HasFiles : ℕ → Table → Option PatchValue → Option Image → Type 0
 HasFiles class table patch known =
     IfSome known (λ image. (path : List ℕ) → path_fault path ≡ None → class_of path ≡ class → is_patched patch path ≡ false
-    → IfSome (kept_layout table path) (λ layout. IsSomeAnd (image (file_name_of path)) (IsLawfulRing layout)))
+    → IfSome (kept_form table path)
+    (λ form. IsSomeAnd (image (file_name_of path)) (IsLawfulRing form.0 form.1)))
 
--- the patch is of a kept metric of the class, and in its layout
+-- the patch is of a kept metric of the class, of version 2, and in its layout
 pub record IsOfKept (class : ℕ) (table : Table) (patch : PatchValue) : Type 0 where
   pub legal : path_fault patch.path ≡ None
   pub here : class_of patch.path ≡ class
-  pub kept : kept_layout table patch.path ≡ Some patch.layout
+  pub kept : kept_form table patch.path ≡ Some (2, patch.layout)
   pub lawful : layout_fault patch.layout.archives patch.layout.factor ≡ None
 
 -- the file of the patch is as far written as the runs that are left need, and where it was not
@@ -62,10 +64,11 @@ HoldsShelf class table shelf known =
 -- ---- the state
 
 -- The table, the patch and the disk of a class stand for what is kept, where the disk told this
--- image at the opening. A disk that does not tell its image says nothing of values; the layouts are
--- still those of what is kept.
+-- image at the opening. A disk that does not tell its image says nothing of values; the versions and
+-- the layouts are still those of what is kept.
 pub record HoldsKept (told : Option Image) (class : ℕ) (table : Table) (patch : Option PatchValue) (known : Option Image) (kept : List ℕ → Option Kept) : Type 0 where
-  pub layouts : (path : List ℕ) → IsOfClass class path → kept_layout table path ≡ option_map (λ k. k.layout) (kept path)
+  pub layouts : (path : List ℕ) → IsOfClass class path
+      → kept_form table path ≡ option_map form_of (kept path)
   pub files : WhereKnown told known (λ opening now. StandsUnder opening now patch kept class)
 
 -- What a shard holds, as contracts see it: its class, the rules, the pending points, which of them

@@ -4,10 +4,10 @@ use Rattle.outside_io.specs.Image.{Image}
 use Rattle.outside_io.specs.declared.disk.Disk.{Ghosts}
 use Rattle.schema_rules.specs.LayoutBy.{layout_by}
 use Rattle.carbon_model.specs.RingFiles.{IsOfClass, Settings}
-use Rattle.carbon_model.specs.State.{Kept, State}
+use Rattle.carbon_model.specs.State.{Kept, State, form_of}
 use Rattle.shard_core.specs.Opened.{IsOpened, Opens}
 use Rattle.shard_core.specs.Shard.{Holds}
-use Rattle.shard_core.specs.Table.{Table, kept_layout}
+use Rattle.shard_core.specs.Table.{Table, kept_form}
 use Rattle.shard_core.specs.View.{inside_of}
 use Rattle.shard_core.specs.declared.shard.Shard.{Shard}
 
@@ -25,12 +25,12 @@ pub record StartedFrom {D : Type 0} {d : Ghosts D} (class : ℕ) (settings : Set
   pub opened : IsOpened class shard.desk.table
   pub later : d.faults disk ≤ d.faults shard.files.disk
 
--- Where a disk does not tell its image, what is kept of the paths of its class has the layouts that
--- the shard read of their files. Where it does, this follows.
+-- Where a disk does not tell its image, what is kept of the paths of its class has the versions and
+-- the layouts that the shard read of their files. Where it does, this follows.
 abbrev pub KeepsLaidOut : ℕ → Option Image → Table → (List ℕ → Option Kept) → Type 0
 KeepsLaidOut class None table kept =
     (path : List ℕ) → IsOfClass class path
-    → kept_layout table path ≡ option_map (λ k. k.layout) (kept path)
+    → kept_form table path ≡ option_map form_of (kept path)
 KeepsLaidOut class (Some image) table kept = Unit {0}
 
 -- The shard of this class stands for the part that the class has of a state, and writes no drain.

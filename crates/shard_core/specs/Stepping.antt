@@ -33,6 +33,7 @@ pub record GoesNext (desk : DeskInside) (metric : NextMetric) : Type 0 where
   pub points : metric.points ≡ points_of desk.cache.metrics metric.path
   pub drainable : IsDrainable desk.table metric.path metric.known
   pub some : desk.cache.metrics ≢ []
+  pub has : 0 < length metric.points
   pub may : (files : FilesInside) → AreHalves desk files → files.shelf ≡ None
       → MayPlan metric.known files.known metric.path metric.points
 

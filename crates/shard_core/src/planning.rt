@@ -1,20 +1,24 @@
 //! Plans of drains.
-ghost use Rattle.std.specs.Prelude.{◌≡◌, IfOk, IsErrOf, option_map, string_bytes};
+ghost use Rattle.std.specs.Prelude.{◌≡◌, ◌≢◌, false, IfOk, IsErrOf, Ok, Some, option_map, string_bytes};
 ghost use Rattle.outside_io.specs.Frames.{ReadsOnly};
 ghost use Rattle.metric_path.specs.FileName.{file_name_of};
+ghost use Rattle.ring_archive.specs.Ring.{OnFile};
+ghost use Rattle.ring_archive.specs.View.{IsThere};
+ghost use Rattle.archive_update.specs.Carried.{Carries, IsBlank};
+ghost use Rattle.archive_update.specs.Laid.{IsAlike};
 ghost use Rattle.shard_core.specs.Plans.{MayPlan, PlansFor};
 ghost use Rattle.shard_core.specs.Props.{shelf_props};
 
 use crate::desk::Desk;
 use crate::files::Files;
 use crate::planned::Planned;
-use archive_update::plan;
+use archive_update::{carry, plan};
 use fixed_num::Milli;
 use metric_path::MetricPath;
 use metric_table::Known;
 use outside_io::Disk;
 use ring_archive::{RingFault, RingView};
-use ring_format::Patch;
+use ring_format::{OLD_VERSION, Patch, VERSION};
 use std::alloc::{AllocError, Global};
 use write_shelf::Shelf;
 
@@ -201,10 +205,38 @@ fn plan_drain<D: Disk>(
     ensures frame { ReadsOnly D.Disk disk.old disk.new (IsErrOf result RingFault.DiskFault) }
 {
     let name = path.file_name()?;
-    let view = RingView::new(&name, known.layout);
-    let patch = Patch::new(alloc, path.copy()?, known.layout, !known.is_kept);
+    let version = known.kept_version();
+    let view = RingView::new(&name, known.layout, version.unwrap_or(VERSION));
+    let patch = Patch::new(alloc, path.copy()?, known.layout, version != Some(VERSION));
+    let patch = carried(alloc, &view, disk, patch, version)?;
     match plan(alloc, &view, disk, patch, points, now) {
         Ok(patch) => Ok(NextDrain { name, patch, now }),
+        Err((_, fault)) => Err(fault),
+    }
+}
+
+// The patch that a plan begins with: a file of version 1 is carried into it, to be written anew.
+fn carried<D: Disk>(
+    alloc: Global,
+    view: &RingView<'_>,
+    disk: &mut D,
+    patch: Patch,
+    version: Option<u32>,
+) -> Result<Patch, RingFault>
+    requires patch { version ≡ Some OLD_VERSION → IsBlank view.now.layout patch }
+    requires version { version ≡ Some OLD_VERSION → view.now.version ≡ OLD_VERSION }
+    requires file { version ≡ Some OLD_VERSION → IsThere view.now false (D.image disk.old) }
+    ensures carries { IfOk result (λ new. version ≡ Some OLD_VERSION
+        → OnFile (D.image disk.old) view.now.name.now (Carries patch new)) }
+    ensures others { version ≢ Some OLD_VERSION → result ≡ Ok patch }
+    ensures alike { IfOk result (IsAlike patch) }
+    ensures frame { ReadsOnly D.Disk disk.old disk.new (IsErrOf result RingFault.DiskFault) }
+{
+    if version != Some(OLD_VERSION) {
+        return Ok(patch);
+    }
+    match carry(alloc, view, disk, patch) {
+        Ok(patch) => Ok(patch),
         Err((_, fault)) => Err(fault),
     }
 }

@@ -109,9 +109,9 @@ fn list_metric(
     path: &MetricPath,
 ) -> Result<(), AllocError>
     ensures ok { OnOk result (Sets table.old table.new path.now
-        (Some (undrained (layout_by rules.now path.now) false))) }
+        (Some (undrained (layout_by rules.now path.now) false false))) }
     ensures err { OnErr result (table.new ≡ table.old) }
 {
     let layout = rules.layout_of(alloc, path)?;
-    table.insert(path.copy()?, layout, false)
+    table.insert(path.copy()?, layout, false, false)
 }

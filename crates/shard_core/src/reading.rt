@@ -3,7 +3,8 @@ ghost use Rattle.std.specs.Prelude.{◌≡◌, ℕ, true, false, All, IfOk, IsEr
 ghost use Rattle.outside_io.specs.Frames.{ReadsOnly};
 ghost use Rattle.metric_path.specs.FileName.{file_name_of};
 ghost use Rattle.fixed_num.specs.Moment.{is_moment};
-ghost use Rattle.ring_archive.specs.Ring.{IsRingFile, OnFile, ReadsAs, Rings, UnderPatch};
+ghost use Rattle.ring_format.specs.Cell.{IsVersion};
+ghost use Rattle.ring_archive.specs.Ring.{IsRingFileIn, OnFile, ReadsAs, Rings, UnderPatch};
 ghost use Rattle.series_fetch.specs.Shown.{shown};
 ghost use Rattle.series_fetch.specs.Window.{IsWindow};
 ghost use Rattle.shard_core.specs.Reads.{ShowsPending, patch_for};
@@ -16,7 +17,7 @@ use fixed_num::Milli;
 use metric_path::MetricPath;
 use outside_io::Disk;
 use ring_archive::{RingFault, RingView};
-use ring_format::Patch;
+use ring_format::{Patch, VERSION};
 use series_fetch::fetch;
 use std::alloc::Global;
 use write_shelf::Shelf;
@@ -27,13 +28,13 @@ impl Desk {
     ghost use Rattle.shard_core.specs.Reads.{IsKept};
     ghost use Rattle.shard_core.specs.Table.{drains_in};
 
-    /// Whether something is kept of a metric that was looked at. At `Err` it was drained since, and
-    /// so often in all.
-    pub fn recall(&self, looked: &Looked) -> Result<bool, u64>
+    /// The version of what is kept of a metric that was looked at, `None` where nothing is. At
+    /// `Err` it was drained since, and so often in all.
+    pub fn recall(&self, looked: &Looked) -> Result<Option<u32>, u64>
         requires { IsSomeAnd (entry_of self.now.table looked.now.path)
             (λ known. known.layout ≡ looked.now.layout) }
         ensures same { IfOk result
-            (λ is_kept. drains_in self.now.table looked.now.path ≡ looked.now.drains) }
+            (λ _. drains_in self.now.table looked.now.path ≡ looked.now.drains) }
         ensures kept { IfOk result (IsKept self.now.table looked.now.path) }
         ensures moved { IfErr result
             (λ drains. (drains_in self.now.table looked.now.path ≡ drains)
@@ -45,7 +46,7 @@ impl Desk {
         if known.drains != looked.drains {
             return Err(known.drains);
         }
-        Ok(known.is_kept)
+        Ok(known.kept_version())
     }
 }
 
@@ -54,23 +55,23 @@ impl<D: Disk> Files<D> {
     ghost use Rattle.outside_io.specs.Frames.{ReadsOnly};
     ghost use Rattle.shard_core.specs.Halves.{DeskInside, both, files_of};
     ghost use Rattle.shard_core.specs.Reads.{MayBeFetched, MayFetch, Shows};
-    ghost use Rattle.shard_core.specs.Table.{kept_layout};
+    ghost use Rattle.shard_core.specs.Table.{kept_form};
 
-    /// The values of a metric that was looked at, of which the desk says whether something is kept:
+    /// The values of a metric that was looked at, of which the desk says what is kept:
     /// the looked points over what is kept, which is its file, read through the patch that is being
     /// written where that is the metric's. A metric of which nothing is kept reads no disk.
-    pub fn fetch_looked(&mut self, looked: &Looked, is_kept: bool) -> Result<Values, RingFault>
-        requires { MayBeFetched (files_of self.old) looked.now is_kept }
+    pub fn fetch_looked(&mut self, looked: &Looked, kept: Option<u32>) -> Result<Values, RingFault>
+        requires { MayBeFetched (files_of self.old) looked.now kept }
         ensures shows { IfOk result (λ values. (desk : DeskInside)
-            → MayFetch desk (files_of self.old) looked.now is_kept
+            → MayFetch desk (files_of self.old) looked.now kept
             → Shows (both desk (files_of self.old)) looked.now values) }
-        ensures unread { (desk : DeskInside) → MayFetch desk (files_of self.old) looked.now is_kept
-            → kept_layout desk.table looked.now.path ≡ None → self.new.disk ≡ self.old.disk }
+        ensures unread { (desk : DeskInside) → MayFetch desk (files_of self.old) looked.now kept
+            → kept_form desk.table looked.now.path ≡ None → self.new.disk ≡ self.old.disk }
         ensures same { files_of self.new ≡ files_of self.old }
         ensures frame { ReadsOnly D.Disk self.old.disk self.new.disk
             (IsErrOf result RingFault.DiskFault) }
     {
-        match self.fetch_values(looked, is_kept) {
+        match self.fetch_values(looked, kept) {
             Ok(values) => Ok(Values::new(values)),
             Err(fault) => Err(fault),
         }
@@ -80,14 +81,14 @@ impl<D: Disk> Files<D> {
     fn fetch_values(
         &mut self,
         looked: &Looked,
-        is_kept: bool,
+        kept: Option<u32>,
     ) -> Result<Vec<Option<Milli>>, RingFault>
-        requires { MayBeFetched (files_of self.old) looked.now is_kept }
+        requires { MayBeFetched (files_of self.old) looked.now kept }
         ensures shows { IfOk result (λ values. (desk : DeskInside)
-            → MayFetch desk (files_of self.old) looked.now is_kept
+            → MayFetch desk (files_of self.old) looked.now kept
             → Shows (both desk (files_of self.old)) looked.now values.items) }
-        ensures unread { (desk : DeskInside) → MayFetch desk (files_of self.old) looked.now is_kept
-            → kept_layout desk.table looked.now.path ≡ None → self.new.disk ≡ self.old.disk }
+        ensures unread { (desk : DeskInside) → MayFetch desk (files_of self.old) looked.now kept
+            → kept_form desk.table looked.now.path ≡ None → self.new.disk ≡ self.old.disk }
         ensures same { files_of self.new ≡ files_of self.old }
         ensures frame { ReadsOnly D.Disk self.old.disk self.new.disk
             (IsErrOf result RingFault.DiskFault) }
@@ -95,11 +96,12 @@ impl<D: Disk> Files<D> {
         // A path is legal.
         let _ = looked.path.text();
         match patch_for(&self.shelf, &looked.path) {
-            Some(patch) => fetch_under(self.alloc, &mut self.disk, patch, looked),
+            Some(patch) => fetch_under(self.alloc, &mut self.disk, patch, looked, VERSION),
             None => {
                 let path = looked.path.copy()?;
-                let patch = Patch::new(self.alloc, path, looked.layout, !is_kept);
-                fetch_under(self.alloc, &mut self.disk, &patch, looked)
+                let patch = Patch::new(self.alloc, path, looked.layout, kept.is_none());
+                let version = kept.unwrap_or(VERSION);
+                fetch_under(self.alloc, &mut self.disk, &patch, looked, version)
             }
         }
     }
@@ -122,13 +124,15 @@ fn fetch_under<D: Disk>(
     disk: &mut D,
     patch: &Patch,
     looked: &Looked,
+    version: u32,
 ) -> Result<Vec<Option<Milli>>, RingFault>
+    requires version { IsVersion version }
     requires layout { patch.now.layout ≡ looked.now.layout }
     requires window { IsWindow looked.now.layout looked.now.window }
     requires moments { All (λ p. is_moment p.0 ≡ true) looked.now.pending }
     requires file { patch.now.fresh ≡ false
         → OnFile (D.image disk.old) (file_name_of looked.now.path)
-        (IsRingFile looked.now.layout) }
+        (IsRingFileIn version looked.now.layout) }
     ensures pending { IfOk result
         (λ values. ShowsPending looked.now.layout looked.now.pending looked.now.window
         values.items) }
@@ -140,7 +144,7 @@ fn fetch_under<D: Disk>(
     ensures frame { ReadsOnly D.Disk disk.old disk.new (IsErrOf result RingFault.DiskFault) }
 {
     let name = looked.path.file_name()?;
-    let view = RingView::new(&name, looked.layout);
+    let view = RingView::new(&name, looked.layout, version);
     fetch(
         alloc,
         &view,

@@ -54,7 +54,7 @@ impl<D: Disk> Shard<D> {
     ghost use Rattle.shard_core.specs.Shard.{KeepsLayouts, Stays};
     ghost use Rattle.shard_core.specs.StartFaults.{NotStarted};
     ghost use Rattle.shard_core.specs.Started.{StartedFrom};
-    ghost use Rattle.shard_core.specs.Table.{kept_layout};
+    ghost use Rattle.shard_core.specs.Table.{kept_form};
     ghost use Rattle.shard_core.specs.View.{OnlyPuts, SameShard, inside_of};
     ghost use Rattle.shard_core.specs.Writes.{OnlyWrites, WritesTo};
 
@@ -272,16 +272,16 @@ impl<D: Disk> Shard<D> {
         requires { MayRead (inside_of self.old) looked.now }
         ensures reads { ReadsTo (inside_of self.old) looked.now result }
         ensures same { inside_of self.new ≡ inside_of self.old }
-        ensures unread { kept_layout (inside_of self.old).table looked.now.path ≡ None
+        ensures unread { kept_form (inside_of self.old).table looked.now.path ≡ None
             → self.new.files.disk ≡ self.old.files.disk }
         ensures frame { ReadsOnly D.Disk self.old.files.disk self.new.files.disk
             (IsErrOf result LookFault.DiskFault) }
     {
-        let is_kept = match self.desk.recall(looked) {
-            Ok(is_kept) => is_kept,
+        let kept = match self.desk.recall(looked) {
+            Ok(kept) => kept,
             Err(drains) => return Err(LookFault::Moved(drains)),
         };
-        match self.files.fetch_looked(looked, is_kept) {
+        match self.files.fetch_looked(looked, kept) {
             Ok(values) => Ok(values),
             Err(RingFault::DiskFault) => Err(LookFault::DiskFault),
             Err(RingFault::NoMemory) => Err(LookFault::NoMemory),

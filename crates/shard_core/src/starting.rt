@@ -12,22 +12,22 @@ use crate::fault::StartFault;
 use metric_path::MetricPath;
 use metric_table::MetricTable;
 use outside_io::{Disk, DiskFailed, NamesFault};
-use ring_format::{HEAD_BYTES, HeadFault, Layout, read_head};
+use ring_format::{HEAD_BYTES, HeadFault, Layout, OLD_VERSION, read_head};
 use std::alloc::Global;
 
 /// What the head of a file tells.
 #[derive(Clone, Copy)]
 pub(crate) enum FileHead {
-    /// A ring file of this layout.
-    Ring(Layout),
+    /// A ring file of this layout and version.
+    Ring(Layout, u32),
     /// A head of zero, which counts as no file.
     Zero,
     /// A head with a fault.
     Faulty,
 }
 
-/// The metrics of a class whose files lie on the disk: each is kept, in the layout of its file.
-/// Names that are no file name of a path of the class are left alone.
+/// The metrics of a class whose files lie on the disk: each is kept, in the layout and the version
+/// of its file. Names that are no file name of a path of the class are left alone.
 pub(crate) fn read_table<D: Disk>(
     alloc: Global,
     disk: &mut D,
@@ -87,7 +87,7 @@ fn table_of<D: Disk>(
     Ok(table)
 }
 
-// Notes the layout of the file of this name, where it is a path's of the class.
+// Notes the layout and the version of the file of this name, where it is a path's of the class.
 fn note_file<D: Disk>(
     alloc: Global,
     disk: &mut D,
@@ -137,7 +137,12 @@ fn note_head(
     ensures memory { IfErr result (λ fault. IsDiskFault fault → ⊥) }
 {
     match head {
-        FileHead::Ring(layout) => match table.insert(path, layout, true) {
+        FileHead::Ring(layout, version) => match table.insert(
+            path,
+            layout,
+            true,
+            version == OLD_VERSION,
+        ) {
             Ok(()) => Ok(()),
             Err(_) => Err(StartFault::NoMemory),
         },
@@ -178,7 +183,7 @@ fn classify_head(bytes: &[u8], size: u64) -> FileHead
         → TellsHead (Some file) result }
 {
     match read_head(bytes, size) {
-        Ok(layout) => FileHead::Ring(layout),
+        Ok(told) => FileHead::Ring(told.0, told.1),
         Err(fault) if is_zero(fault) => FileHead::Zero,
         Err(_) => FileHead::Faulty,
     }

@@ -188,6 +188,7 @@ fn is_same(one: &Known, other: &Known) -> bool
 {
     one.drains == other.drains
         && one.is_kept == other.is_kept
+        && one.is_old == other.is_old
         && is_same_layout(&one.layout, &other.layout)
 }
 

@@ -13,9 +13,9 @@ use Rattle.drain_order.specs.Picking.{Picking}
 use Rattle.point_cache.specs.Pending.{Cache}
 use Rattle.ring_format.specs.Layout.{LayoutValue}
 use Rattle.carbon_model.specs.RingFiles.{IsOfClass, Opens, Settings, kept_at, of_legal}
-use Rattle.carbon_model.specs.State.{Kept, State, no_rings}
+use Rattle.carbon_model.specs.State.{Kept, State, form_of, no_rings}
 use Rattle.shard_core.specs.Started.{KeepsLaidOut, StartedFrom}
-use Rattle.shard_core.specs.Table.{Table, kept_layout}
+use Rattle.shard_core.specs.Table.{Table, kept_form}
 use Rattle.shard_core.specs.declared.shard.Shard.{Shard}
 use Rattle.shard_core.proofs.LawLemmas.{started_holds}
 use Rattle.shard_set.specs.Disks.{faults_at, told_of}
@@ -53,14 +53,14 @@ kept_shown settings k None p path there started = absurd (there refl)
 kept_shown settings k (Some s) None path there started = absurd started
 kept_shown {d = d} settings k (Some s) (Some disk) path there started = shown_by (d.image disk) (d.image s.files.disk) s.desk.table path started.same
 
-layouts_kept : (o : Option LayoutValue) → option_map (λ (k : Kept). k.layout) (option_map (λ (layout : LayoutValue). record { layout = layout; rings = no_rings }) o) ≡ o
+layouts_kept : (o : Option (ℕ × LayoutValue)) → option_map form_of (option_map (λ (form : ℕ × LayoutValue). record { version = form.0; layout = form.1; rings = no_rings }) o) ≡ o
 layouts_kept None = refl
-layouts_kept (Some layout) = refl
+layouts_kept (Some form) = refl
 
--- where the disk does not tell its image, the layouts are those of the shard
+-- where the disk does not tell its image, the versions and the layouts are those of the shard
 laid_out : (class : ℕ) (told known : Option Image) (table : Table) (kept : List ℕ → Option Kept) → known ≡ told → ((path : List ℕ) → IsOfClass class path → kept path ≡ kept_from known table path) → KeepsLaidOut class told table kept
 laid_out class None known table kept same here = λ path one.
-    sym (ap (option_map (λ (k : Kept). k.layout)) (here path one ∙ ap (λ (o : Option Image). kept_from o table path) same) ∙ layouts_kept (kept_layout table path))
+    sym (ap (option_map form_of) (here path one ∙ ap (λ (o : Option Image). kept_from o table path) same) ∙ layouts_kept (kept_form table path))
 laid_out class (Some image) known table kept same here = tt
 
 -- ---- the settings

@@ -8,15 +8,15 @@ use Rattle.schema_rules.specs.LayoutBy.{layout_by}
 use Rattle.drain_order.specs.declared.strategy.Strategy.TheVariants.{Naive}
 use Rattle.carbon_model.specs.RingFiles.{Settings, kept_on, of_legal}
 use Rattle.carbon_model.specs.State.{Kept, State, no_rings}
-use Rattle.shard_core.specs.Table.{Table, kept_layout}
+use Rattle.shard_core.specs.Table.{Table, kept_form}
 use Rattle.shard_core.specs.declared.shard.Shard.{Shard}
 
 -- What is kept of a path: what the disk shows of it. Where the disk does not tell its image, it is
--- the layout that the shard read of the file, and no values.
+-- the version and the layout that the shard read of the file, and no values.
 abbrev pub kept_from : Option Image → Table → List ℕ → Option Kept
 kept_from (Some image) table path = kept_on image path
 kept_from None table path =
-    option_map (λ layout. record { layout = layout; rings = no_rings }) (kept_layout table path)
+    option_map (λ form. record { version = form.0; layout = form.1; rings = no_rings }) (kept_form table path)
 
 abbrev pub kept_by : {D : Type 0} {d : Ghosts D} → Shard D d → List ℕ → Option Kept
 kept_by {D} {d} shard path = kept_from (d.image shard.files.disk) shard.desk.table path

@@ -5,7 +5,7 @@ ghost use Rattle.shard_core.specs.View.{inside_of};
 
 use crate::shard_kit::{SOUND, file_of, read_rules};
 use drain_order::Strategy;
-use fixed_num::Milli;
+use fixed_num::{Milli, milli_of};
 use metric_line::{Datum, read_line};
 use outside_io::{Disk, MemDisk};
 use path_glob::Glob;
@@ -45,7 +45,7 @@ enum Act<'a> {
     // A glob finds these metrics, in a question from one moment until another, asked at `NOW`.
     Found(&'a [u8], u32, u32, &'a [&'static str]),
     // The values of the first metric that it finds, up to `NOW`.
-    Shown(&'a [u8], u32, &'a [Option<Milli>]),
+    Shown(&'a [u8], u32, &'a [Option<i64>]),
     // A metric is looked at, a drain is planned, and a read tells so many drains, if it has moved.
     Moved(&'a [u8], Option<u64>),
 }
@@ -149,16 +149,23 @@ fn shows<D: Disk>(
     shard: &mut Shard<D>,
     glob: &[u8],
     from: u32,
-    values: &[Option<Milli>],
+    values: &[Option<i64>],
 ) -> Result<bool, Fail> {
     let looked = look(alloc, shard, glob, from, NOW)?;
     let Some(one) = looked.first() else {
         return Err(Fail::new("the metric is found"));
     };
     match shard.read(one) {
-        Ok(read) => Ok(read.list() == values),
+        Ok(read) => Ok(are_values(read.list(), values)),
         Err(_fault) => Err(Fail::new("the metric is read")),
     }
+}
+
+// Whether these are the values of so many thousandths.
+fn are_values(values: &[Option<Milli>], thousandths: &[Option<i64>]) -> bool {
+    values.len() == thousandths.len()
+        && values.iter().zip(thousandths.iter()).all(|(value, number)| *value
+            == number.map(|thousandths| milli_of(thousandths)))
 }
 
 // What a read tells of the drains of a metric, where one is planned since it was looked at.

@@ -12,6 +12,7 @@ use Rattle.indexmap.specs.IndexMap.{insert_entry}
 use Rattle.outside_io.specs.Image.{Image}
 use Rattle.metric_path.specs.Class.{class_of}
 use Rattle.metric_index.specs.Index.{entry_of}
+use Rattle.metric_table.specs.Table.{kept_version}
 use Rattle.metric_table.specs.declared.known.Known.{Known}
 use Rattle.point_cache.specs.Points.{with_point}
 use Rattle.point_cache.specs.Pending.{Metrics, points_of, with_put}
@@ -22,7 +23,7 @@ use Rattle.carbon_history.specs.declared.entry.Entry.{Entry}
 use Rattle.carbon_history.specs.declared.entry.Entry.TheVariants.{Put, Drain, Ask, Fault}
 use Rattle.carbon_history.specs.declared.entry.PutEnd.TheVariants.{Stored, Replaced, Full}
 use Rattle.carbon_history.specs.Entries.{about_class}
-use Rattle.carbon_model.specs.State.{Kept, SamePart, State, layout_of, layout_or, points_in, rings_of}
+use Rattle.carbon_model.specs.State.{Kept, SamePart, State, form_of, layout_of, layout_or, points_in, rings_of}
 use Rattle.carbon_model.specs.Found.{IsKnown}
 use Rattle.carbon_model.specs.RingFiles.{IsOfClass}
 use Rattle.carbon_model.specs.Replay.{after, replay}
@@ -32,7 +33,7 @@ use Rattle.shard_core.specs.Halves.{DeskInside, FilesInside, both}
 use Rattle.shard_core.specs.Shard.{Holds}
 use Rattle.shard_core.specs.Looks.{MayRead}
 use Rattle.shard_core.specs.Reads.{IsKept, Shows}
-use Rattle.shard_core.specs.Table.{IsEntry, Lists, Table, drains_in, layout_kept}
+use Rattle.shard_core.specs.Table.{IsEntry, Lists, Table, drains_in, form_kept}
 use Rattle.shard_core.specs.declared.looked.Looked.{Looked}
 use Rattle.shard_core.proofs.FileLemmas.{same_text}
 use Rattle.shared_history.specs.Parts.{PassValue, TailValue}
@@ -252,22 +253,25 @@ drained_in s rest path apart = elim (since s rest path) [
 
 -- ---- the shard knows the metric
 
-knows_kept : (o : Option Known) (layout : LayoutValue) → layout_kept o ≡ Some layout → IsSomeAnd o (λ known. known.layout ≡ layout)
-knows_kept None layout is = absurd (cc is)
-knows_kept (Some known) layout is = by known.is_kept refl is
+knows_kept : (o : Option Known) (form : ℕ × LayoutValue) → form_kept o ≡ Some form → IsSomeAnd o (λ known. known.layout ≡ form.1)
+knows_kept None form is = absurd (cc is)
+knows_kept (Some known) form is = by (kept_version known) is
   where
-    same_some : (a b : LayoutValue) → Some a ≡ Some b → a ≡ b
+    same_some : (a b : ℕ × LayoutValue) → Some a ≡ Some b → a ≡ b
     same_some a b e = cc e
 
-    by : (b : Bool) → known.is_kept ≡ b → (if b then Some known.layout else None) ≡ Some layout → known.layout ≡ layout
-    by true kept e = same_some known.layout layout e
-    by false kept e = absurd (cc e)
+    by : (version : Option ℕ) → option_map (λ (v : ℕ). (v, known.layout)) version ≡ Some form → known.layout ≡ form.1
+    by None e = absurd (cc e)
+    by (Some version) e = ap (λ (f : ℕ × LayoutValue). f.1) (same_some (version, known.layout) form e)
 
-not_kept : (known : Known) (b : Bool) → known.is_kept ≡ b → (if b then Some known.layout else None) ≡ None → known.is_kept ≡ false
-not_kept known true is none = absurd (cc none)
+not_kept : (known : Known) (b : Bool) → known.is_kept ≡ b → form_kept (Some known) ≡ None → known.is_kept ≡ false
+not_kept known true is none = absurd (none_some (rw is at none))
+  where
+    none_some : {A : Type 0} {x : A} → Some x ≡ None → ⊥
+    none_some e = cc e
 not_kept known false is none = is
 
-knows_pending : (desk : DeskInside) (path : List ℕ) (o : Option Known) → IsSome o → layout_kept o ≡ None
+knows_pending : (desk : DeskInside) (path : List ℕ) (o : Option Known) → IsSome o → form_kept o ≡ None
     → IfSome o (IsEntry desk.class desk.rules desk.cache.metrics path) → IsSomeAnd o (λ known. known.layout ≡ layout_by desk.rules path)
 knows_pending desk path None some none entry = absurd (false≢true some)
 knows_pending desk path (Some known) some none entry = entry.given (not_kept known known.is_kept refl none)
@@ -293,20 +297,20 @@ knows_as desk s path lists holds one known = by (s.kept path) refl
     by : (o : Option Kept) → s.kept path ≡ o → HasAs desk.table path (layout_of s path)
     by (Some kept) is =
         subst (λ (layout : LayoutValue). HasAs desk.table path layout) (sym (ap (λ (o : Option Kept). layout_or (s.rules path) o) is))
-        (knows_kept (entry_of desk.table path) kept.layout (holds.layouts path one ∙ ap (λ (o : Option Kept). option_map (λ k. k.layout) o) is))
+        (knows_kept (entry_of desk.table path) (form_of kept) (holds.layouts path one ∙ ap (λ (o : Option Kept). option_map form_of o) is))
     by None is =
         let some = lists.pending path (subst (λ (ms : Metrics). points_of ms path ≢ []) metrics (has_points s path is known)) in
-        let none = holds.layouts path one ∙ ap (λ (o : Option Kept). option_map (λ k. k.layout) o) is in
+        let none = holds.layouts path one ∙ ap (λ (o : Option Kept). option_map form_of o) is in
         subst (λ (layout : LayoutValue). HasAs desk.table path layout) (sym (ap (λ (o : Option Kept). layout_or (s.rules path) o) is ∙ holds.rules path one.here))
         (knows_pending desk path (entry_of desk.table path) some none (lists.entries path))
 
 -- ---- nothing is kept of a metric
 
-bare_entry : (o : Option Known) → IsSomeAnd o (λ known. known.is_kept ≡ false) → layout_kept o ≡ None
+bare_entry : (o : Option Known) → IsSomeAnd o (λ known. kept_version known ≡ None) → form_kept o ≡ None
 bare_entry None is = absurd is
-bare_entry (Some known) is = rw is refl
+bare_entry (Some known) is = ap (λ (version : Option ℕ). option_map (λ (v : ℕ). (v, known.layout)) version) is
 
-no_layout : (o : Option Kept) → option_map (λ k. k.layout) o ≡ None → o ≡ None
+no_layout : (o : Option Kept) → option_map form_of o ≡ None → o ≡ None
 no_layout None none = refl
 no_layout (Some kept) none = absurd (cc none)
 
@@ -361,7 +365,7 @@ module _ (start : State) (desk : DeskInside) (tail : TailValue) (class : tail.cl
       ap (λ (s : State). s.drains path) (sym is_later) ∙ (sym drains_are ∙ (same ∙ look.drains)) in
       ap (λ (s : State). s.kept path) is_later ∙ (kept_still first begins.0 path as_before ∙ sym (alike.kept path here))
 
-  pub bare_at : drains_in desk.table path ≡ looked.drains → IsKept desk.table path false → (replay start old.seen).kept path ≡ None
+  pub bare_at : drains_in desk.table path ≡ looked.drains → IsKept desk.table path None → (replay start old.seen).kept path ≡ None
   bare_at same bare = sym (kept_at same) ∙ no_layout (later.kept path) (sym (holds.layouts path one) ∙ bare_entry (entry_of desk.table path) bare)
 
   pub shows_at : (told : ℕ → Option Image) (files : FilesInside) → Holds (told desk.class) (both desk files) later → (values : List (Option ℤ)) → drains_in desk.table path ≡ looked.drains
@@ -369,7 +373,7 @@ module _ (start : State) (desk : DeskInside) (tail : TailValue) (class : tail.cl
   shows_at told files stands values same shows =
       let kept : later.kept path ≡ (replay start old.seen).kept path = kept_at same in record {
         pending = shows.pending;
-        bare = λ none. shows.bare (holds.layouts path one ∙ ap (λ (o : Option Kept). option_map (λ k. k.layout) o) (kept ∙ none));
+        bare = λ none. shows.bare (holds.layouts path one ∙ ap (λ (o : Option Kept). option_map form_of o) (kept ∙ none));
         kept = subst (λ (k : ℕ). IfSome (told k) (λ opening. values ≡ shown looked.layout (rings_of ((replay start old.seen).kept path)) looked.pending looked.window)) (sym one.here)
             (subst (λ (o : Option Kept). IfSome (told desk.class) (λ opening. values ≡ shown looked.layout (rings_of o) looked.pending looked.window)) kept
             (shows.kept (told desk.class) later stands));

@@ -22,7 +22,7 @@ use Rattle.shared_store.specs.Desks.{KeepsClass, LastDrains, runs_ahead}
 use Rattle.shared_store.specs.Tallies.{capped, is_fault}
 use Rattle.class_halves.specs.declared.view.Stand.{Stand}
 use Rattle.class_halves.specs.Parts.{HalfValue, half_with, stand_of}
-use Rattle.shared_store.specs.Locks.{HasLayouts, KeepsDesk, KeepsFiles, OnlyPuts, is_late, layouts_of}
+use Rattle.shared_store.specs.Locks.{HasLayouts, KeepsDesk, KeepsFiles, OnlyPuts, is_late, forms_of}
 use Rattle.shared_store.proofs.FilesLemmas.{halves_move}
 use Rattle.shard_core.specs.Halves.{AreHalves, DeskInside, FilesInside, both}
 
@@ -161,8 +161,8 @@ desk_keeps table half_of told start earlier desk files failed half tail tied k =
   runs = refl;
 }
 
-layouts_are : (class : ℕ) (table : Table) (kept kept' : List ℕ → Option Kept) → kept' ≡ kept → HasLayouts class table (layouts_of kept) → HasLayouts class table (layouts_of kept')
-layouts_are class table kept kept' same has = subst (λ (k : List ℕ → Option Kept). HasLayouts class table (layouts_of k)) (sym same) has
+layouts_are : (class : ℕ) (table : Table) (kept kept' : List ℕ → Option Kept) → kept' ≡ kept → HasLayouts class table (forms_of kept) → HasLayouts class table (forms_of kept')
+layouts_are class table kept kept' same has = subst (λ (k : List ℕ → Option Kept). HasLayouts class table (forms_of k)) (sym same) has
 
 -- with the desk as it is now the files are the halves of one shard
 pub both_halves : (table : TableId) (half_of : ℕ → TableId) (told : ℕ → Option Image) (start : State) (earlier : ℕ → ℕ) (desk : DeskInside) (files : FilesInside) (failed : ℕ) (half other : HalfValue) (tail : TailValue)
@@ -172,8 +172,8 @@ pub both_halves : (table : TableId) (half_of : ℕ → TableId) (told : ℕ → 
 both_halves table half_of told start earlier desk files failed half other tail here met k f =
     let o : OnlyPuts other.stand.list tail.list = subst (λ (s : Stand). OnlyPuts s.list tail.list) (sym met) k.since in
     let kept = kept_now start other.stand tail.list o in
-    let now : HasLayouts files.class desk.table (layouts_of (replay start tail.list).kept) = record { each = λ path is. k.holds.layouts path (subst (λ (c : ℕ). IsOfClass c path) here is) } in
-    halves_move f.before desk files (layouts_of (replay start tail.list).kept)
+    let now : HasLayouts files.class desk.table (forms_of (replay start tail.list).kept) = record { each = λ path is. k.holds.layouts path (subst (λ (c : ℕ). IsOfClass c path) here is) } in
+    halves_move f.before desk files (forms_of (replay start tail.list).kept)
     (layouts_are files.class f.before.table (replay start other.stand.list).kept (replay start tail.list).kept kept f.layouts) now here f.halves
 
 pub files_keep : (table : TableId) (half_of : ℕ → TableId) (told : ℕ → Option Image) (start : State) (earlier : ℕ → ℕ) (desk : DeskInside) (files : FilesInside) (failed : ℕ) (half : HalfValue) (tail : TailValue)

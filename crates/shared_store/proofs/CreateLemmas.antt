@@ -1,7 +1,9 @@
--- The metric of a class that goes next and of which nothing is kept.
-use Rattle.std.proofs.Common.{◌≡◌, ◌∙◌, Bool, true, false, List, Option, None, IfSome, refl, sym, ap, subst}
-use Rattle.std.specs.Prelude.{not}
+-- The metric of a class that goes next and of which nothing is kept in version 2.
+use Rattle.std.proofs.Common.{◌≡◌, ◌∙◌, ℕ, Bool, true, false, List, length, Option, Some, None, IfSome, arith, refl, sym, ap, subst, option_map, if◌then◌else◌}
+use Rattle.std.specs.Prelude.{not, ◌||◌}
+use Rattle.std.specs.Option.{option_map_or}
 use Rattle.std.proofs.lemmas.Bool.{false≢true}
+use Rattle.std.proofs.lemmas.Option.{none-some}
 use Rattle.metric_path.specs.Path.{path_fault}
 use Rattle.metric_path.specs.Class.{class_of}
 use Rattle.metric_table.specs.declared.known.Known.{Known}
@@ -9,21 +11,29 @@ use Rattle.point_cache.specs.Pending.{points_of}
 use Rattle.drain_order.specs.Pick.{pick}
 use Rattle.carbon_history.specs.declared.entry.Entry.{Entry}
 use Rattle.carbon_history.specs.Entries.{about_class}
-use Rattle.carbon_model.specs.State.{Metrics, SamePart, State, points_in}
+use Rattle.ring_format.specs.Layout.{LayoutValue}
+use Rattle.carbon_model.specs.State.{Kept, Metrics, SamePart, State, form_of, points_in}
 use Rattle.carbon_model.specs.Replay.{replay}
 use Rattle.carbon_model.proofs.PartLemmas.{replay_alike, same_part}
 use Rattle.shared_history.specs.Parts.{TailValue}
 use Rattle.shard_core.specs.Halves.{DeskInside}
 use Rattle.shard_core.specs.Stepping.{GoesNext}
-use Rattle.shard_core.specs.Table.{IsEntry, Lists, layout_kept}
+use Rattle.shard_core.specs.Table.{IsEntry, Lists, form_kept}
 use Rattle.shard_core.specs.declared.next_metric.NextMetric.{NextMetric}
-use Rattle.shard_core.proofs.BeginLemmas.{kept_none, no_layout}
 use Rattle.shared_store.specs.Locks.{HoldsDesk}
 use Rattle.shared_store.specs.Steps.{MakesFileNext}
 
-is_not : (b : Bool) → not b ≡ true → b ≡ false
-is_not true is = absurd (false≢true is)
-is_not false is = refl
+-- what is kept of a metric with such flags is of version 1
+kept_old : (is_kept is_old : Bool) (layout : LayoutValue) (kept : Kept) → (not is_kept || is_old) ≡ true
+    → option_map (λ version. (version, layout)) (if is_kept then Some (if is_old then 1 else 2) else None) ≡ Some (form_of kept) → kept.version ≡ 1
+kept_old false old layout kept is e = absurd (none-some (form_of kept) e)
+kept_old true true layout kept is e = sym (ap (λ (o : Option (ℕ × LayoutValue)). option_map_or (λ form. form.0) o 1) e)
+kept_old true false layout kept is e = absurd (false≢true is)
+
+made_anew : (known : Known) (kept : Option Kept) → (not known.is_kept || known.is_old) ≡ true → form_kept (Some known) ≡ option_map form_of kept
+    → IfSome kept (λ k. k.version ≡ 1)
+made_anew known None is e = tt
+made_anew known (Some kept) is e = kept_old known.is_kept known.is_old known.layout kept is e
 
 -- a desk stands for the state after a history, of which its tail has the part about its class
 module _ (start : State) (desk : DeskInside) (tail : TailValue) (seen : List Entry)
@@ -42,9 +52,8 @@ module _ (start : State) (desk : DeskInside) (tail : TailValue) (seen : List Ent
   strategy_as = holds.strategy ∙ sym alike.strategy
 
   pub makes_file : (metric : NextMetric) → Lists desk.class desk.rules desk.cache.metrics desk.table → path_fault metric.path ≡ None → GoesNext desk metric
-      → not metric.known.is_kept ≡ true → MakesFileNext (replay start seen) tail.class
+      → (not metric.known.is_kept || metric.known.is_old) ≡ true → MakesFileNext (replay start seen) tail.class
   makes_file metric lists legal goes is =
-      let fresh : metric.known.is_kept ≡ false = is_not metric.known.is_kept is in
       let known : IsEntry desk.class desk.rules desk.cache.metrics metric.path metric.known =
       subst (λ (o : Option Known). IfSome o (IsEntry desk.class desk.rules desk.cache.metrics metric.path)) goes.drainable.there (lists.entries metric.path) in
       let here : class_of metric.path ≡ tail.class = known.here ∙ sym keeps in
@@ -54,8 +63,11 @@ module _ (start : State) (desk : DeskInside) (tail : TailValue) (seen : List Ent
         path = metric.path;
         here = here;
         next = sym (λ i. pick (strategy_as i) (queue_as i) (pending_as i)) ∙ goes.picked;
-        some = λ none. known.pending fresh (points ∙ none);
-        none = alike.kept metric.path here
-            ∙ no_layout ((replay start tail.list).kept metric.path)
-            (sym (kept_none metric.known fresh) ∙ (ap layout_kept (sym goes.drainable.there) ∙ holds.layouts metric.path (record { legal = legal; here = known.here })));
+        some = λ none.
+            let has = goes.has in
+            let empty : length metric.points ≡ 0 = ap length (goes.points ∙ points ∙ none) in
+            absurd (omega (arith, has, empty));
+        anew = subst (λ (o : Option Kept). IfSome o (λ k. k.version ≡ 1)) (sym (alike.kept metric.path here))
+            (made_anew metric.known ((replay start tail.list).kept metric.path) is
+            (ap form_kept (sym goes.drainable.there) ∙ holds.layouts metric.path (record { legal = legal; here = known.here })));
       }

@@ -13,12 +13,12 @@ use Rattle.shard_core.specs.Table.{Table}
 use Rattle.shared_store.specs.Locks.{HasLayouts}
 
 -- of two tables that have the layouts of what is kept, one serves as the other
-module _ (class : ℕ) (before table : Table) (layouts : List ℕ → Option LayoutValue) (then : HasLayouts class before layouts) (now : HasLayouts class table layouts) where
+module _ (class : ℕ) (before table : Table) (layouts : List ℕ → Option (ℕ × LayoutValue)) (then : HasLayouts class before layouts) (now : HasLayouts class table layouts) where
   files_move : (patch : Option PatchValue) (known : Option Image) → HasFiles class before patch known → HasFiles class table patch known
   files_move patch None has = tt
   files_move patch (Some image) has = λ path legal here free.
       let is : IsOfClass class path = record { legal = legal; here = here } in
-      subst (λ (o : Option LayoutValue). IfSome o (λ layout. IsSomeAnd (image (file_name_of path)) (IsLawfulRing layout))) (then.each path is ∙ sym (now.each path is)) (has path legal here free)
+      subst (λ (o : Option (ℕ × LayoutValue)). IfSome o (λ form. IsSomeAnd (image (file_name_of path)) (IsLawfulRing form.0 form.1))) (then.each path is ∙ sym (now.each path is)) (has path legal here free)
 
   shelf_moves : (shelf : Option DrainValue) (known : Option Image) → HoldsShelf class before shelf known → HoldsShelf class table shelf known
   shelf_moves None known has = tt
@@ -28,7 +28,7 @@ module _ (class : ℕ) (before table : Table) (layouts : List ℕ → Option Lay
         has.1,
       )
 
-pub halves_move : (before desk : DeskInside) (files : FilesInside) (layouts : List ℕ → Option LayoutValue) → HasLayouts files.class before.table layouts → HasLayouts files.class desk.table layouts
+pub halves_move : (before desk : DeskInside) (files : FilesInside) (layouts : List ℕ → Option (ℕ × LayoutValue)) → HasLayouts files.class before.table layouts → HasLayouts files.class desk.table layouts
     → files.class ≡ desk.class → AreHalves before files → AreHalves desk files
 halves_move before desk files layouts then now here are =
     let rings = subst (λ (k : ℕ). HasFiles k before.table (patch_on files.shelf) files.known) (sym are.one) are.rings in

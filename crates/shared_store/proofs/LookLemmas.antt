@@ -7,7 +7,7 @@ use Rattle.std.proofs.lemmas.Bool.Decides.{eqb_tells}
 use mathlib.Core.List.{IsPrefix}
 use Rattle.metric_path.specs.Path.{path_fault}
 use Rattle.metric_path.specs.Class.{class_of}
-use Rattle.archive_update.specs.Batch.{archive_for}
+use Rattle.archive_update.specs.Batch.{HaveNoHome}
 use Rattle.ring_format.specs.Layout.{LayoutValue}
 use Rattle.outside_io.specs.Image.{Image}
 use Rattle.atomic_table.specs.Seated.{TableId}
@@ -17,14 +17,14 @@ use Rattle.carbon_history.specs.declared.entry.Entry.{Entry}
 use Rattle.carbon_history.specs.declared.entry.Entry.TheVariants as entry
 use Rattle.carbon_history.specs.Entries.{NamesPasses, about_class, drains, is_about, listed, of_pass}
 use Rattle.shared_history.proofs.ListLemmas.{filter_hit}
-use Rattle.carbon_model.specs.State.{Kept, Metrics, SamePart, State, points_in}
+use Rattle.carbon_model.specs.State.{Kept, Metrics, SamePart, State, form_of, points_in}
 use Rattle.carbon_model.specs.Replay.{IsLegalHistory, replay}
 use Rattle.carbon_model.proofs.PartLemmas.{replay_alike, same_part}
 use Rattle.shared_history.specs.declared.view.Look.{Look}
 use Rattle.shared_history.specs.Views.{look_at}
 use Rattle.shared_history.specs.Parts.{IsNoMore, PassValue, TailValue, look_now, pass_looking}
 use Rattle.shard_core.specs.Shard.{Holds, Inside}
-use Rattle.shard_core.specs.Table.{kept_layout}
+use Rattle.shard_core.specs.Table.{kept_form}
 use Rattle.shard_core.specs.Plans.{NeedsNoWrite as NothingToWrite, PlansTo}
 use Rattle.shard_core.specs.Writes.{WritesTo}
 use Rattle.shard_core.specs.declared.planned.Planned.{Planned}
@@ -192,27 +192,31 @@ module _ (start : State) (told : Option Image) (shard : Inside) (tail : TailValu
       ap (λ (ms : Metrics). points_of ms path) (pending_before ∙ ap (replay start before).pending (sym here))
 
   layout_before : (path : List ℕ) → path_fault path ≡ None → class_of path ≡ tail.class
-      → kept_layout shard.table path ≡ option_map (λ k. k.layout) ((replay start before).kept path)
+      → kept_form shard.table path ≡ option_map form_of ((replay start before).kept path)
   layout_before path legal here =
-      holds.kept.layouts path (record { legal = legal; here = here ∙ keeps }) ∙ ap (option_map (λ k. k.layout)) (sym (alike.kept path here))
+      holds.kept.layouts path (record { legal = legal; here = here ∙ keeps }) ∙ ap (option_map form_of) (sym (alike.kept path here))
 
-  needs_of : (path : List ℕ) (now : ℕ) (layout : Option LayoutValue) (kept : Option Kept) → layout ≡ option_map (λ k. k.layout) kept
-      → IsSomeAnd layout (λ l. All (λ p. archive_for l.archives now p.0 ≡ None) (points_in (replay start before) path))
-      ↔ IsSomeAnd kept (λ k. All (λ p. archive_for k.layout.archives now p.0 ≡ None) (points_in (replay start before) path))
-  needs_of path now layout None is =
-      (λ some. absurd (subst (λ (o : Option LayoutValue). IsSomeAnd o (λ l. All (λ p. archive_for l.archives now p.0 ≡ None) (points_in (replay start before) path))) is some), λ none. absurd none)
-  needs_of path now layout (Some k) is = (
-    (λ some. subst (λ (o : Option LayoutValue). IsSomeAnd o (λ l. All (λ p. archive_for l.archives now p.0 ≡ None) (points_in (replay start before) path))) is some),
-    (λ some. subst (λ (o : Option LayoutValue). IsSomeAnd o (λ l. All (λ p. archive_for l.archives now p.0 ≡ None) (points_in (replay start before) path))) (sym is) some),
+  -- what is kept in this form, and none of these points has a home
+  abbrev Written : ℕ → List (ℕ × ℤ) → ℕ × LayoutValue → Type 0
+  Written now points form = (form.0 ≡ 2) × HaveNoHome form.1.archives now points
+
+  needs_of : (path : List ℕ) (now : ℕ) (form : Option (ℕ × LayoutValue)) (kept : Option Kept) → form ≡ option_map form_of kept
+      → IsSomeAnd form (Written now (points_in (replay start before) path))
+      ↔ IsSomeAnd kept (λ k. Written now (points_in (replay start before) path) (form_of k))
+  needs_of path now form None is =
+      (λ some. absurd (subst (λ (o : Option (ℕ × LayoutValue)). IsSomeAnd o (Written now (points_in (replay start before) path))) is some), λ none. absurd none)
+  needs_of path now form (Some k) is = (
+    (λ some. subst (λ (o : Option (ℕ × LayoutValue)). IsSomeAnd o (Written now (points_in (replay start before) path))) is some),
+    (λ some. subst (λ (o : Option (ℕ × LayoutValue)). IsSomeAnd o (Written now (points_in (replay start before) path))) (sym is) some),
   )
 
   pub nothing_before : (path : List ℕ) (now : ℕ) → path_fault path ≡ None → class_of path ≡ tail.class
       → NothingToWrite shard path now ↔ NeedsNoWrite (replay start before) path now
   nothing_before path now legal here =
-      let both = needs_of path now (kept_layout shard.table path) ((replay start before).kept path) (layout_before path legal here) in
+      let both = needs_of path now (kept_form shard.table path) ((replay start before).kept path) (layout_before path legal here) in
       let points = points_before path here in (
-        (λ some. both.0 (subst (λ (ps : List (ℕ × ℤ)). IsSomeAnd (kept_layout shard.table path) (λ l. All (λ p. archive_for l.archives now p.0 ≡ None) ps)) points some)),
-        (λ some. subst (λ (ps : List (ℕ × ℤ)). IsSomeAnd (kept_layout shard.table path) (λ l. All (λ p. archive_for l.archives now p.0 ≡ None) ps)) (sym points) (both.1 some)),
+        (λ some. both.0 (subst (λ (ps : List (ℕ × ℤ)). IsSomeAnd (kept_form shard.table path) (Written now ps)) points some)),
+        (λ some. subst (λ (ps : List (ℕ × ℤ)). IsSomeAnd (kept_form shard.table path) (Written now ps)) (sym points) (both.1 some)),
       )
 
 -- ---- after a plan

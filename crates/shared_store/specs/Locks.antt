@@ -7,13 +7,13 @@ use Rattle.carbon_history.specs.declared.entry.Entry.{Entry}
 use Rattle.carbon_history.specs.declared.entry.Entry.TheVariants.{Put, Drain, Ask, Fault}
 use Rattle.carbon_history.specs.Entries.{drains}
 use Rattle.ring_format.specs.Layout.{LayoutValue}
-use Rattle.carbon_model.specs.State.{Kept, State}
+use Rattle.carbon_model.specs.State.{Kept, State, form_of}
 use Rattle.carbon_model.specs.Replay.{replay}
 use Rattle.carbon_model.specs.RingFiles.{IsOfClass, StandsUnder}
 use Rattle.schema_rules.specs.LayoutBy.{layout_by}
 use Rattle.shard_core.specs.Halves.{AreHalves, DeskInside, FilesInside}
 use Rattle.shard_core.specs.Shard.{patch_on}
-use Rattle.shard_core.specs.Table.{Table, drains_in, kept_layout}
+use Rattle.shard_core.specs.Table.{Table, drains_in, kept_form}
 use Rattle.shared_history.specs.Parts.{TailValue}
 use Rattle.shared_history.specs.Rule.{OneOwed}
 use Rattle.shared_store.specs.Desks.{LastDrains, runs_ahead}
@@ -37,19 +37,19 @@ pub record OnlyPuts (then now : List Entry) : Type 0 where
 
 -- ---- the desk
 
--- the layouts of what is kept
-abbrev pub layouts_of : (List ℕ → Option Kept) → List ℕ → Option LayoutValue
-layouts_of kept path = option_map (λ k. k.layout) (kept path)
+-- the versions and the layouts of what is kept
+abbrev pub forms_of : (List ℕ → Option Kept) → List ℕ → Option (ℕ × LayoutValue)
+forms_of kept path = option_map form_of (kept path)
 
--- a table has these layouts of the metrics of a class
-pub record HasLayouts (class : ℕ) (table : Table) (layouts : List ℕ → Option LayoutValue) : Type 0 where
-  pub each : (path : List ℕ) → IsOfClass class path → kept_layout table path ≡ layouts path
+-- a table has these versions and layouts of the metrics of a class
+pub record HasLayouts (class : ℕ) (table : Table) (layouts : List ℕ → Option (ℕ × LayoutValue)) : Type 0 where
+  pub each : (path : List ℕ) → IsOfClass class path → kept_form table path ≡ layouts path
 
 -- a desk stands for its class's part of a state: all of it but the values that are kept
 pub record HoldsDesk (desk : DeskInside) (s : State) : Type 0 where
   pub pending : desk.cache.metrics ≡ s.pending desk.class
   pub queue : desk.picker.queue ≡ s.queue desk.class
-  pub layouts : (path : List ℕ) → IsOfClass desk.class path → kept_layout desk.table path ≡ layouts_of s.kept path
+  pub layouts : (path : List ℕ) → IsOfClass desk.class path → kept_form desk.table path ≡ forms_of s.kept path
   pub drains : (path : List ℕ) → IsOfClass desk.class path → drains_in desk.table path ≡ s.drains path
   pub rules : (path : List ℕ) → class_of path ≡ desk.class → s.rules path ≡ layout_by desk.rules path
   pub limit : desk.cache.limit ≡ s.limit
@@ -87,7 +87,7 @@ pub record KeepsFiles (half_of : ℕ → TableId) (told : ℕ → Option Image) 
   pub runs : half.stand.runs + runs_ahead files.shelf ≤ 5000000 * drains half.stand.list
   pub faults : capped (earlier files.class + count_by is_fault half.stand.list) ≤ failed
   pub before : DeskInside
-  pub layouts : HasLayouts files.class before.table (layouts_of (replay start half.stand.list).kept)
+  pub layouts : HasLayouts files.class before.table (forms_of (replay start half.stand.list).kept)
   pub halves : AreHalves before files
 
 -- what contracts see of it: the class, its entries then, and whether a drain is being written

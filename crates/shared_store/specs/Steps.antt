@@ -1,5 +1,5 @@
 -- What the answers of the calls of a store tell.
-use Rattle.std.specs.Prelude.{◌≡◌, ◌≢◌, ◌↔◌, ◌⊎◌, ◌<◌, ℕ, ℤ, List, [], ◌∷◌, ◌++◌, All, length, Option, Some, None, IsSomeAnd}
+use Rattle.std.specs.Prelude.{◌≡◌, ◌≢◌, ◌↔◌, ◌⊎◌, ◌<◌, ℕ, ℤ, List, [], ◌∷◌, ◌++◌, All, length, Option, Some, None, IfSome, IsSomeAnd}
 use Rattle.carbon_history.specs.Entries.{listed}
 use Rattle.carbon_history.specs.declared.entry.Entry.{Entry}
 use Rattle.carbon_history.specs.declared.entry.Entry.TheVariants as entry
@@ -7,7 +7,7 @@ use Rattle.carbon_history.specs.declared.entry.PutEnd.TheVariants as end
 use Rattle.metric_path.specs.Class.{class_of}
 use Rattle.point_cache.specs.declared.put.Put.{Put}
 use Rattle.point_cache.specs.declared.put.Put.TheVariants as put
-use Rattle.archive_update.specs.Batch.{archive_for}
+use Rattle.archive_update.specs.Batch.{archive_for, HaveNoHome}
 use Rattle.carbon_model.specs.State.{State, picked, points_in}
 use Rattle.carbon_model.specs.Replay.{IsLegal, replay}
 use Rattle.shard_core.specs.declared.planned.Planned.{Planned}
@@ -50,10 +50,10 @@ AfterPut start path time value put.NoMemory new = IsLegal (replay start new.seen
 
 -- ---- drains
 
--- a drain of the metric has nothing to write: something is kept of it, and each of its pending points is older than all that its archives reach back
+-- a drain of the metric has nothing to write: something is kept of it in version 2, and each of its pending points is older than all that its archives reach back
 abbrev pub NeedsNoWrite : State → List ℕ → ℕ → Type 0
 NeedsNoWrite s path now =
-    IsSomeAnd (s.kept path) (λ kept. All (λ p. archive_for kept.layout.archives now p.0 ≡ None) (points_in s path))
+    IsSomeAnd (s.kept path) (λ kept. (kept.version ≡ 2) × HaveNoHome kept.layout.archives now (points_in s path))
 
 -- The metric of the class, of which something was pending, was drained as the last entry that the pass sees, and fewer are pending since. The drain
 -- is settled at once exactly where it has nothing to write.
@@ -105,13 +105,14 @@ AfterWrite class wrote.Finished old new = IsSettled class new × FinishedDrain c
 AfterWrite class wrote.Nothing old new = IsSettled class new
 AfterWrite class wrote.DiskFault old new = IsUnderWay class new
 
--- The metric of the class that goes next has points, and nothing is kept of it: its drain makes a ring file.
+-- The metric of the class that goes next has points, and nothing is kept of it in version 2: its drain
+-- makes a ring file, a new one or one in place of a file of version 1.
 pub record MakesFileNext (s : State) (class : ℕ) : Type 0 where
   pub path : List ℕ
   pub here : class_of path ≡ class
   pub next : picked s class ≡ Some path
   pub some : points_in s path ≢ []
-  pub none : s.kept path ≡ None
+  pub anew : IfSome (s.kept path) (λ kept. kept.version ≡ 1)
 
 -- ---- one step of draining
 

@@ -5,7 +5,7 @@ ghost use Rattle.shared_store.specs.Asking.{IsReadable, ShowsBare};
 use carbon_model::Values;
 use outside_io::MemDisk;
 use ring_archive::RingView;
-use ring_format::Patch;
+use ring_format::{Patch, VERSION};
 use series_fetch::fetch;
 use shard_core::Looked;
 use std::alloc::{AllocError, Global};
@@ -17,7 +17,7 @@ pub(crate) fn values_of_pending(alloc: Global, looked: &Looked) -> Result<Values
     ensures { IfOk result (ShowsBare looked.now) }
 {
     let patch = Patch::new(alloc, looked.path.copy()?, looked.layout, true);
-    let view = RingView::new("", looked.layout);
+    let view = RingView::new("", looked.layout, VERSION);
     let mut empty = MemDisk::new(alloc, 0);
     let pending = looked.pending.list();
     match fetch(alloc, &view, &mut empty, &patch, looked.window, pending) {

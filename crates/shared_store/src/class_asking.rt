@@ -8,7 +8,7 @@ use shared_history::{Pass, agree, enter_ask, mark, see};
 use std::alloc::AllocError;
 
 impl<N: Named> ClassDesk<N> {
-    ghost use Rattle.std.specs.Prelude.{◌≡◌, ◌≤◌, false, All, IfErr, IfOk, None, Ok};
+    ghost use Rattle.std.specs.Prelude.{◌≡◌, ◌≤◌, All, IfErr, IfOk, None, Ok};
     ghost use Rattle.metric_index.specs.Found.{IsFitted};
     ghost use Rattle.metric_path.specs.Class.{class_of};
     ghost use Rattle.path_glob.specs.Faults.{Said};
@@ -35,14 +35,14 @@ impl<N: Named> ClassDesk<N> {
         mark(&mut self.tail, pass);
     }
 
-    /// Whether something is kept of a metric of the class that was looked at when the pass had seen what it sees
-    /// now. At `Err` it was drained since. The pass looks at the class.
-    pub(crate) fn recall(&mut self, pass: &mut Pass, looked: &Looked) -> Result<bool, u64>
+    /// The version of what is kept of a metric of the class that was looked at when the pass had seen what it
+    /// sees now, `None` where nothing is. At `Err` it was drained since. The pass looks at the class.
+    pub(crate) fn recall(&mut self, pass: &mut Pass, looked: &Looked) -> Result<Option<u32>, u64>
         requires here { class_of looked.now.path ≡ self.old.class }
         requires one { pass.old.table ≡ N.table }
         requires look { IsLookAt (replay N.start pass.old.seen) looked.now }
         ensures looks { OnlyLooks pass.old pass.new }
-        ensures bare { result ≡ Ok false
+        ensures bare { result ≡ Ok None
             → (replay N.start pass.old.seen).kept looked.now.path ≡ None }
         ensures moved { IfErr result (λ _. WasDrained looked.now.path pass.new) }
         ensures desk { self.new ≡ self.old }

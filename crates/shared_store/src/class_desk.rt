@@ -69,7 +69,7 @@ impl<N: Named> ClassDesk<N> {
     {
         let put = self.desk.put(datum);
         let event = put_event(put, datum);
-        order.lock(rt).tell(pass, &mut self.tail, event);
+        order.lock(rt).tell(pass, &mut self.tail, &event);
         put
     }
 
@@ -92,7 +92,7 @@ impl<N: Named> ClassDesk<N> {
     {
         let put = self.desk.put(datum);
         let event = put_event(put, datum);
-        order.tell(pass, &mut self.tail, event);
+        order.tell(pass, &mut self.tail, &event);
         put
     }
 }

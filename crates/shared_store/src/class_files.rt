@@ -97,7 +97,7 @@ impl<D: Disk, N: Named> ClassFiles<D, N> {
         count_run(&mut desk.tail, wrote);
         order
             .lock(rt)
-            .tell(pass, &mut desk.tail, write_event(wrote));
+            .tell(pass, &mut desk.tail, &write_event(wrote));
         renew(&mut desk.half, &mut self.half, &desk.tail);
         mark(&mut desk.tail, pass);
         wrote

@@ -120,7 +120,7 @@ impl<D: Disk, N: Named> ClassFiles<D, N> {
             None => return None,
         };
         let event = plan_event(&planned, now);
-        order.lock(rt).tell(pass, &mut desk.tail, event);
+        order.lock(rt).tell(pass, &mut desk.tail, &event);
         settle_begun(&mut desk.tail, &planned, self.files.shelved());
         renew(&mut desk.half, &mut self.half, &desk.tail);
         mark(&mut desk.tail, pass);
@@ -173,7 +173,7 @@ impl<D: Disk, N: Named> ClassFiles<D, N> {
         meet(&mut desk.half, &mut self.half);
         let planned = self.files.plan(&mut desk.desk, now);
         let event = plan_event(&planned, now);
-        order.lock(rt).tell(pass, &mut desk.tail, event);
+        order.lock(rt).tell(pass, &mut desk.tail, &event);
         settle_begun(&mut desk.tail, &planned, self.files.shelved());
         renew(&mut desk.half, &mut self.half, &desk.tail);
         mark(&mut desk.tail, pass);

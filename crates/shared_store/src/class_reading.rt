@@ -50,11 +50,11 @@ impl<D: Disk, N: Named> ClassFiles<D, N> {
         mark(&mut desk.tail, pass);
         let recalled = desk.desk.recall(looked);
         drop(guard);
-        let is_kept = match recalled {
-            Ok(is_kept) => is_kept,
+        let kept = match recalled {
+            Ok(kept) => kept,
             Err(drains) => return Err(LookFault::Moved(drains)),
         };
-        match self.files.fetch_looked(looked, is_kept) {
+        match self.files.fetch_looked(looked, kept) {
             Ok(values) => return Ok(values),
             Err(RingFault::NoMemory) => return Err(LookFault::NoMemory),
             Err(RingFault::DiskFault) => {}
@@ -64,7 +64,7 @@ impl<D: Disk, N: Named> ClassFiles<D, N> {
         meet(&mut desk.half, &mut self.half);
         order
             .lock(rt)
-            .tell(pass, &mut desk.tail, Some(Event::Fault));
+            .tell(pass, &mut desk.tail, &Some(Event::Fault));
         renew(&mut desk.half, &mut self.half, &desk.tail);
         Err(LookFault::DiskFault)
     }

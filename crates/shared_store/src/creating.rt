@@ -1,11 +1,21 @@
 //! Whether the next drain of a class makes a ring file.
+ghost use Rattle.std.specs.Prelude.{◌≡◌, ◌||◌, not};
+
 use crate::class_desk::ClassDesk;
 use crate::named::Named;
 use crate::order_desk::OrderDesk;
 use crate::store::Store;
+use metric_table::Known;
 use outside_io::Disk;
 use shared_history::Pass;
 use std::sync::{Mutex, Wait};
+
+// Whether there is no ring file of version 2 of a metric.
+fn lacks_file(known: &Known) -> bool
+    ensures { result ≡ (not known.now.is_kept || known.now.is_old) }
+{
+    !known.is_kept || known.is_old
+}
 
 impl<N: Named> ClassDesk<N> {
     ghost use Rattle.std.specs.Prelude.{◌≡◌, true, []};
@@ -13,8 +23,8 @@ impl<N: Named> ClassDesk<N> {
     ghost use Rattle.shared_store.specs.Passes.{Enters, SameLooks};
     ghost use Rattle.shared_store.specs.Steps.{MakesFileNext};
 
-    /// Whether nothing is kept of the metric that goes next, in all that the pass sees from now on. Nothing
-    /// pending and want of memory count as no.
+    /// Whether nothing is kept in version 2 of the metric that goes next, in all that the pass sees from now
+    /// on. Nothing pending and want of memory count as no.
     pub(crate) fn next_is_new(
         &mut self,
         rt: &impl Wait,
@@ -33,7 +43,7 @@ impl<N: Named> ClassDesk<N> {
         };
         // Every path is legal.
         let _ = metric.path.text();
-        !metric.known.is_kept
+        lacks_file(&metric.known)
     }
 }
 
@@ -44,8 +54,9 @@ impl<D: Disk, N: Named> Store<D, N> {
     ghost use Rattle.shared_store.specs.Steps.{MakesFileNext};
 
     /// Whether the drain of a class that would begin now makes a ring file: the metric that goes next has
-    /// none, in all that the pass sees from now on. A drain that is being written, nothing pending and want
-    /// of memory count as no. No disk is called, and the files of the class are waited for.
+    /// none, or one of version 1 that is made anew, in all that the pass sees from now on. A drain that is
+    /// being written, nothing pending and want of memory count as no. No disk is called, and the files of
+    /// the class are waited for.
     pub fn makes_file_next(&self, rt: &impl Wait, pass: &mut Pass, class: u32) -> bool
         requires class { class < 16 }
         requires one { pass.old.table ≡ N.table }
@@ -56,7 +67,7 @@ impl<D: Disk, N: Named> Store<D, N> {
         self.next_is_new(rt, pass, class) && !self.is_writing(rt, class)
     }
 
-    // Whether nothing is kept of the metric of a class that goes next.
+    // Whether nothing is kept in version 2 of the metric of a class that goes next.
     fn next_is_new(&self, rt: &impl Wait, pass: &mut Pass, class: u32) -> bool
         requires class { class < 16 }
         requires one { pass.old.table ≡ N.table }

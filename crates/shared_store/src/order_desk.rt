@@ -60,17 +60,17 @@ impl<N: Named> OrderDesk<N> {
     }
 
     /// Enters what the pass did, where that is entered, or else sees the whole history.
-    pub(crate) fn tell(&mut self, pass: &mut Pass, tail: &mut Tail, event: Option<Event<'_>>)
+    pub(crate) fn tell(&mut self, pass: &mut Pass, tail: &mut Tail, event: &Option<Event<'_>>)
         requires one { (pass.old.table ≡ N.table) × (tail.old.table ≡ N.table) }
-        requires may { IfSome (option_map (entry_by pass.old tail.old) event)
+        requires may { IfSome (option_map (entry_by pass.old tail.old) event.now)
             (MayTell N.start pass.old tail.old) }
         ensures tail { tail.new
-            ≡ tail_told tail.old (option_map (entry_by pass.old tail.old) event.entry) }
+            ≡ tail_told tail.old (option_map (entry_by pass.old tail.old) event.now) }
         ensures tells { Tells N.start N.passes tail.old
-            (option_map (entry_by pass.old tail.old) event.entry) pass.old pass.new }
+            (option_map (entry_by pass.old tail.old) event.now) pass.old pass.new }
     {
         match event {
-            Some(event) => self.enter(pass, tail, &event),
+            Some(event) => self.enter(pass, tail, event),
             None => self.see(pass, tail),
         }
     }

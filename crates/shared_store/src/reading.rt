@@ -15,7 +15,7 @@ use crate::try_end::TryEnd;
 use carbon_model::Values;
 use outside_io::Disk;
 use series_fetch::Window;
-use series_set::{Series, SeriesRows, SeriesSet};
+use series_set::{Series, SeriesRows, SeriesSet, readings};
 use shard_core::{LookFault, Looked};
 use shared_history::Pass;
 use std::alloc::{AllocError, Global};
@@ -47,11 +47,12 @@ fn series_of(alloc: Global, looked: &Looked, values: Values) -> Result<Series, A
     let step = u64::from(looked.layout.archive(i).step);
     let name = looked.path.as_str().to_string(alloc)?;
     let path = looked.path.as_str().to_string(alloc)?;
-    Ok(Series::from_legal(name, path, first, step, values.into_vec()))
+    let values = readings(alloc, values.list())?;
+    Ok(Series::from_legal(name, path, first, step, values))
 }
 
 impl<D: Disk, N: Named> Store<D, N> {
-    ghost use Rattle.std.specs.Prelude.{◌≡◌, ◌<◌, ◌≤◌, ◌+◌, ◌^◌, false, All, IfErr, IfOk, None, Ok, length, vec_len};
+    ghost use Rattle.std.specs.Prelude.{◌≡◌, ◌<◌, ◌≤◌, ◌+◌, ◌^◌, All, IfErr, IfOk, None, Ok, length, vec_len};
     ghost use Rattle.carbon_model.specs.Replay.{replay};
     ghost use Rattle.shared_history.specs.Parts.{own_entries};
     ghost use Rattle.shared_store.specs.Asking.{IsLookAt, IsNoMove, IsShortLook, OnlyLooks, ReadsAll, ReadsOne, ReadsSet, WasDrained};
@@ -71,18 +72,18 @@ impl<D: Disk, N: Named> Store<D, N> {
         ensures { ReadsOne N.start N.told N.passes looked.now result pass.old pass.new }
     {
         match self.recall(rt, pass, looked) {
-            Ok(true) => self.read_files(rt, pass, looked),
-            Ok(false) => Ok(values_of_pending(alloc, looked)?),
+            Ok(Some(_version)) => self.read_files(rt, pass, looked),
+            Ok(None) => Ok(values_of_pending(alloc, looked)?),
             Err(_drains) => Err(TryEnd::Moved),
         }
     }
 
-    // Whether something is kept of a metric that was looked at. At `Err` it was drained since.
-    fn recall(&self, rt: &impl Wait, pass: &mut Pass, looked: &Looked) -> Result<bool, u64>
+    // The version of what is kept of a metric that was looked at. At `Err` it was drained since.
+    fn recall(&self, rt: &impl Wait, pass: &mut Pass, looked: &Looked) -> Result<Option<u32>, u64>
         requires one { pass.old.table ≡ N.table }
         requires look { IsLookAt (replay N.start pass.old.seen) looked.now }
         ensures looks { OnlyLooks pass.old pass.new }
-        ensures bare { result ≡ Ok false
+        ensures bare { result ≡ Ok None
             → (replay N.start pass.old.seen).kept looked.now.path ≡ None }
         ensures moved { IfErr result (λ _. WasDrained looked.now.path pass.new) }
     {

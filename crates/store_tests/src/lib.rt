@@ -7,6 +7,8 @@ mod shared_store_class_tests;
 #[cfg(test)]
 mod shared_store_ends;
 #[cfg(test)]
+mod shared_store_files;
+#[cfg(test)]
 mod shared_store_kit;
 #[cfg(test)]
 mod shared_store_tests;
@@ -14,3 +16,5 @@ mod shared_store_tests;
 mod shared_store_thread_tests;
 #[cfg(test)]
 mod shared_store_wait_tests;
+#[cfg(test)]
+mod size_tests;

@@ -3,6 +3,7 @@ ghost use Rattle.std.specs.Prelude.{◌≡◌, IfOk};
 ghost use Rattle.shared_history.specs.Parts.{PassesOfTable, AreNewTails, TailsOfTable};
 
 use carbon_history::PutEnd;
+use fixed_num::milli_of;
 use metric_path::MetricPath;
 use shared_history::*;
 use std::alloc::{AllocError, Global};
@@ -98,7 +99,7 @@ impl<N: Named> Worker<N> {
         time: u32,
     ) {
         if path.class() == desk.tail.class() && self.pass.left() > 0 {
-            let event = Event::Put(path, time, 5, PutEnd::Stored);
+            let event = Event::Put(path, time, milli_of(5), PutEnd::Stored);
             enter(&mut order.order, &mut self.pass, &mut desk.tail, &event);
         }
     }

@@ -1,11 +1,11 @@
 // How the deeds of callers are to end, and whether they do.
 use crate::shared_store_kit::{Deed, Job, Reply, START};
-use fixed_num::Milli;
+use fixed_num::milli_of;
 use gate_io::Flag;
 use metric_path::MetricPath;
 use outside_io::Disk;
 use point_cache::Put;
-use series_set::{Series, SeriesRows, SeriesSet};
+use series_set::{Reading, Series, SeriesRows, SeriesSet};
 use shard_core::{Planned, Wrote};
 use shared_store::{AskFault, Closed, DrainEnd, PutCounts, Tally};
 use std::alloc::{AllocError, Global};
@@ -16,7 +16,14 @@ use std::test::Fail;
 #[derive(Clone, Copy)]
 pub(crate) struct Shown {
     pub(crate) path: &'static str,
-    pub(crate) values: &'static [Option<Milli>],
+    pub(crate) values: &'static [Option<i64>],
+}
+
+// Whether these are the values of so many thousandths.
+fn are_values(values: &[Reading], thousandths: &[Option<i64>]) -> bool {
+    values.len() == thousandths.len()
+        && values.iter().zip(thousandths.iter()).all(|(value, number)| value.get()
+            == number.map(|thousandths| milli_of(thousandths)))
 }
 
 // How a deed is to end.
@@ -38,6 +45,8 @@ pub(crate) enum End {
     Found(usize),
     Refused(AskFault),
     Names(&'static [&'static str]),
+    // So many entries of each kind.
+    Counted(Tally),
     Up,
 }
 
@@ -50,7 +59,7 @@ fn is_shown(series: &Series, shown: &Shown) -> bool {
     series.path() == shown.path
         && series.start() == u64::from(START)
         && series.step() == 60
-        && series.values() == shown.values
+        && are_values(series.values(), shown.values)
 }
 
 fn set_is_shown(set: &SeriesSet, shown: &[Shown]) -> bool {
@@ -168,6 +177,13 @@ fn has_names(reply: &Reply, paths: &[&'static str]) -> bool {
     }
 }
 
+fn is_counted(reply: &Reply, want: Tally) -> bool {
+    match reply {
+        Reply::Counted(tally) => *tally == want,
+        _ => false,
+    }
+}
+
 fn is_up(reply: &Reply) -> bool {
     match reply {
         Reply::Up(up) => *up,
@@ -188,6 +204,7 @@ fn ends_so(reply: &Reply, end: End) -> bool {
         End::Found(count) => has_found(reply, count),
         End::Refused(fault) => is_refused(reply, fault),
         End::Names(paths) => has_names(reply, paths),
+        End::Counted(tally) => is_counted(reply, tally),
         End::Up => is_up(reply),
     }
 }

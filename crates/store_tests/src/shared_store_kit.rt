@@ -64,6 +64,8 @@ pub(crate) enum Deed {
     Ask(&'static [&'static [u8]]),
     // The metrics that are pending or kept are asked for.
     Names,
+    // All entries so far are counted.
+    Count,
     // The caller waits until the flag with this number is up.
     Await(usize),
     // The flag with this number is put up.
@@ -85,6 +87,7 @@ pub(crate) enum Reply {
     Rows(SeriesRows, u64),
     Refused(AskFault),
     Names(Vec<MetricPath>),
+    Counted(Tally),
     // Whether the flag is up.
     Up(bool),
 }
@@ -367,6 +370,10 @@ impl<N: Named> Worker<N> {
         Some(Reply::Names(names))
     }
 
+    fn count<D: Disk>(&mut self, rt: &impl Wait, store: &Store<D, N>) -> Option<Reply> {
+        Some(Reply::Counted(store.tally(rt, &mut self.pass)))
+    }
+
     fn obey<D: Disk, R: Wait + Clock>(
         &mut self,
         rt: &R,
@@ -387,6 +394,7 @@ impl<N: Named> Worker<N> {
             Deed::DrainAll => self.drain_all(rt, store),
             Deed::Ask(globs) => self.ask(rt, alloc, store, globs),
             Deed::Names => self.names(rt, alloc, store),
+            Deed::Count => self.count(rt, store),
             Deed::Await(flag) => self.job.waits(rt, flag),
             Deed::Raise(flag) => self.job.raises(flag),
         }

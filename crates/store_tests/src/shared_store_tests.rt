@@ -4,7 +4,7 @@ ghost use Rattle.std.specs.Prelude.{◌≡◌, IfOk, vec_len};
 use crate::shared_store_ends::{End, Row, Shown, assert_both, assert_counts, jobs_of};
 use crate::shared_store_kit::{Deed, RULES, Ran, Scene, Turns, run};
 use metric_path::CLASSES;
-use outside_io::MemDisk;
+use outside_io::{Disk, MemDisk};
 use point_cache::Put;
 use shard_core::Wrote;
 use shared_store::{AskFault, DrainEnd, PutCounts, Tally};
@@ -188,6 +188,85 @@ fn the_first_drain_of_a_metric_makes_its_file(rt: HostRuntime) -> Result<(), Fai
         };
         assert_case(&rt, rt.alloc(), &case, entries, tally)?;
     }
+    Ok(())
+}
+
+// ---- files of version 1
+
+// A file of version 1 of ten minutes by minutes, of which the first is known: its head, and its first cell.
+const OLD_FRONT: [u8; 40] = [
+    0, 0, 0, 1, 0, 0, 2, 88, 0, 7, 161, 32, 0, 0, 0, 1, 0, 0, 0, 28, 0, 0, 0, 60, 0, 0, 0, 10, 101,
+    83, 241, 100, 0, 0, 0, 0, 0, 0, 27, 88,
+];
+
+const OLD_LENGTH: u64 = 148;
+
+// It is shown as it is, and the drain of its metric makes it anew with what it held.
+const REMAKING: [Row; 9] = [
+    (Deed::MakesFile(6), End::MakesFile(false)),
+    (Deed::Ask(&OLD_GLOB), End::Shown(&OLD_ALONE, 1)),
+    (Deed::Put("p.a", 1, 2), End::Put(Put::Stored)),
+    (Deed::MakesFile(6), End::MakesFile(true)),
+    (Deed::Ask(&OLD_GLOB), End::Shown(&OLD_AND_NEW, 1)),
+    (Deed::DrainAll, End::Drained(DrainEnd::Done(1))),
+    (Deed::Ask(&OLD_GLOB), End::Shown(&OLD_AND_NEW, 1)),
+    (Deed::Put("p.a", 1, 2), End::Put(Put::Stored)),
+    (Deed::MakesFile(6), End::MakesFile(false)),
+];
+
+const OLD_GLOB: [&[u8]; 1] = [b"p.a"];
+
+const OLD_ALONE: [&[Shown]; 1] = [&[Shown {
+    path: "p.a",
+    values: &[Some(7_000), None, None, None, None],
+}]];
+
+const OLD_AND_NEW: [&[Shown]; 1] = [&[Shown {
+    path: "p.a",
+    values: &[Some(7_000), Some(2_000), None, None, None],
+}]];
+
+fn put_old_file(disk: &mut MemDisk) -> bool {
+    disk.create("p/a.ring", OLD_LENGTH).is_ok() && disk.write_at("p/a.ring", 0, &OLD_FRONT).is_ok()
+}
+
+// A disk of a class, with that file in class 6.
+fn old_disk(alloc: Global, class: u32) -> Result<MemDisk, AllocError> {
+    let mut disk = disk_failing(alloc, 0, 0)?;
+    if class == 6 && !put_old_file(&mut disk) {
+        return Err(AllocError);
+    }
+    Ok(disk)
+}
+
+fn old_disks(alloc: Global) -> Result<Vec<MemDisk>, AllocError>
+    ensures { IfOk result (λ disks. vec_len disks ≡ 16) }
+{
+    let mut disks = Vec::new(alloc);
+    for class in 0..CLASSES {
+        disks.push(old_disk(alloc, class)?)?;
+    }
+    Ok(disks)
+}
+
+#[test]
+fn a_file_of_version_1_is_made_anew_by_the_next_drain(rt: HostRuntime) -> Result<(), Fail> {
+    let alloc = rt.alloc();
+    let scene = Scene {
+        schemas: RULES,
+        limit: 10,
+        turns: Turns::OneByOne,
+    };
+    let jobs = jobs_of(alloc, &[], &REMAKING, &[], &[])?;
+    let Ran { jobs, closed } = run(&rt, alloc, old_disks(alloc)?, scene, jobs)?;
+    let tally = Tally {
+        stored: 2,
+        replaced: 0,
+        full: 0,
+        drains: 1,
+    };
+    assert_both(&rt, jobs.as_slice(), &[], &REMAKING, &[])?;
+    assert_counts(&rt, &closed, 6, tally);
     Ok(())
 }
 

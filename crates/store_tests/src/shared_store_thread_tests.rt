@@ -3,8 +3,9 @@
 // plain lists, and compared with all that it was told, and with the files.
 ghost use Rattle.std.specs.Prelude.{◌≡◌, ◌<◌, IfOk, vec_len};
 
+use crate::shared_store_files::{are_minutes, bytes_in, count_cells, count_known, value_at};
 use crate::shared_store_kit::{Deed, Job, Ran, Reply, START, Scene, Turns, run};
-use fixed_num::Milli;
+use fixed_num::{Milli, wide};
 use gate_io::Flag;
 use metric_path::{CLASSES, MetricPath};
 use outside_io::{Disk, MemDisk};
@@ -200,10 +201,11 @@ fn number_of(value: Option<Milli>) -> Option<u32> {
     let Some(value) = value else {
         return Some(0);
     };
-    if value % 1_000 != 0 {
+    let number = wide(value);
+    if number % 1_000 != 0 {
         return None;
     }
-    u32::try_from(value / 1_000).ok()
+    u32::try_from(number / 1_000).ok()
 }
 
 fn is_of_minutes(series: &Series) -> bool {
@@ -217,7 +219,7 @@ fn lay(numbers: &mut [u32], series: &Series) -> Option<()> {
     }
     let first = metric_of(series.path())?.wrapping_mul(MINUTES);
     for (minute, value) in series.values().iter().enumerate() {
-        *numbers.get_mut(first.wrapping_add(minute))? = number_of(*value)?;
+        *numbers.get_mut(first.wrapping_add(minute))? = number_of(value.get())?;
     }
     Some(())
 }
@@ -227,10 +229,6 @@ fn lay_all(numbers: &mut [u32], set: &SeriesSet) -> Option<()> {
         lay(numbers, series)?;
     }
     Some(())
-}
-
-fn count_known(numbers: &[u32]) -> usize {
-    numbers.iter().filter(|number| **number > 0).count()
 }
 
 // How many metrics have numbers.
@@ -561,45 +559,6 @@ fn assert_one_order(rt: &impl Abort, fronts: &[Front]) -> Result<(), Fail> {
 
 // ---- the files
 
-fn number_in(bytes: &[u8]) -> u64 {
-    let mut number = 0u64;
-    for byte in bytes {
-        number = number.wrapping_mul(256).wrapping_add(u64::from(*byte));
-    }
-    number
-}
-
-// The value in thousandths of the cell of a bucket, among cells of twelve bytes.
-fn value_at(cells: &[u8], bucket: u64) -> Option<u64> {
-    for cell in cells.chunks(12) {
-        if number_in(cell.get(..4)?) == bucket {
-            return Some(number_in(cell.get(4..)?));
-        }
-    }
-    None
-}
-
-fn count_cells(cells: &[u8]) -> usize {
-    cells.chunks(12).filter(|cell| number_in(cell) > 0).count()
-}
-
-// Whether these cells are those of the minutes, and no others.
-fn are_minutes(cells: &[u8], numbers: &[u32]) -> bool {
-    let mut bucket = u64::from(START);
-    for number in numbers {
-        let value = if *number > 0 {
-            Some(u64::from(*number) * 1_000)
-        } else {
-            None
-        };
-        if value_at(cells, bucket) != value {
-            return false;
-        }
-        bucket = bucket.wrapping_add(60);
-    }
-    count_cells(cells) == count_known(numbers)
-}
-
 // The average of the five minutes, rounded down, where three of them are known.
 fn average_of(numbers: &[u32]) -> Option<u64> {
     let mut sum = 0u64;
@@ -618,25 +577,14 @@ fn is_average(cells: &[u8], numbers: &[u32]) -> bool {
     value_at(cells, u64::from(START)) == value && count_cells(cells) == usize::from(value.is_some())
 }
 
-// Whether a file of 304 bytes, of which 40 are its head, has what was put.
+// Whether a file of 480 bytes, of which 40 are its head, has what was put.
 fn is_file_of(bytes: &[u8], numbers: &[u32]) -> bool {
-    match (bytes.get(40..160), bytes.get(160..)) {
+    match (bytes.get(40..240), bytes.get(240..)) {
         (Some(minutes), Some(five)) => {
-            bytes.len() == 304 && are_minutes(minutes, numbers) && is_average(five, numbers)
+            bytes.len() == 480 && are_minutes(minutes, numbers) && is_average(five, numbers)
         }
         _ => false,
     }
-}
-
-// What a file holds: nothing where it is not there.
-fn bytes_in<D: Disk>(alloc: Global, disk: &mut D, name: &str) -> Result<Vec<u8>, AllocError> {
-    let size = match disk.length(name) {
-        Ok(Some(size)) => size,
-        _ => return Ok(Vec::new(alloc)),
-    };
-    let mut bytes = vec![in alloc; 0; size as usize]?;
-    let _ = disk.read_at(name, 0, &mut bytes);
-    Ok(bytes)
 }
 
 // Whether the file of a metric has what was put.

@@ -2,13 +2,14 @@
 ghost use Rattle.std.specs.Prelude.{◌≡◌, IfOk, vec_len};
 
 use crate::shared_store_ends::{End, Row, Shown, assert_both, assert_counts, jobs_of};
-use crate::shared_store_kit::{Deed, RULES, Ran, Scene, Turns, run};
+use crate::shared_store_files::{are_minutes, bytes_in};
+use crate::shared_store_kit::{Deed, Job, RULES, Ran, Scene, Turns, run};
 use gate_io::{Flag, Gate, GateDisk};
 use metric_path::CLASSES;
 use outside_io::{Disk, MemDisk};
 use point_cache::Put;
 use shard_core::Wrote;
-use shared_store::{PutCounts, Tally};
+use shared_store::{Closed, DrainEnd, PutCounts, Tally};
 use std::alloc::{AllocError, Global};
 use std::process::Abort;
 use std::sync::Wait;
@@ -135,16 +136,96 @@ fn count_faults<D: Disk>(disks: &[D]) -> u64 {
     faults
 }
 
+// No call of a disk has failed, which would have waited in vain.
+fn assert_ran<D: Disk>(
+    rt: &impl Abort,
+    jobs: &[Job],
+    closed: &Closed<D>,
+    case: &Case<'_>,
+) -> Result<(), Fail> {
+    assert_both(rt, jobs, case.before, case.first, case.second)?;
+    assert_counts(rt, closed, case.entries, case.tally);
+    assert!(rt; count_faults(closed.disks.as_slice()) == 0);
+    Ok(())
+}
+
 fn assert_case<R: Threads + Wait + Abort + Clock + Copy + Send + Sync + Drop>(
     rt: &R,
     alloc: Global,
     case: &Case<'_>,
 ) -> Result<(), Fail> {
     let Ran { jobs, closed } = run_case(rt, alloc, case)?;
-    assert_both(rt, jobs.as_slice(), case.before, case.first, case.second)?;
-    assert_counts(rt, &closed, case.entries, case.tally);
-    assert!(rt; count_faults(closed.disks.as_slice()) == 0);
+    assert_ran(rt, jobs.as_slice(), &closed, case)
+}
+
+// ---- the files that a case leaves
+
+// A file, the class on whose disk it is, and the values of its minutes: 0 where there is none.
+#[derive(Clone, Copy)]
+struct Kept {
+    class: u32,
+    file: &'static str,
+    numbers: &'static [u32],
+}
+
+// Whether a disk has the file with these minutes and no others: a head of 28 bytes, and ten cells of 20.
+fn is_kept<D: Disk>(alloc: Global, disk: &mut D, kept: &Kept) -> Result<bool, AllocError> {
+    let bytes = bytes_in(alloc, disk, kept.file)?;
+    match bytes.as_slice().get(28..) {
+        Some(cells) => Ok(cells.len() == 200 && are_minutes(cells, kept.numbers)),
+        None => Ok(false),
+    }
+}
+
+// How many of these files the disk of a class has, each with its minutes.
+fn count_kept<D: Disk>(
+    alloc: Global,
+    class: u32,
+    disk: &mut D,
+    files: &[Kept],
+) -> Result<usize, AllocError> {
+    let mut count = 0usize;
+    for kept in files {
+        if kept.class == class && is_kept(alloc, disk, kept)? {
+            count = count.saturating_add(1);
+        }
+    }
+    Ok(count)
+}
+
+fn count_names<D: Disk>(disk: &mut D) -> Result<usize, Fail> {
+    match disk.names() {
+        Ok(names) => Ok(names.len()),
+        Err(_fault) => Err(Fail::new("the names are read")),
+    }
+}
+
+// The disks have these files and no others.
+fn assert_files<D: Disk>(
+    rt: &impl Abort,
+    alloc: Global,
+    disks: &mut [D],
+    files: &[Kept],
+) -> Result<(), Fail> {
+    let mut found = 0usize;
+    for (class, disk) in (0..CLASSES).zip(disks.iter_mut()) {
+        let count = count_kept(alloc, class, disk, files)?;
+        assert!(rt; count_names(disk)? == count, "class {class}");
+        found = found.saturating_add(count);
+    }
+    assert!(rt; found == files.len());
     Ok(())
+}
+
+fn assert_kept<R: Threads + Wait + Abort + Clock + Copy + Send + Sync + Drop>(
+    rt: &R,
+    alloc: Global,
+    case: &Case<'_>,
+    files: &[Kept],
+) -> Result<(), Fail> {
+    let Ran { jobs, mut closed } = run_case(rt, alloc, case)?;
+    assert_ran(rt, jobs.as_slice(), &closed, case)?;
+    assert_files(rt, alloc, closed.disks.as_mut_slice(), files)
 }
 
 // ---- the path `b` is of class 5, `d` of class 3, and `a` of class 12
@@ -532,48 +613,292 @@ fn a_point_is_put_while_a_question_reads_its_metric(rt: HostRuntime) -> Result<(
     assert_case(&rt, rt.alloc(), &case)
 }
 
-// More points of the class come than the limit lets stay pending.
-const FILLS: [Row; 4] = [
+// ---- each call of a class's disk that may wait
+
+// `a` is drained. The drain of `b` has begun, and `b` is put again.
+const BEGUN: [Row; 8] = [
+    (Deed::Put("a", 0, 4), End::Put(Put::Stored)),
+    (Deed::Plan(12), End::Planned("a")),
+    (Deed::Write(12), End::Wrote(Wrote::Run)),
+    (Deed::Write(12), End::Wrote(Wrote::Run)),
+    (Deed::Write(12), End::Wrote(Wrote::Finished)),
+    (Deed::Put("b", 0, 1), End::Put(Put::Stored)),
+    (Deed::Plan(5), End::Planned("b")),
+    (Deed::Put("b", 1, 5), End::Put(Put::Stored)),
+];
+
+// The same, where the drain of `b` is written.
+const WRITTEN: [Row; 11] = [
+    (Deed::Put("a", 0, 4), End::Put(Put::Stored)),
+    (Deed::Plan(12), End::Planned("a")),
+    (Deed::Write(12), End::Wrote(Wrote::Run)),
+    (Deed::Write(12), End::Wrote(Wrote::Run)),
+    (Deed::Write(12), End::Wrote(Wrote::Finished)),
+    (Deed::Put("b", 0, 1), End::Put(Put::Stored)),
+    (Deed::Plan(5), End::Planned("b")),
+    (Deed::Write(5), End::Wrote(Wrote::Run)),
+    (Deed::Write(5), End::Wrote(Wrote::Run)),
+    (Deed::Write(5), End::Wrote(Wrote::Finished)),
+    (Deed::Put("b", 1, 5), End::Put(Put::Stored)),
+];
+
+// What is asked for, as it was before anything came meanwhile.
+const HELD_B: Shown = Shown {
+    path: "b",
+    values: &[Some(1_000), Some(5_000), None, None, None],
+};
+
+const MOST_B: Shown = Shown {
+    path: "b",
+    values: &[Some(1_000), Some(6_000), Some(2_000), None, None],
+};
+
+const TWO_R: Shown = Shown {
+    path: "r",
+    values: &[Some(4_000), Some(6_000), None, None, None],
+};
+
+// Points of the class are put meanwhile, and one of another. Of the metrics that are asked for one is all pending in
+// the class that waits, one is all pending in another class, one is in its file there, and one is not there.
+const MEANWHILE: [Row; 10] = [
     (Deed::Await(0), End::Up),
-    (Deed::PutAll(TEN), End::PutAll(TEN_STORED)),
-    (Deed::Put("r", 0, 1), End::Put(Put::Full)),
+    (Deed::Put("b", 2, 2), End::Put(Put::Stored)),
+    (Deed::Put("b", 1, 6), End::Put(Put::Replaced)),
+    (
+        Deed::PutAll(&[("r", 0, 3), ("r", 1, 6), ("r", 0, 4)]),
+        End::PutAll(TWO_AND_ONE),
+    ),
+    (Deed::Put("d", 0, 2), End::Put(Put::Stored)),
+    (Deed::Ask(ONLY_R), End::Shown(&[&[TWO_R]], 1)),
+    (
+        Deed::Ask(&[b"d", b"a", b"none"]),
+        End::Shown(&[&[D], &[A], &[]], 1),
+    ),
+    (Deed::Names, End::Names(&["a", "b", "d", "r"])),
+    (Deed::Count, End::Counted(SEVEN_AND_TWO)),
     (Deed::Raise(1), End::Up),
 ];
 
-const TEN: &[(&str, u32, u32)] = &[
-    ("b", 0, 1),
-    ("b", 1, 1),
-    ("b", 2, 1),
-    ("b", 3, 1),
-    ("b", 4, 1),
-    ("b2", 0, 1),
-    ("b2", 1, 1),
-    ("b2", 2, 1),
-    ("b2", 3, 1),
-    ("b2", 4, 1),
+const TWO_AND_ONE: PutCounts = PutCounts {
+    done: 3,
+    stored: 2,
+    replaced: 1,
+    full: 0,
+};
+
+// Two drains had begun before.
+const SEVEN_AND_TWO: Tally = Tally {
+    stored: 7,
+    replaced: 2,
+    full: 0,
+    drains: 2,
+};
+
+const ALL_SHOWN: End = End::Shown(&[&[A, MOST_B, D, TWO_R]], 1);
+
+// The file of `b` is made and written; then all that came is drained and shown.
+const WRITES_ON: [Row; 5] = [
+    (Deed::Write(5), End::Wrote(Wrote::Run)),
+    (Deed::Write(5), End::Wrote(Wrote::Run)),
+    (Deed::Write(5), End::Wrote(Wrote::Finished)),
+    (Deed::DrainAll, End::Drained(DrainEnd::Done(3))),
+    (Deed::Ask(ALL), ALL_SHOWN),
 ];
 
-const TEN_STORED: PutCounts = PutCounts {
-    done: 10,
-    stored: 10,
+// The drain of `b` takes what came meanwhile.
+const PLANS_ON: [Row; 4] = [
+    (Deed::Plan(5), End::Planned("b")),
+    (Deed::Write(5), End::Wrote(Wrote::Finished)),
+    (Deed::DrainAll, End::Drained(DrainEnd::Done(2))),
+    (Deed::Ask(ALL), ALL_SHOWN),
+];
+
+const ASKS_ON: [Row; 3] = [
+    (Deed::Ask(ONLY_B), End::Shown(&[&[HELD_B]], 1)),
+    (Deed::DrainAll, End::Drained(DrainEnd::Done(3))),
+    (Deed::Ask(ALL), ALL_SHOWN),
+];
+
+// Each point that was accepted is in its file, with the last of its values.
+const ALL_KEPT: [Kept; 4] = [
+    Kept {
+        class: 12,
+        file: "a.ring",
+        numbers: &[4],
+    },
+    Kept {
+        class: 5,
+        file: "b.ring",
+        numbers: &[1, 6, 2],
+    },
+    Kept {
+        class: 3,
+        file: "d.ring",
+        numbers: &[2],
+    },
+    Kept {
+        class: 5,
+        file: "r.ring",
+        numbers: &[4, 6],
+    },
+];
+
+#[test]
+fn points_of_a_class_are_put_shown_and_counted_whatever_its_disk_waits_for(
+    rt: HostRuntime,
+) -> Result<(), Fail> {
+    // the call that waits, what comes before it, it and what comes behind it, and the entries
+    let table: [(Stop, &[Row], &[Row], u64); 4] = [
+        (Stop::Create(5), &BEGUN, &WRITES_ON, 18),
+        (Stop::Write(5), &BEGUN, &WRITES_ON, 18),
+        (Stop::Read(5, 0), &WRITTEN, &PLANS_ON, 18),
+        (Stop::Read(5, 0), &WRITTEN, &ASKS_ON, 19),
+    ];
+    for (stop, before, first, entries) in table {
+        let case = Case {
+            stops: &[stop],
+            before,
+            first,
+            second: &MEANWHILE,
+            entries,
+            tally: Tally {
+                stored: 7,
+                replaced: 2,
+                full: 0,
+                drains: 5,
+            },
+        };
+        assert_kept(&rt, rt.alloc(), &case, &ALL_KEPT)?;
+    }
+    Ok(())
+}
+
+// ---- a disk that does not answer while the limit fills
+
+// Of the ten points that may be pending in the class there is one. What is full takes new values of its pending
+// points, and other classes take theirs.
+const FILLS: [Row; 6] = [
+    (Deed::Await(0), End::Up),
+    (Deed::PutAll(NINE), End::PutAll(NINE_STORED)),
+    (Deed::Put("r", 1, 9), End::Put(Put::Full)),
+    (
+        Deed::PutAll(&[("b", 1, 6), ("r", 2, 9), ("d", 0, 2)]),
+        End::PutAll(ONE_OF_EACH),
+    ),
+    (Deed::Count, End::Counted(FULL_TWICE)),
+    (Deed::Raise(1), End::Up),
+];
+
+const NINE: &[(&str, u32, u32)] = &[
+    ("b", 2, 2),
+    ("b", 3, 3),
+    ("b", 4, 4),
+    ("b2", 0, 11),
+    ("b2", 1, 12),
+    ("b2", 2, 13),
+    ("b2", 3, 14),
+    ("b2", 4, 15),
+    ("r", 0, 3),
+];
+
+const NINE_STORED: PutCounts = PutCounts {
+    done: 9,
+    stored: 9,
     replaced: 0,
     full: 0,
 };
 
+const ONE_OF_EACH: PutCounts = PutCounts {
+    done: 3,
+    stored: 1,
+    replaced: 1,
+    full: 1,
+};
+
+const FULL_TWICE: Tally = Tally {
+    stored: 13,
+    replaced: 1,
+    full: 2,
+    drains: 2,
+};
+
+// Once all is drained there is room again.
+const WRITES_FULL: [Row; 6] = [
+    (Deed::Write(5), End::Wrote(Wrote::Run)),
+    (Deed::Write(5), End::Wrote(Wrote::Run)),
+    (Deed::Write(5), End::Wrote(Wrote::Finished)),
+    (Deed::DrainAll, End::Drained(DrainEnd::Done(4))),
+    (Deed::Put("r", 1, 8), End::Put(Put::Stored)),
+    (Deed::DrainAll, End::Drained(DrainEnd::Done(1))),
+];
+
+const PLANS_FULL: [Row; 5] = [
+    (Deed::Plan(5), End::Planned("b")),
+    (Deed::Write(5), End::Wrote(Wrote::Finished)),
+    (Deed::DrainAll, End::Drained(DrainEnd::Done(3))),
+    (Deed::Put("r", 1, 8), End::Put(Put::Stored)),
+    (Deed::DrainAll, End::Drained(DrainEnd::Done(1))),
+];
+
+const ASKS_FULL: [Row; 4] = [
+    (Deed::Ask(ONLY_B), End::Shown(&[&[HELD_B]], 1)),
+    (Deed::DrainAll, End::Drained(DrainEnd::Done(4))),
+    (Deed::Put("r", 1, 8), End::Put(Put::Stored)),
+    (Deed::DrainAll, End::Drained(DrainEnd::Done(1))),
+];
+
+// No value that found its class full is in a file.
+const FULL_KEPT: [Kept; 5] = [
+    Kept {
+        class: 12,
+        file: "a.ring",
+        numbers: &[4],
+    },
+    Kept {
+        class: 5,
+        file: "b.ring",
+        numbers: &[1, 6, 2, 3, 4],
+    },
+    Kept {
+        class: 5,
+        file: "b2.ring",
+        numbers: &[11, 12, 13, 14, 15],
+    },
+    Kept {
+        class: 3,
+        file: "d.ring",
+        numbers: &[2],
+    },
+    Kept {
+        class: 5,
+        file: "r.ring",
+        numbers: &[3, 8],
+    },
+];
+
 #[test]
 fn points_are_stored_up_to_the_limit_while_a_disk_waits(rt: HostRuntime) -> Result<(), Fail> {
-    let case = Case {
-        stops: &[Stop::Write(5)],
-        before: &WRITES,
-        first: &[],
-        second: &FILLS,
-        entries: 13,
-        tally: Tally {
-            stored: 11,
-            replaced: 0,
-            full: 1,
-            drains: 1,
-        },
-    };
-    assert_case(&rt, rt.alloc(), &case)
+    let table: [(Stop, &[Row], &[Row], u64); 4] = [
+        (Stop::Create(5), &BEGUN, &WRITES_FULL, 24),
+        (Stop::Write(5), &BEGUN, &WRITES_FULL, 24),
+        (Stop::Read(5, 0), &WRITTEN, &PLANS_FULL, 24),
+        (Stop::Read(5, 0), &WRITTEN, &ASKS_FULL, 25),
+    ];
+    for (stop, before, first, entries) in table {
+        let case = Case {
+            stops: &[stop],
+            before,
+            first,
+            second: &FILLS,
+            entries,
+            tally: Tally {
+                stored: 14,
+                replaced: 1,
+                full: 2,
+                drains: 7,
+            },
+        };
+        assert_kept(&rt, rt.alloc(), &case, &FULL_KEPT)?;
+    }
+    Ok(())
 }

@@ -49,7 +49,7 @@ struct Story {
     told: &'static str,
 }
 
-const STORIES: [Story; 18] = [
+const STORIES: [Story; 21] = [
     Story {
         title: "no folder has no names",
         steps: &[Step::Names, Step::Length("c")],
@@ -184,6 +184,58 @@ const STORIES: [Story; 18] = [
             Step::Length("c"),
         ],
         told: "ok ok failed 20 ",
+    },
+    Story {
+        title: "a file of version 1 that was listed is made anew, also by its second disk",
+        steps: &[
+            Step::Folder(""),
+            Step::Put("c", "\0\0\0\u{1}twenty bytes and more"),
+            Step::Put("d", "\0\0\0\u{8}twenty bytes and more"),
+            Step::Wait(30),
+            Step::Names,
+            Step::Create("c", 18),
+            Step::Length("c"),
+            Step::Read("c", 2),
+            Step::Over(Kind::ToBeWritten, ""),
+            Step::Names,
+            Step::Read("d", 4),
+            Step::Create("d", 18),
+            Step::Read("d", 2),
+        ],
+        told: "[c,d] ok 18 \\0\\0 [c,d] tw ok \\0\\0 ",
+    },
+    Story {
+        title: "a file of version 1 that came since the list is not made anew, nor one of which there was none",
+        steps: &[
+            Step::Folder(""),
+            Step::Put("d", "\0\0\0\u{1}twenty bytes and more"),
+            Step::Create("d", 18),
+            Step::Names,
+            Step::Wait(120),
+            Step::Put("c", "\0\0\0\u{1}twenty bytes and more"),
+            Step::Create("c", 18),
+            Step::Read("c", 4),
+            Step::Wait(240),
+            Step::Put("d", "\0\0\0\u{1}others"),
+            Step::Create("d", 18),
+            Step::Read("d", 4),
+        ],
+        told: "failed [d] failed tw failed ot ",
+    },
+    Story {
+        title: "a file of version 2 is not made anew, nor one of no version",
+        steps: &[
+            Step::Folder(""),
+            Step::Put("c", "\0\0\u{2}\u{1}twenty bytes and more"),
+            Step::Put("d", "\0\0\0\u{9}twenty bytes and more"),
+            Step::Wait(30),
+            Step::Names,
+            Step::Create("c", 18),
+            Step::Wait(60),
+            Step::Create("d", 18),
+            Step::Read("c", 4),
+        ],
+        told: "[c,d] failed failed tw ",
     },
     Story {
         title: "a file that is removed while it is open takes no more, until it is there again",

@@ -4,7 +4,7 @@ use Rattle.std.proofs.lemmas.Str.{IsUtf8-from_is_utf8, is_utf8-from_IsUtf8}
 use Rattle.std.specs.Option.{option_map_or}
 use Rattle.std.specs.Str.{is_utf8}
 use Rattle.std.specs.Str.Lossy.{utf8_valid_len}
-use Rattle.fixed_num.specs.Decimal.{fits_i64, is_not_finite, is_number, scaled}
+use Rattle.fixed_num.specs.Decimal.{fits, is_not_finite, is_number, scaled}
 use Rattle.fixed_num.specs.Read.{fault_of, fitting, read_as}
 use Rattle.fixed_num.specs.declared.NumFault.{NumFault}
 use Rattle.fixed_num.specs.declared.NumFault.TheVariants.{NotNumber, NotFinite, OutOfRange}
@@ -22,7 +22,7 @@ is_of_number (Err OutOfRange) = true
 is_of_number (Err NotFinite) = false
 is_of_number (Err NotNumber) = false
 
-fitting_tells : (z : ℤ) (fits : Bool) → is_of_number (cond fits (Ok z) (Err OutOfRange)) ≡ true
+fitting_tells : (z : ℤ) (fit : Bool) → is_of_number (cond fit (Ok z) (Err OutOfRange)) ≡ true
 fitting_tells z true = refl
 fitting_tells z false = refl
 
@@ -30,11 +30,11 @@ fault_tells : (infinite : Bool) → is_of_number (Err (cond infinite NotFinite N
 fault_tells true = refl
 fault_tells false = refl
 
-number_cases : (text : List ℕ) (number : Bool) → is_of_number (cond number (fitting (scaled 1000 text)) (Err (fault_of text))) ≡ number
-number_cases text true = fitting_tells (scaled 1000 text) (fits_i64 (scaled 1000 text))
+number_cases : (text : List ℕ) (number : Bool) → is_of_number (cond number (fitting fits (scaled 1000 text)) (Err (fault_of text))) ≡ number
+number_cases text true = fitting_tells (scaled 1000 text) (fits (scaled 1000 text))
 number_cases text false = fault_tells (is_not_finite text)
 
-pub read_tells : (text : List ℕ) → is_of_number (read_as 1000 text) ≡ is_number text
+pub read_tells : (text : List ℕ) → is_of_number (read_as fits 1000 text) ≡ is_number text
 unfolding read_as
 read_tells text = number_cases text (is_number text)
 

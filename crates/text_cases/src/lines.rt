@@ -3,7 +3,7 @@
 use crate::given::joined;
 use crate::{numbers, paths};
 use case_lines::{Case, CaseFault};
-use fixed_num::legal_moment;
+use fixed_num::{legal_moment, wide};
 use metric_line::{Datum, LineFault, StampFault, read_line, read_line_over};
 use metric_path::MetricPath;
 use std::alloc::{AllocError, Global};
@@ -63,7 +63,7 @@ fn tell_over(
 
 fn push_datum(told: &mut String, datum: &Datum) -> Result<(), AllocError> {
     let path = datum.path.as_str();
-    write!(told, "{path} {} {}", datum.value, datum.time)
+    write!(told, "{path} {} {}", wide(datum.value), datum.time)
 }
 
 // The words of a fault.

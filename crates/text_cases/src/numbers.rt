@@ -3,7 +3,7 @@
 use crate::telling::push_bytes;
 use case_lines::{Case, CaseFault};
 use fixed_num::{
-    MILLI_TEXT, NumFault, legal_moment, milli_front, narrow, print_milli, read_milli,
+    MILLI_TEXT, Milli, NumFault, legal_moment, milli_front, narrow, print_milli, read_milli,
     read_millionths, read_nano, read_whole, wide,
 };
 use std::alloc::AllocError;
@@ -35,7 +35,7 @@ fn tell_whole(told: &mut String, case: &Case) -> Result<(), CaseFault> {
 /// `milli TEXT`: the value in thousandths, or its fault.
 fn tell_milli(told: &mut String, case: &Case) -> Result<(), CaseFault> {
     match read_milli(case.bytes(0)?) {
-        Ok(value) => Ok(write!(told, "{value}")?),
+        Ok(value) => Ok(write!(told, "{}", wide(value))?),
         Err(fault) => Ok(push_fault(told, fault)?),
     }
 }
@@ -43,7 +43,7 @@ fn tell_milli(told: &mut String, case: &Case) -> Result<(), CaseFault> {
 /// `milli-front TEXT`: the value in thousandths at the front of the text and the bytes that it takes, or `none`.
 fn tell_front(told: &mut String, case: &Case) -> Result<(), CaseFault> {
     match milli_front(case.bytes(0)?) {
-        Some(front) => Ok(write!(told, "{} of {}", front.value, front.len)?),
+        Some(front) => Ok(write!(told, "{} of {}", wide(front.value), front.len)?),
         None => Ok(told.push_str("none")?),
     }
 }
@@ -51,7 +51,7 @@ fn tell_front(told: &mut String, case: &Case) -> Result<(), CaseFault> {
 /// `milli-text VALUE`: the text of a value in thousandths.
 fn tell_text(told: &mut String, case: &Case) -> Result<(), CaseFault> {
     let mut text = [0; MILLI_TEXT];
-    let length = print_milli(case.signed(0)?, &mut text);
+    let length = print_milli(value_in(case, 0)?, &mut text);
     Ok(push_bytes(told, text.get(..length).unwrap_or(&[]))?)
 }
 
@@ -73,10 +73,18 @@ fn tell_millionths(told: &mut String, case: &Case) -> Result<(), CaseFault> {
 
 /// `narrow VALUE MORE`: the sum of both as a value, or `none` where it is none.
 fn tell_narrow(told: &mut String, case: &Case) -> Result<(), CaseFault> {
-    let more = i128::from(case.signed(1)?);
-    match narrow(wide(case.signed(0)?).saturating_add(more)) {
-        Some(value) => Ok(write!(told, "{value}")?),
+    let more = wide(value_in(case, 1)?);
+    match narrow(wide(value_in(case, 0)?).saturating_add(more)) {
+        Some(value) => Ok(write!(told, "{}", wide(value))?),
         None => Ok(told.push_str("none")?),
+    }
+}
+
+// A value in thousandths.
+fn value_in(case: &Case, at: usize) -> Result<Milli, CaseFault> {
+    match case.text(at)?.parse::<i128>() {
+        Ok(number) => narrow(number).ok_or(CaseFault::Malformed),
+        Err(_) => Err(CaseFault::Malformed),
     }
 }
 

@@ -1,5 +1,5 @@
 -- The runs from a place on.
-use Rattle.std.proofs.Common.{◌≡◌, ◌∙◌, ◌⊎◌, ℕ, zero, suc, ℤ, ◌+◌, ◌-◌, ◌<◌, ◌≤◌, Bool, true, false, cond, ◌&&◌, ◌==◌, nat_lt, List, [], ◌∷◌, ◌++◌, length, Option, Some, None, IsSome, IfSome, slice_get, get_or, inl, inr, refl, sym, ap, subst, arith, All, append_assoc}
+use Rattle.std.proofs.Common.{◌≡◌, ◌∙◌, ℕ, zero, suc, ℤ, ◌+◌, ◌-◌, ◌<◌, ◌≤◌, false, ◌&&◌, ◌==◌, nat_lt, List, [], ◌∷◌, ◌++◌, Option, Some, None, IsSome, slice_get, get_or, inl, inr, refl, sym, ap, subst, arith, All, append_assoc}
 use Rattle.std.specs.List.{AllByRecursion}
 use Rattle.std.specs.List.Sorted.{IsStrictlySortedBy}
 use Rattle.std.specs.Map.{keys_of}
@@ -10,11 +10,11 @@ use Rattle.ring_format.specs.declared.archive.Archive.{Archive}
 use Rattle.ring_format.specs.Layout.{LayoutValue, point_count}
 use Rattle.ring_format.specs.Patch.{Cells as Laid, IsPlace, PatchValue, cell_at, first_cell_from, place_cmp}
 use Rattle.ring_format.proofs.LawfulLayouts.{points_within}
-use Rattle.write_shelf.specs.Behind.{IsFirstOf, IsRunLength, places_from, runs_behind, runs_from, runs_with}
-use Rattle.write_shelf.specs.Runs.{last_runs, runs_in, runs_of, runs_on}
+use Rattle.write_shelf.specs.Behind.{IsFirstOf, IsRunLength, places_from, runs_behind, runs_from}
+use Rattle.write_shelf.specs.Runs.{last_runs, runs_in, runs_on}
 use Rattle.write_shelf.specs.Shelf.{AreLaid, IsBegun}
 use Rattle.write_shelf.specs.declared.run.Run.{Run}
-use Rattle.write_shelf.specs.declared.run.Run.TheVariants.{Create, Cells, Head}
+use Rattle.write_shelf.specs.declared.run.Run.TheVariants.{Cells}
 use Rattle.write_shelf.proofs.OrderLemmas.{found_first, found_laid, laid_first, laid_holds, none_found, unlaid_none}
 
 -- a run goes on with the next slot

@@ -17,7 +17,7 @@ places_in (Create size) = []
 places_in (Cells archive slot count) = neighbours archive slot count
 places_in Head = []
 
--- a run of cells, at least one and at most those that 4,096 bytes hold whole
+-- a run of cells, at least one and at most 341
 abbrev pub IsCellRun : Run → Type 0
 IsCellRun (Create size) = ⊥
 IsCellRun (Cells archive slot count) = (1 ≤ count) × (count ≤ 341)

@@ -2,7 +2,7 @@
 use Rattle.std.specs.Prelude.{◌≡◌, ℕ, ◌+◌, ◌*◌, ◌<◌, ◌≤◌, true, ⊤, List, [], ◌∷◌, ◌++◌, length, take, drop, slice_get, Option, None, Some, IfSome, IsSome, IsSomeAnd, option_and_then}
 use Rattle.std.specs.List.{flat_map, range_with_len}
 use Rattle.std.specs.Option.{option_map_or}
-use Rattle.ring_format.specs.Cell.{cell_bytes, cell_of}
+use Rattle.ring_format.specs.Cell.{cell_bytes, cell_in, cell_size}
 use Rattle.ring_format.specs.Head.{head_bytes}
 use Rattle.ring_format.specs.LayoutFile.{file_size_of, offset_of}
 use Rattle.ring_format.specs.Patch.{Cells as Laid, PatchValue, cell_at}
@@ -78,14 +78,14 @@ run_bytes patch Head = head_bytes patch.layout
 
 abbrev pub run_at : PatchValue → Run → ℕ
 run_at patch (Create size) = 0
-run_at patch (Cells archive slot count) = offset_of patch.layout.archives archive + 12 * slot
+run_at patch (Cells archive slot count) = offset_of patch.layout.archives archive + cell_size * slot
 run_at patch Head = 0
 
 -- each cell of the run is read back from its bytes
 abbrev pub ReadsBack : PatchValue → Run → Type 0
 ReadsBack patch (Create size) = ⊤
 ReadsBack patch (Cells archive slot count) = (k : ℕ) → k < count
-    → IsSomeAnd (cell_at patch.cells (archive, slot + k)) (λ cell. cell_of (cell_bytes cell.0 cell.1) ≡ cell)
+    → IsSomeAnd (cell_at patch.cells (archive, slot + k)) (λ cell. cell_in 2 (cell_bytes cell.0 cell.1) ≡ (cell.0, Some cell.1))
 ReadsBack patch Head = ⊤
 
 -- these first bytes are those of the run

@@ -1,6 +1,7 @@
 //! The bytes of runs.
 ghost use Rattle.std.specs.Prelude.{◌≡◌, ◌+◌, ◌*◌, ◌++◌, ◌<◌, ◌≤◌, ℕ, IsSome, length, take};
 ghost use Rattle.ring_format.specs.Head.{head_bytes};
+ghost use Rattle.ring_format.specs.Cell.{cell_size};
 ghost use Rattle.write_shelf.specs.Shelf.{AreLaid, IsFilled, IsRunOf, ReadsBack, StandsAt, cells_bytes};
 ghost use Rattle.write_shelf.specs.declared.run.Run.TheVariants.{Cells};
 
@@ -40,18 +41,18 @@ pub(crate) fn place_of(patch: &Patch, run: Run) -> u64
 // Writes the cells in neighbouring slots, and answers how many bytes they take.
 fn put_cells(patch: &Patch, archive: u32, slot: u32, count: u32, out: &mut [u8; RUN_BYTES]) -> usize
     requires { AreLaid patch.now archive slot count }
-    ensures end { result ≡ 12 * count }
+    ensures end { result ≡ cell_size * count }
     ensures written { take result out.new ≡ cells_bytes patch.now.cells archive slot count }
     ensures read { ReadsBack patch.now (Cells archive slot count) }
 {
     let first = index_of(patch, archive, slot);
     for k in 0..count {
         let at = first.saturating_add(k as usize);
-        let Some((bucket, value)) = cell_near(patch, at, archive, slot + k) else {
+        let Some(held) = cell_near(patch, at, archive, slot + k) else {
             unreachable!()
         };
         let mut cell = [0; CELL_BYTES];
-        write_cell(bucket, value, &mut cell);
+        write_cell(held.0, held.1, &mut cell);
         put_cell(&cell, CELL_BYTES * k as usize, out);
     }
     CELL_BYTES * count as usize
@@ -59,8 +60,8 @@ fn put_cells(patch: &Patch, archive: u32, slot: u32, count: u32, out: &mut [u8; 
 
 // Writes the bytes of a cell to a place.
 fn put_cell(cell: &[u8; CELL_BYTES], at: usize, out: &mut [u8; RUN_BYTES])
-    requires { at + 12 ≤ RUN_BYTES }
-    ensures { take (at + 12) out.new ≡ take at out.old ++ cell.now }
+    requires { at + cell_size ≤ RUN_BYTES }
+    ensures { take (at + cell_size) out.new ≡ take at out.old ++ cell.now }
 {
     out[at..at + CELL_BYTES].copy_from_slice(cell);
 }

@@ -9,7 +9,7 @@ use Rattle.archive_update.proofs.planning.plan_all.Goals as goal
 
 pub loop-archive-init : goal.loop-archive-init
 loop-archive-init g c = record {
-  plans = under_all c.args.patch.now.fresh (g.D.Disk.image c.args.disk.now) c.args.view.now.name.now c.args.view.now.layout.archives _ c.requires.file (λ file rings reads. reads);
+  plans = under_all c.args.patch.now.fresh (g.D.Disk.image c.args.disk.now) c.args.view.now.name.now c.args.view.now.version c.args.view.now.layout.archives _ c.requires.file.1 (λ file rings reads. reads);
   filled = λ none i lt. absurd (omega arith);
   untouched = λ none. refl;
   alike = alike_same c.args.patch.now;

@@ -8,7 +8,7 @@ use Rattle.archive_update.proofs.planning.plan_archive.Goals as goal
 pub returns-then-is_empty-clause-plans : goal.returns-then-is_empty-clause-plans
 returns-then-is_empty-clause-plans g c =
     let none : length c.in_ok-own.own.items ≡ 0 = grind (arith, nat_tests, c.is_empty.ensures, c.if-is_empty.true) in
-    under_all c.args.patch.now.fresh (g.D.Disk.image c.args.disk.now) c.args.view.now.name.now c.args.view.now.layout.archives _ c.requires.file (λ file.
+    under_all c.args.patch.now.fresh (g.D.Disk.image c.args.disk.now) c.args.view.now.name.now c.args.view.now.version c.args.view.now.layout.archives _ c.requires.file.1 (λ file.
     plans_none c.args.view.now.layout c.args.now c.args.points.now c.in_ok-own.own.items c.args.patch.now c.args.archive file c.in_ok-own.ensures.writes none)
 
 pub returns-clause-plans : goal.returns-clause-plans

@@ -12,11 +12,11 @@ pub loop-k-init : goal.loop-k-init
 loop-k-init g c =
     let steps = step_of_found c.args.view.now.layout.archives (c.args.finer.archive + 1) c.archive-step.result c.archive-step.ensures.value in
     record {
-      writes = under_all c.args.patch.now.fresh (g.D.Disk.image c.args.disk.now) c.args.view.now.name.now c.args.view.now.layout.archives _ c.requires.file (λ file rings reads. c.in_ok-writes.ensures.items ∙ level_start c.args.view.now.layout rings c.args.finer.archive);
+      writes = under_all c.args.patch.now.fresh (g.D.Disk.image c.args.disk.now) c.args.view.now.name.now c.args.view.now.version c.args.view.now.layout.archives _ c.requires.file.1 (λ file rings reads. c.in_ok-writes.ensures.items ∙ level_start c.args.view.now.layout rings c.args.finer.archive);
       shown = rw c.in_ok-writes.ensures.items (λ k d lt. absurd (omega arith));
       held = record {
         exact = rw steps (let some : 1 ≤ c.archive-step.result.step = c.archive-step.ensures.step.0 in omega arith);
-        held = under_all c.args.patch.now.fresh (g.D.Disk.image c.args.disk.now) c.args.view.now.name.now c.args.view.now.layout.archives _ c.requires.file (λ file. c.new.ensures.items ∙ nothing_held c.args.patch.now file c.args.finer.archive 0 (places_in c.args.view.now.layout c.args.finer.archive));
+        held = under_all c.args.patch.now.fresh (g.D.Disk.image c.args.disk.now) c.args.view.now.name.now c.args.view.now.version c.args.view.now.layout.archives _ c.requires.file.1 (λ file. c.new.ensures.items ∙ nothing_held c.args.patch.now file c.args.finer.archive 0 (places_in c.args.view.now.layout c.args.finer.archive));
       };
       kept = refl;
       later = omega arith;

@@ -8,7 +8,7 @@ use Rattle.archive_update.proofs.rolling.roll_up.Goals as goal
 
 pub loop-archive-init : goal.loop-archive-init
 loop-archive-init g c = record {
-  rolls = under_all c.args.patch.now.fresh (g.D.Disk.image c.args.disk.now) c.args.view.now.name.now c.args.view.now.layout.archives _ c.requires.file (λ file. rolls_start c.args.view.now.layout c.args.own.now c.args.patch.now c.args.from.archive file);
+  rolls = under_all c.args.patch.now.fresh (g.D.Disk.image c.args.disk.now) c.args.view.now.name.now c.args.view.now.version c.args.view.now.layout.archives _ c.requires.file.1 (λ file. rolls_start c.args.view.now.layout c.args.own.now c.args.patch.now c.args.from.archive file);
   based = c.requires.based;
   alike = alike_same c.args.patch.now;
   kept = refl;

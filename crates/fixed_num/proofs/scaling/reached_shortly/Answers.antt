@@ -23,4 +23,4 @@ returns-clause-value c =
     (search rules) c.in_ok-before.ensures.value c.in_ok-behind.ensures.value c.requires
     (lt_of_lt_of_le c.in_ok-before.ensures.range (pow-le-pow_right {n = 10} (omega arith) (omega (arith, c.if-whole-most.false))))
     (lt_of_lt_of_le c.in_ok-behind.ensures.range (pow-le-pow_right {n = 10} (omega arith) (omega (arith, c.if-fraction-most.false))))
-    ∙ ap (λ reached. Some reached) (sym c.reached_parts.ensures)
+    ∙ ap (λ reached. Some reached) (sym c.reached_parts.ensures.value)

@@ -7,6 +7,6 @@ pub returns-clause-written : goal.returns-clause-written
 unfolding point_fields time_text
 returns-clause-written c =
     let text = c.args.text.now in
-    let long : length text ≡ 44 = search rules in
-    let last : drop 44 text ≡ [] = drop_all 44 text (omega (arith, long)) in
+    let long : length text ≡ 56 = search rules in
+    let last : drop 56 text ≡ [] = drop_all 56 text (omega (arith, long)) in
     rw (c.put.ensures.written, c.put_date-at.ensures.written, c.put-at-3.ensures.written, c.put_clock-at.ensures.written, c.put-at-2.ensures.written, c.put_value_or-at.ensures.written, c.put-at.ensures.written, last, c.requires.date)

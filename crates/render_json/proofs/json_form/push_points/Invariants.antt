@@ -10,4 +10,4 @@ invariant-loop-value l =
     let left = map point_text (points_from l.time l.series.step (drop l.value-index l.series.values)) in
     (l.out.items ++ cond l.is_first (joined (codes ", ") left) (further (codes ", ") left) ≡ l.fn.out.items ++ points_text l.series)
     × (l.time + length (drop l.value-index l.series.values) * l.series.step ≤ latest_end)
-    × (drop l.end l.text ≡ time_tail l.time no_text) × (25 ≤ l.end) × (l.end ≤ 48)
+    × (drop l.end l.text ≡ time_tail l.time no_text) × (37 ≤ l.end) × (l.end ≤ 64)

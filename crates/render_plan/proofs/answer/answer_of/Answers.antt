@@ -4,7 +4,7 @@ use Rattle.series_funcs.proofs.EachLemmas.{if_err_at}
 use Rattle.render_plan.specs.Planned.{plan_of}
 use Rattle.render_plan.specs.Terms.{term_of}
 use Rattle.render_plan.specs.Values.{Answers, Rows}
-use Rattle.render_plan.proofs.ValueLemmas.{answer_dated, answer_good, answer_stop, thinnable}
+use Rattle.render_plan.proofs.ValueLemmas.{answer_dated, answer_good, answer_stop}
 use Rattle.render_plan.proofs.answer.answer_of.Goals as goal
 
 pub returns-in_err-sets-clause-err : goal.returns-in_err-sets-clause-err

@@ -1,4 +1,4 @@
-use Rattle.std.proofs.Common.{◌-◌, ◌∙◌, length, sym, arith, rules}
+use Rattle.std.proofs.Common.{◌-◌, ◌∙◌, ℕ, ℤ, length, ap, sym, arith, rules}
 use Rattle.std.specs.Ordering.{is_gt}
 use Rattle.std.proofs.lemmas.List.Sorted.{IsPartitionPoint-from_clause}
 use Rattle.ring_format.specs.Patch.{place_cmp}
@@ -13,12 +13,14 @@ returns-then-count-eq0-clause-puts c = puts_at c.args.cells.now (c.args.archive,
 
 pub returns-then-stands_before-clause-value : goal.returns-then-stands_before-clause-value
 returns-then-stands_before-clause-value c =
-    all_before c.args.cells.now (c.args.archive, c.args.slot) (length c.args.cells.now - 1) _ c.requires (omega (arith, c.if-count-eq0.false)) (sym c.stands_before.ensures ∙ c.if-stands_before.true)
+    all_before c.args.cells.now (c.args.archive, c.args.slot) (length c.args.cells.now - 1) c.index-cells-count.result c.requires (omega (arith, c.if-count-eq0.false))
+    (ap (λ (cell : (ℕ × ℕ) × (ℕ × ℤ)). is_gt (place_cmp (c.args.archive, c.args.slot) cell.0)) (sym c.index-cells-count.is) ∙ sym c.stands_before.ensures ∙ c.if-stands_before.true)
 
 pub returns-then-stands_before-clause-puts : goal.returns-then-stands_before-clause-puts
 returns-then-stands_before-clause-puts c =
     puts_at c.args.cells.now (c.args.archive, c.args.slot) _ c.requires
-    (all_before c.args.cells.now (c.args.archive, c.args.slot) (length c.args.cells.now - 1) _ c.requires (omega (arith, c.if-count-eq0.false)) (sym c.stands_before.ensures ∙ c.if-stands_before.true))
+    (all_before c.args.cells.now (c.args.archive, c.args.slot) (length c.args.cells.now - 1) c.index-cells-count.result c.requires (omega (arith, c.if-count-eq0.false))
+    (ap (λ (cell : (ℕ × ℕ) × (ℕ × ℤ)). is_gt (place_cmp (c.args.archive, c.args.slot) cell.0)) (sym c.index-cells-count.is) ∙ sym c.stands_before.ensures ∙ c.if-stands_before.true))
 
 pub returns-clause-value : goal.returns-clause-value
 returns-clause-value c =

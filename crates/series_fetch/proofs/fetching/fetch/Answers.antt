@@ -24,7 +24,7 @@ returns-in_default-clause-fetches g c =
     rw (empty, c.new.ensures.items) (record {
       count = refl;
       some = ((λ i bucket. None), refl);
-      told = under_all c.args.patch.now.fresh (g.D.Disk.image c.args.disk.now) c.args.view.now.name.now c.args.view.now.layout.archives _ c.requires.file (λ file rings reads. refl);
+      told = under_all c.args.patch.now.fresh (g.D.Disk.image c.args.disk.now) c.args.view.now.name.now c.args.view.now.version c.args.view.now.layout.archives _ c.requires.file.1 (λ file rings reads. refl);
     })
 
 pub returns-clause-fetches : goal.returns-clause-fetches

@@ -1,6 +1,6 @@
-use Rattle.std.proofs.Common.{◌≡◌, ◌+◌, ◌*◌, ◌-◌, ◌∙◌, None, drop, arith, length-take}
+use Rattle.std.proofs.Common.{◌≡◌, ◌+◌, ◌*◌, ◌-◌, ◌<◌, ◌∙◌, None, drop, get_or, length, arith, length-take}
 use Rattle.std.proofs.lemmas.List.{length-set}
-use Rattle.std.proofs.lemmas.List.{get_or-set_other}
+use Rattle.std.proofs.lemmas.List.{get_or_default, get_or-set_other}
 use Rattle.series_fetch.proofs.CutLemmas.{few_between, values_of_bucket}
 use Rattle.series_fetch.proofs.LayingLemmas.{laid_more, value_laid, whole_more}
 use Rattle.series_fetch.proofs.laying.lay_points.Goals as goal
@@ -16,7 +16,9 @@ loop-k-preserved c =
     let end : c.loop-k.limit + c.args.step ≡ c.args.first + (c.loop-k.k + 1) * c.args.step = omega (arith, now.place) in
     let whole = whole_more c.args.first c.args.step c.loop-k.k c.requires.whole in
     let pending = values_of_bucket c.args.points.now c.args.known.now c.args.step c.loop-k.limit c.loop-k.at c.cut_from-end.result now.cut c.cut_from-end.ensures.cut c.cut_from-end.ensures.onward c.requires.step.0 (rw now.place whole) c.requires.known in
-    let value = value_laid c.args.layout.now c.args.points.now c.args.archive c.args.step c.loop-k.limit c.shown_value.result _ _ _ c.shown_value.ensures (now.rest c.loop-k.k (omega arith)) pending in
+    let within : c.loop-k.k < length c.loop-k.values = omega (arith, now.all) in
+    let held : c.index-values-k.result ≡ get_or c.args.values.now c.loop-k.k None = c.index-values-k.is ∙ get_or_default c.loop-k.values c.loop-k.k c.index-values-k.result None within ∙ now.rest c.loop-k.k (omega arith) in
+    let value = value_laid c.args.layout.now c.args.points.now c.args.archive c.args.step c.loop-k.limit c.shown_value.result c.index-values-k.result (get_or c.args.values.now c.loop-k.k None) _ c.shown_value.ensures held pending in
     record {
       place = end;
       all = length-set c.loop-k.values c.loop-k.k c.shown_value.result ∙ now.all;

@@ -10,5 +10,5 @@ combined_known-value-requires c =
 
 pub loop-bucket-preserved : goal.loop-bucket-preserved
 loop-bucket-preserved c =
-    rw (c.in_ok-push.ensures.items, c.loop-bucket.invariant, c.combined_known-value.ensures, c.deref.ensures.value, c.in_ok-gather_bucket.ensures)
+    rw (c.in_ok-push.ensures.items, c.loop-bucket.invariant, c.of.ensures, c.combined_known-value.ensures, c.deref.ensures.value, c.in_ok-gather_bucket.ensures)
     (buckets_more c.args.kind c.args.series.now c.args.grid.now c.loop-bucket.bucket)

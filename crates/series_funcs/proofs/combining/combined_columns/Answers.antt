@@ -8,5 +8,5 @@ combined_known-requires c =
 
 pub loop-place-preserved : goal.loop-place-preserved
 loop-place-preserved c =
-    rw (c.in_ok-push.ensures.items, c.loop-place.invariant, c.combined_known.ensures, c.deref.ensures.value, c.in_ok-gather_known.ensures)
+    rw (c.in_ok-push.ensures.items, c.loop-place.invariant, c.of.ensures, c.combined_known.ensures, c.deref.ensures.value, c.in_ok-gather_known.ensures)
     (columns_more c.args.kind c.args.series.now c.loop-place.place)

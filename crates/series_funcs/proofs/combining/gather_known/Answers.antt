@@ -1,5 +1,4 @@
-use Rattle.std.proofs.Common.{sym, ap, ◌∙◌, ◌++◌, ◌∷◌, List, ℤ, [], FitsSigned, w64, rules}
-use Rattle.std.proofs.lemmas.Int.{to_z-of_z}
+use Rattle.std.proofs.Common.{sym, ap, ◌∙◌, ◌++◌, ◌∷◌, List, ℤ, []}
 use Rattle.std.proofs.lemmas.List.{append-nil}
 use Rattle.series_funcs.proofs.ColumnLemmas.{known_more}
 use Rattle.series_funcs.proofs.combining.gather_known.Goals as goal
@@ -12,8 +11,6 @@ loop-one-preserved-in_default c =
 
 pub loop-one-preserved : goal.loop-one-preserved
 loop-one-preserved c =
-    let fits : FitsSigned w64 c.in-Some.value = search rules in
     c.in_ok-push.ensures.items
-    ∙ ap (λ (v : ℤ). c.loop-one.gathered.items ++ v ∷ []) (to_z-of_z w64 c.in-Some.value fits)
     ∙ ap (λ (xs : List ℤ). xs ++ c.in-Some.value ∷ []) c.loop-one.invariant
     ∙ sym (known_more c.args.series.now c.args.place c.loop-one.one-index c.one-item.result _ c.loop-one-test.true c.one-item.is (sym c.in-Some.is ∙ c.value_at.ensures))

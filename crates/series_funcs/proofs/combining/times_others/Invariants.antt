@@ -3,4 +3,4 @@ use Rattle.series_funcs.specs.Combined.{times_next}
 use Rattle.series_funcs.proofs.combining.times_others.Given as goal
 
 abbrev pub invariant-loop-factor : goal.invariant-loop-factor
-invariant-loop-factor l = Some l.product ≡ fold times_next (Some l.first) (take l.factor-index l.others)
+invariant-loop-factor l = Some l.product ≡ fold times_next (Some l.fn.first) (take l.factor-index l.others)

@@ -5,5 +5,5 @@ use Rattle.series_funcs.proofs.looking_back.delayed.Goals as goal
 
 pub loop-place-preserved : goal.loop-place-preserved
 loop-place-preserved c =
-    rw (c.in_ok-push.ensures.items, c.loop-place.invariant, c.delayed_at.ensures)
+    rw (c.in_ok-push.ensures.items, c.loop-place.invariant, c.of.ensures, c.delayed_at.ensures)
     (sym (map-range_with_len_more (delayed_at c.args.places c.args.values.now) 0 c.loop-place.place c.loop-place.place (omega arith)))

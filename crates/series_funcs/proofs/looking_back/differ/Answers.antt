@@ -11,6 +11,6 @@ loop-place-preserved c =
     let within : place < length old = search rules in
     let so_far = c.loop-place.invariant in
     let value = read_next (derivative_at old) old c.loop-place.values.items place c.index-value.result.now within c.index-value.ensures so_far.0 in (
-      placed_more (derivative_at old) old c.loop-place.values.items place None c.minus.result within (c.minus.ensures ∙ ap₂ minus value so_far.1) so_far.0,
+      placed_more (derivative_at old) old c.loop-place.values.items place None c.of.result within (c.of.ensures ∙ c.minus.ensures ∙ ap₂ minus value so_far.1) so_far.0,
       value ∙ before_next old place,
     )

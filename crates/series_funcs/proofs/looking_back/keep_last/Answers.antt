@@ -1,5 +1,4 @@
-use Rattle.std.proofs.Common.{◌≡◌, ◌<◌, ◌+◌, ℤ, drop, length, None, Some, FitsSigned, w64, sym, ap, subst, ◌∙◌, rules}
-use Rattle.std.proofs.lemmas.Int.{to_z-of_z}
+use Rattle.std.proofs.Common.{◌≡◌, ◌<◌, ◌+◌, ℤ, Option, drop, length, None, Some, refl, sym, ap, subst, ◌∙◌, rules}
 use Rattle.std.proofs.lemmas.List.{take_rest}
 use Rattle.series_funcs.specs.Shaped.{at, kept_at}
 use Rattle.series_funcs.proofs.BackLemmas.{read_next}
@@ -16,10 +15,9 @@ loop-place-preserved-in-Some c =
     let v = c.in-Some.value in
     let within : place < length old = search rules in
     let so_far = c.loop-place.invariant in
-    let fits : FitsSigned w64 v = search rules in
-    let found : at old place ≡ Some v = sym (read_next (kept_at most old) old c.loop-place.values.items place c.index.result.now within c.index.ensures so_far.0) ∙ c.in-Some.is in (
+    let found : at old place ≡ Some v = sym (read_next (kept_at most old) old c.loop-place.values.items place c.index.result.now within c.index.ensures so_far.0) ∙ sym c.get.ensures ∙ c.in-Some.is in (
       placed_kept (kept_at most old) old c.loop-place.values.items place None within (kept_known most old place v found) so_far.0,
-      subst (λ (z : ℤ). Fills most old (place + 1) (Some z) _ c.loop-place.fill) (sym (to_z-of_z w64 v fits)) (fills_known most old place v c.loop-place.fill within found),
+      subst (λ (l : Option ℤ). Fills most old (place + 1) l _ c.loop-place.fill) (sym c.known-last.ensures) (fills_known most old place v c.loop-place.fill within found),
     )
 
 pub loop-place-preserved : goal.loop-place-preserved
@@ -31,9 +29,9 @@ loop-place-preserved c =
     let last = c.loop-place.last in
     let within : place < length old = search rules in
     let so_far = c.loop-place.invariant in
-    let missing : at old place ≡ None = sym (read_next (kept_at most old) old now place c.index.result.now within c.index.ensures so_far.0) ∙ c.in_default.is in
+    let missing : at old place ≡ None = sym (read_next (kept_at most old) old now place c.index.result.now within c.index.ensures so_far.0) ∙ sym c.get.ensures ∙ c.in_default.is in
     elim c.if-not-in_gap.branch [
-      | then-not-in_gap w ↦ filled_more most old now place last _ _ within missing so_far.1.last_is so_far.0 w.in_gap-is
+      | then-not-in_gap w ↦ filled_more most old now place last _ _ _ refl within missing so_far.1.last_is so_far.0 w.in_gap-is
           (w.fill-is ∙ w.fill_for-fill.ensures ∙ fill_first most old now place last c.loop-place.fill c.loop-place.in_gap _ so_far.0 so_far.1 w.if-not-in_gap.true (take_rest w.deref.result.now place ∙ ap (drop place) w.deref.ensures.value))
-      | else-not-in_gap w ↦ filled_more most old now place last _ _ within missing so_far.1.last_is so_far.0 (w.in_gap-is ∙ w.if-not-in_gap.false) (w.fill-is ∙ so_far.1.fill_is w.if-not-in_gap.false)
+      | else-not-in_gap w ↦ filled_more most old now place last _ _ _ refl within missing so_far.1.last_is so_far.0 (w.in_gap-is ∙ w.if-not-in_gap.false) (w.fill-is ∙ so_far.1.fill_is w.if-not-in_gap.false)
     ]

@@ -10,7 +10,7 @@ loop-place-preserved c =
     let within : place < length old = search rules in
     let so_far = c.loop-place.invariant in
     let value = read_next (risen_at old) old c.loop-place.values.items place c.index-value.result.now within c.index-value.ensures so_far.0 in (
-      placed_more (risen_at old) old c.loop-place.values.items place None c.risen.result within (c.risen.ensures ∙ ap₂ risen_from value so_far.1) so_far.0,
+      placed_more (risen_at old) old c.loop-place.values.items place None c.of.result within (c.of.ensures ∙ c.risen.ensures ∙ ap₂ risen_from value so_far.1) so_far.0,
       value ∙ before_next old place,
     )
 

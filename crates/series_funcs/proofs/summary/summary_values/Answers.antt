@@ -16,7 +16,7 @@ loop-bucket-preserved c =
       omega (arith, so_far.0),
       (
         c.place_of-until.ensures,
-        rw (c.in_ok-push.ensures.items, so_far.1.1, c.gathered.ensures, c.deref.ensures.value, c.in_ok-put_run.ensures.ok, value)
+        rw (c.in_ok-push.ensures.items, so_far.1.1, c.of.ensures, c.gathered.ensures, c.deref.ensures.value, c.in_ok-put_run.ensures.ok, value)
             (sym (map-range_with_len_more (summary_at c.args.gather c.args.series.now c.args.grid) 0 c.loop-bucket._bucket c.loop-bucket._bucket (omega arith))),
       ),
     )

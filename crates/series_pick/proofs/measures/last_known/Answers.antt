@@ -7,6 +7,6 @@ use Rattle.series_pick.proofs.measures.last_known.Goals as goal
 
 pub returns : goal.returns
 returns c =
-    c.flatten.ensures
+    c.flattened.ensures
     ∙ ap option_flatten (c.copied.ensures ∙ find_from_yields_List is_some _ _ c.find.result c.find.ensures.ran (YieldsList-from_rev_slice c.args.values.now cc) (λ x b q k. search rules))
     ∙ last_is c.args.values.now

@@ -11,6 +11,6 @@ loop-bucket-preserved c =
       omega (arith, so_far.0),
       (
         c.place_of-until.ensures,
-        rw (c.in_ok-push.ensures.items, so_far.1.1, c.average_of_run.ensures, value) (sym (map-range_with_len_more (bucket_value c.args.series.now c.args.grid) 0 c.loop-bucket._bucket c.loop-bucket._bucket (omega arith))),
+        rw (c.in_ok-push.ensures.items, so_far.1.1, c.of.ensures, c.average_of_run.ensures, value) (sym (map-range_with_len_more (bucket_value c.args.series.now c.args.grid) 0 c.loop-bucket._bucket c.loop-bucket._bucket (omega arith))),
       ),
     )

@@ -1,6 +1,5 @@
-use Rattle.std.proofs.Common.{◌+◌, ◌*◌, ℕ, sym, subst, inl, inr, arith, rules}
-use Rattle.write_shelf.specs.Shelf.{AreLaid, IsRunOf, StandsAt}
-use Rattle.write_shelf.specs.declared.run.Run.{Run}
+use Rattle.std.proofs.Common.{inl, inr, rules}
+use Rattle.write_shelf.specs.Shelf.{AreLaid}
 use Rattle.write_shelf.proofs.BytesLemmas.{cells_stand, head_stands, nothing_stands}
 use Rattle.write_shelf.proofs.run_bytes.place_of.Goals as goal
 

@@ -19,12 +19,12 @@ returns-clause-ok c =
     let numbered = c.in_ok-number.ensures.numbered in
     let within = slice_get_within now c.in_ok-number.number c.args.layout numbered in
     inserted_shown c.self.inside.layouts now c.self.inside.index c.insert.new.self c.args.path _ c.args.self.now c.self.view_is c.self.invariant c.in_ok-number.ensures.kept within
-    (undrained c.args.layout c.args.is_kept) c.insert.result (ap (λ (layout : LayoutValue). undrained layout c.args.is_kept) (get_or_from_slice_get now c.in_ok-number.number c.args.layout no_layout numbered)) c.insert.ensures.ok
+    (undrained c.args.layout c.args.is_kept c.args.is_old) c.insert.result (ap (λ (layout : LayoutValue). undrained layout c.args.is_kept c.args.is_old) (get_or_from_slice_get now c.in_ok-number.number c.args.layout no_layout numbered)) c.insert.ensures.ok
 
 pub returns-clause-err : goal.returns-clause-err
 returns-clause-err c =
     let now = c.number_of.new.self in
     let numbered = c.in_ok-number.ensures.numbered in
     let within = slice_get_within now c.in_ok-number.number c.args.layout numbered in
-    refused_shown c.self.inside.layouts now c.self.inside.index c.insert.new.self c.args.path (record { layout = c.in_ok-number.number; is_kept = c.args.is_kept; drains = 0 }) c.args.self.now c.self.view_is c.self.invariant
+    refused_shown c.self.inside.layouts now c.self.inside.index c.insert.new.self c.args.path (record { layout = c.in_ok-number.number; is_kept = c.args.is_kept; is_old = c.args.is_old; drains = 0 }) c.args.self.now c.self.view_is c.self.invariant
     c.in_ok-number.ensures.kept within c.insert.result c.len.ensures.rising c.insert.ensures.err

@@ -1,5 +1,4 @@
-use Rattle.std.proofs.Common.{◌≡◌, ◌+◌, FitsSigned, ap, arith, refl, sym, w64}
-use Rattle.std.proofs.lemmas.Int.{to_z-of_z}
+use Rattle.std.proofs.Common.{◌≡◌, ◌+◌, ap, arith, refl, sym}
 use Rattle.point_cache.specs.Kept.{placed_of}
 use Rattle.point_cache.specs.declared.numbered.Numbered.{Numbered}
 use Rattle.point_cache.proofs.KeptLemmas.{new_last}
@@ -40,8 +39,7 @@ invariant_of-self-2 c =
 
 pub returns : goal.returns
 returns c =
-    let fits : FitsSigned w64 c.args.value = c.ranges.value in
-    let put = simp to_z-of_z at c.in-Stored.ensures.put in
+    let put = c.in-Stored.ensures.put in
     let points = rw c.requires.empty at put.1 in
     let count = rw c.requires.empty at c.in-Stored.ensures.count in
     let none = rw (sym c.self.view_is) at c.requires.absent in

@@ -1,5 +1,4 @@
-use Rattle.std.proofs.Common.{◌∙◌, FitsSigned, ap, refl, sym, w64}
-use Rattle.std.proofs.lemmas.Int.{to_z-of_z}
+use Rattle.std.proofs.Common.{◌∙◌, ap, refl, sym}
 use Rattle.std.specs.Option.{option_copied_mut}
 use Rattle.point_cache.proofs.KeptLemmas.{renewed_at}
 use Rattle.point_cache.proofs.PutLemmas.{puts_next}
@@ -13,8 +12,7 @@ invariant_of-self c =
 
 pub returns : goal.returns
 returns c =
-    let fits : FitsSigned w64 c.args.value = c.ranges.value in
-    let put = simp to_z-of_z at c.put.ensures.put in
+    let put = c.put.ensures.put in
     let here = sym c.get_index_mut.ensures.value ∙ ap option_copied_mut c.in-Some.is in
     let r = renewed_at c.self.inside.next c.self.inside.entries.entries c.args.path.now c.args.place c.in-Some.numbered.now (record { number = c.in-Some.numbered.now.number; points = c.put.new.self })
     c.self.invariant (rw (sym c.self.view_is) at c.requires) here refl in

@@ -5,7 +5,7 @@ use Rattle.ring_archive.proofs.view.RingView.cell_at.Goals as goal
 
 pub returns-then-not-is_bucket-clause-value : goal.returns-then-not-is_bucket-clause-value
 returns-then-not-is_bucket-clause-value g c =
-    under_all c.args.patch.now.fresh (g.D.Disk.image c.args.disk.now) c.args.self.now.name.now c.args.self.now.layout.archives _ c.requires.file (λ file. no_bucket c.args.patch.now file c.args.archive c.args.bucket c.archive-ring.result
+    under_all c.args.patch.now.fresh (g.D.Disk.image c.args.disk.now) c.args.self.now.name.now c.args.self.now.version c.args.self.now.layout.archives _ c.requires.file.1 (λ file. no_bucket c.args.patch.now file c.args.archive c.args.bucket c.archive-ring.result
     (rw c.requires.layout c.archive-ring.ensures.value) (grind (arith, c.is_bucket.ensures, c.if-not-is_bucket.true, c.if-not-is_bucket.ensures)))
 
 pub returns-then-base-eq0-clause-value : goal.returns-then-base-eq0-clause-value

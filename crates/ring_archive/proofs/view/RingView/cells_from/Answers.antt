@@ -8,7 +8,7 @@ use Rattle.ring_archive.proofs.view.RingView.cells_from.Goals as goal
 
 pub returns-then-first-ring-ne0-clause-values : goal.returns-then-first-ring-ne0-clause-values
 returns-then-first-ring-ne0-clause-values g c =
-    under_all c.args.patch.now.fresh (g.D.Disk.image c.args.disk.now) c.args.self.now.name.now c.args.self.now.layout.archives _ c.requires.file (λ file.
+    under_all c.args.patch.now.fresh (g.D.Disk.image c.args.disk.now) c.args.self.now.name.now c.args.self.now.version c.args.self.now.layout.archives _ c.requires.file.1 (λ file.
     no_buckets c.args.patch.now file c.args.based.archive c.args.first c.args.count c.archive-ring.result _ (rw c.requires.layout c.archive-ring.ensures.value) (omega arith) (omega arith) c.in_ok-no_values.ensures)
 
 pub returns-then-based-eq0-clause-values : goal.returns-then-based-eq0-clause-values

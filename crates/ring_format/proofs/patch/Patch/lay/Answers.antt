@@ -1,7 +1,4 @@
-use Rattle.std.proofs.Common.{◌≡◌, ◌≢◌, ℕ, OnOk, subst, sym, rules}
-use Rattle.std.specs.Prelude.{FitsSigned}
-use Rattle.std.specs.Int.{w64}
-use Rattle.std.proofs.lemmas.Int.{to_z-of_z}
+use Rattle.std.proofs.Common.{◌≡◌, ◌≢◌, ℕ, OnOk, subst, sym}
 use Rattle.ring_format.specs.Patch.{IsPlace, PatchValue, cell_at}
 use Rattle.ring_format.proofs.CellOrder.{laid_others, laid_there}
 use Rattle.ring_format.proofs.PatchLemmas.{keep_places}
@@ -16,13 +13,11 @@ invariant_of-self c = (
 
 pub returns-clause-here : goal.returns-clause-here
 returns-clause-here c =
-    let fits : FitsSigned w64 c.args.cell.value = search rules in
-    let ok = simp to_z-of_z at c.put_cell.ensures.ok in
+    let ok = c.put_cell.ensures.ok in
     laid_there c.self.inside.cells.items c.put_cell.new.cells.items (c.args.cell.archive, c.args.cell.slot) (c.args.cell.bucket, c.args.cell.value) c.put_cell.result ok
 
 pub returns-clause-others : goal.returns-clause-others
 returns-clause-others c =
-    let fits : FitsSigned w64 c.args.cell.value = search rules in
-    let ok = simp to_z-of_z at c.put_cell.ensures.ok in
+    let ok = c.put_cell.ensures.ok in
     subst (λ (patch : PatchValue). OnOk c.put_cell.result ((place : ℕ × ℕ) → place ≢ (c.args.cell.archive, c.args.cell.slot) → cell_at c.put_cell.new.cells.items place ≡ cell_at patch.cells place)) c.self.view_is
     (laid_others c.self.inside.cells.items c.put_cell.new.cells.items (c.args.cell.archive, c.args.cell.slot) (c.args.cell.bucket, c.args.cell.value) c.put_cell.result ok)

@@ -1,5 +1,4 @@
-use Rattle.std.proofs.Common.{◌≡◌, ℕ, List, None, refl, subst, sym, FitsSigned, w64}
-use Rattle.std.proofs.lemmas.Int.{to_z-of_z}
+use Rattle.std.proofs.Common.{◌≡◌, ℕ, List, None, refl, subst, sym}
 use Rattle.metric_path.specs.Path.{path_fault}
 use Rattle.point_cache.specs.Pending.{Puts}
 use Rattle.point_cache.specs.declared.put.Put.{Put}
@@ -17,8 +16,7 @@ pub invariant_of-self-in-Stored : goal.invariant_of-self-in-Stored
 invariant_of-self-in-Stored c =
     let old = c.args.self.now in
     let datum = c.args.datum.now in
-    let fits : FitsSigned w64 c.args.datum.now.value = c.args.datum.now.fits in
-    let made = simp to_z-of_z at c.put.ensures in
+    let made = c.put.ensures in
     let put = subst (λ (p : Put). Puts old.cache c.put.new.self datum.path datum.time datum.value p) c.in-Stored.is made in
     let legal = subst (λ (text : List ℕ). path_fault text ≡ None) c.text.ensures.value c.text.ensures.legal in record {
       metrics = of_class_after_put old.class old.cache c.put.new.self datum.path datum.time datum.value c.put.result made old.metrics legal c.requires.here datum.legal;
@@ -30,8 +28,7 @@ pub returns-in_default : goal.returns-in_default
 returns-in_default c =
     let old = c.args.self.now in
     let datum = c.args.datum.now in
-    let fits : FitsSigned w64 c.args.datum.now.value = c.args.datum.now.fits in
-    let made = simp to_z-of_z at c.put.ensures in
+    let made = c.put.ensures in
     let legal = subst (λ (text : List ℕ). path_fault text ≡ None) c.text.ensures.value c.text.ensures.legal in
     let same = taken_out old.table c.list_metric.new.table c.remove.new.self datum.path _ c.requires.new c.in-Ok.ensures.ok c.remove.ensures in record {
       put = λ files. takes_point c.put.result (both (desk_of old) files) c.put.new.self c.remove.new.self datum.path datum.time datum.value c.requires.here (record { legal = legal; moment = datum.legal; fits = datum.fits })
@@ -43,8 +40,7 @@ pub returns-in-Stored-clause-put : goal.returns-in-Stored-clause-put
 returns-in-Stored-clause-put c =
     let old = c.args.self.now in
     let datum = c.args.datum.now in
-    let fits : FitsSigned w64 c.args.datum.now.value = c.args.datum.now.fits in
-    let made = simp to_z-of_z at c.put.ensures in
+    let made = c.put.ensures in
     let put = subst (λ (p : Put). Puts old.cache c.put.new.self datum.path datum.time datum.value p) c.in-Stored.is made in
     let legal = subst (λ (text : List ℕ). path_fault text ≡ None) c.text.ensures.value c.text.ensures.legal in
     λ files. takes_point Stored (both (desk_of old) files) c.put.new.self c.list_metric.new.table datum.path datum.time datum.value c.requires.here (record { legal = legal; moment = datum.legal; fits = datum.fits })

@@ -1,4 +1,4 @@
-use Rattle.std.proofs.Common.{rules, ◌≡◌, Option, Some, None, sym, subst}
+use Rattle.std.proofs.Common.{rules, ◌≡◌, ◌∙◌, Option, Some, None, sym, subst}
 use Rattle.metric_path.specs.Path.{path_fault}
 use Rattle.carbon_model.specs.Replay.{replay}
 use Rattle.shared_history.specs.Parts.{TailValue}
@@ -28,4 +28,4 @@ returns-clause-makes g c =
     let legal : path_fault metric.path ≡ None = search rules in
     let next : IsNext desk (Some metric) = subst (λ (o : Option NextMetric). IsNext desk o) c.in-Ok-Some.field-0-is c.in-Ok-Some.ensures.next in
     λ is. subst (MakesFileNext (replay n.start c.see.new.pass.seen)) here
-    (makes_file n.start desk d.tail c.see.new.pass.seen c.self.invariant.class c.self.invariant.holds c.see.ensures.all.class metric d.desk.listed legal next is)
+    (makes_file n.start desk d.tail c.see.new.pass.seen c.self.invariant.class c.self.invariant.holds c.see.ensures.all.class metric d.desk.listed legal next (sym c.lacks_file.ensures ∙ is))

@@ -1,4 +1,4 @@
-use Rattle.std.proofs.Common.{rules, ◌≡◌, ◌∙◌, ℕ, Bool, sym, subst}
+use Rattle.std.proofs.Common.{rules, ◌≡◌, ◌∙◌, ℕ, Option, sym, subst}
 use Rattle.std.specs.Prelude.{IfErr, IfOk, Result, Ok, Err}
 use Rattle.metric_path.specs.Class.{class_of}
 use Rattle.shard_core.specs.Halves.{DeskInside, desk_of}
@@ -28,8 +28,8 @@ returns-clause-bare g c =
     let at : class_of looked.path ≡ d.tail.class = search rules in
     λ is.
     bare_at n.start desk d.tail c.self.invariant.class c.self.invariant.holds d.desk.listed c.args.pass.now looked c.mark.ensures.begins c.requires.look at
-    (subst (λ (r : Result Bool ℕ). IfOk r (λ is_kept. drains_in desk.table looked.path ≡ looked.drains)) is c.recall.ensures.same)
-    (subst (λ (r : Result Bool ℕ). IfOk r (IsKept desk.table looked.path)) is c.recall.ensures.kept)
+    (subst (λ (r : Result (Option ℕ) ℕ). IfOk r (λ kept. drains_in desk.table looked.path ≡ looked.drains)) is c.recall.ensures.same)
+    (subst (λ (r : Result (Option ℕ) ℕ). IfOk r (IsKept desk.table looked.path)) is c.recall.ensures.kept)
 
 pub returns-clause-moved : goal.returns-clause-moved
 returns-clause-moved g c =
@@ -43,6 +43,6 @@ returns-clause-moved g c =
     was_drained n.start desk d.tail c.self.invariant.class c.self.invariant.holds d.desk.listed c.args.pass.now looked c.mark.ensures.begins c.requires.look at
     c.mark.new.pass marks (λ same. moved.1 (sym moved.0 ∙ same)))
   where
-    if_err : (result : Result Bool ℕ) (P Q : ℕ → Type 0) → IfErr result P → ((e : ℕ) → P e → Q e) → IfErr result Q
-    if_err (Ok b) P Q is more = tt
+    if_err : (result : Result (Option ℕ) ℕ) (P Q : ℕ → Type 0) → IfErr result P → ((e : ℕ) → P e → Q e) → IfErr result Q
+    if_err (Ok kept) P Q is more = tt
     if_err (Err e) P Q is more = more e is

@@ -1,0 +1,175 @@
+//! Files of version 1 that are written anew.
+ghost use Rattle.std.specs.Prelude.{◌≡◌, ◌<◌, IfOk, length, true};
+ghost use Rattle.point_cache.specs.Points.{IsRising};
+
+use crate::fetches::are_legal;
+use crate::rings::{disk_of, file_of};
+use crate::told::{tell_blank, tell_cell, tell_value, tell_whether};
+use crate::words::{cells_in, layout_of, number_in, path_in, place_in, points_in};
+use archive_update::{carry, plan};
+use case_lines::{Case, CaseFault};
+use fixed_num::Milli;
+use outside_io::MemDisk;
+use ring_archive::{RingFault, RingView};
+use ring_format::{Layout, OLD_VERSION, Patch, VERSION};
+use std::alloc::Global;
+
+/// `carry ARCHIVES METHOD FACTOR STORED`: the cells that a file of version 1, which holds
+/// these, is carried into.
+pub fn tell_carried(alloc: Global, told: &mut String, case: &Case) -> Result<(), CaseFault> {
+    let layout = layout_of(alloc, case)?;
+    let file = old_file(alloc, &layout, case)?;
+    let patch = carried(alloc, layout, &file)?;
+    write!(told, "{}", patch.cell_count())?;
+    for (place, held) in patch.cells() {
+        told.push(' ')?;
+        tell_cell(told, *place, *held)?;
+    }
+    Ok(())
+}
+
+/// `carried-drain ARCHIVES METHOD FACTOR STORED POINTS@NOW ARCHIVE/BUCKET..`: the values of
+/// these buckets after a file of version 1 was carried into a patch and the points were drained
+/// into it.
+pub fn tell_drained(alloc: Global, told: &mut String, case: &Case) -> Result<(), CaseFault> {
+    let layout = layout_of(alloc, case)?;
+    let file = old_file(alloc, &layout, case)?;
+    let Some((points, now)) = case.text(4)?.split_once('@') else {
+        return Err(CaseFault::Malformed);
+    };
+    let points = points_in(alloc, points)?;
+    let patch = drained(alloc, layout, &file, points.list(), number_in(now)?)?;
+    for word in case.rest(5) {
+        tell_blank(told)?;
+        tell_bucket(alloc, told, layout, &patch, word)?;
+    }
+    Ok(())
+}
+
+/// `carried-alike ARCHIVES METHOD FACTOR STORED`: whether each bucket of the cells that a file
+/// of version 1 holds has the value in it that it has in what the file was carried into.
+pub fn tell_alike(alloc: Global, told: &mut String, case: &Case) -> Result<(), CaseFault> {
+    let layout = layout_of(alloc, case)?;
+    let file = old_file(alloc, &layout, case)?;
+    let patch = carried(alloc, layout, &file)?;
+    for cell in &cells_in(alloc, &layout, case.text(3)?)? {
+        let before = value_in(alloc, layout, &file, cell.archive, cell.bucket)?;
+        let after = value_under(alloc, layout, &patch, cell.archive, cell.bucket)?;
+        if before != after {
+            return Ok(tell_whether(told, false)?);
+        }
+    }
+    Ok(tell_whether(told, true)?)
+}
+
+// The bytes of a file of version 1.
+fn old_file(alloc: Global, layout: &Layout, case: &Case) -> Result<Vec<u8>, CaseFault> {
+    let cells = cells_in(alloc, layout, case.text(3)?)?;
+    file_of(alloc, layout, OLD_VERSION, &cells)
+}
+
+// What such a file is carried into.
+fn carried(alloc: Global, layout: Layout, file: &[u8]) -> Result<Patch, CaseFault>
+    ensures layout { IfOk result (λ patch. patch.layout ≡ layout) }
+    ensures fresh { IfOk result (λ patch. patch.fresh ≡ true) }
+{
+    let patch = Patch::new(alloc, path_in(alloc, b"a")?, layout, true);
+    let mut disk = disk_of(alloc, "a", &layout, OLD_VERSION, file)?;
+    let view = RingView::new("a", layout, OLD_VERSION);
+    match carry(alloc, &view, &mut disk, patch) {
+        Ok(patch) => Ok(patch),
+        Err((_, fault)) => Err(fault_of(fault)),
+    }
+}
+
+// That, with points drained into it.
+fn drained(
+    alloc: Global,
+    layout: Layout,
+    file: &[u8],
+    points: &[(u32, Milli)],
+    now: u32,
+) -> Result<Patch, CaseFault>
+    requires { IsRising points.now }
+    ensures layout { IfOk result (λ patch. patch.layout ≡ layout) }
+    ensures fresh { IfOk result (λ patch. patch.fresh ≡ true) }
+{
+    if !are_legal(points) {
+        return Err(CaseFault::Malformed);
+    }
+    let patch = carried(alloc, layout, file)?;
+    let mut disk = disk_of(alloc, "a", &layout, OLD_VERSION, file)?;
+    let view = RingView::new("a", layout, OLD_VERSION);
+    match plan(alloc, &view, &mut disk, patch, points, now) {
+        Ok(patch) => Ok(patch),
+        Err((_, fault)) => Err(fault_of(fault)),
+    }
+}
+
+fn tell_bucket(
+    alloc: Global,
+    told: &mut String,
+    layout: Layout,
+    patch: &Patch,
+    word: &[u8],
+) -> Result<(), CaseFault>
+    requires layout { patch.now.layout ≡ layout }
+    requires fresh { patch.now.fresh ≡ true }
+{
+    let Ok(text) = str::from_utf8(word) else {
+        return Err(CaseFault::Malformed);
+    };
+    let place = place_in(text)?;
+    let value = value_under(alloc, layout, patch, place.archive, place.at)?;
+    Ok(tell_value(told, value)?)
+}
+
+// What a file of version 1 has in a bucket.
+fn value_in(
+    alloc: Global,
+    layout: Layout,
+    file: &[u8],
+    archive: u32,
+    bucket: u32,
+) -> Result<Option<Milli>, CaseFault> {
+    if archive >= layout.archive_count() {
+        return Err(CaseFault::Malformed);
+    }
+    let patch = Patch::new(alloc, path_in(alloc, b"a")?, layout, false);
+    let mut disk = disk_of(alloc, "a", &layout, OLD_VERSION, file)?;
+    let view = RingView::new("a", layout, OLD_VERSION);
+    match view.cell_at(&mut disk, &patch, archive, bucket) {
+        Ok(value) => Ok(value),
+        Err(fault) => Err(fault_of(RingFault::from(fault))),
+    }
+}
+
+// What a patch has there that makes its file anew, which is not there yet.
+fn value_under(
+    alloc: Global,
+    layout: Layout,
+    patch: &Patch,
+    archive: u32,
+    bucket: u32,
+) -> Result<Option<Milli>, CaseFault>
+    requires layout { patch.now.layout ≡ layout }
+    requires fresh { patch.now.fresh ≡ true }
+{
+    if archive >= layout.archive_count() {
+        return Err(CaseFault::Malformed);
+    }
+    let mut disk = MemDisk::new(alloc, 0);
+    let view = RingView::new("a", layout, VERSION);
+    match view.cell_at(&mut disk, patch, archive, bucket) {
+        Ok(value) => Ok(value),
+        Err(fault) => Err(fault_of(RingFault::from(fault))),
+    }
+}
+
+// The disk has no call that fails.
+fn fault_of(fault: RingFault) -> CaseFault {
+    match fault {
+        RingFault::NoMemory => CaseFault::NoMemory,
+        RingFault::DiskFault => CaseFault::Malformed,
+    }
+}
