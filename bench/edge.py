@@ -196,7 +196,7 @@ def files_of_version_1_are_made_anew_with_all_that_they_held():
     metrics = ["old." + method for method in "average sum last max min avg_zero absmax absmin".split()] + ["ends.both", "ends.late"]
     with folder() as place:
         shutil.copytree(os.path.join(HERE, "..", "crates", "carbon", "data"), place, dirs_exist_ok=True)
-        os.rmdir(os.path.join(place, "data", "15", "p.ring"))
+        shutil.rmtree(os.path.join(place, "data", "15", "p.ring"))
         rings = [path_of(place, metric) for metric in metrics]
         before = [cells_of(ring) for ring in rings]
         with serving(place=place) as daemon:
