@@ -3,10 +3,9 @@ ghost use Rattle.std.specs.Prelude.{◌≡◌, ◌≤◌, None, IsErr, OnErr, Ma
 ghost use Rattle.outside_io.specs.Faults.{Rose};
 
 use crate::create_pause::CreatePause;
-use crate::fault::FileFault;
+use crate::fault::{FileFault, NamedFault};
 use crate::faults_told::FaultsTold;
 use crate::files::FolderFiles;
-use crate::listing::ListFault;
 use crate::open_file::Links;
 use outside_io::{Disk, DiskFailed, NamesFault};
 use std::fs::File;
@@ -28,6 +27,10 @@ use std::time::Clock;
 /// The file of the last call stays open, so that calls for one file in a row open it once. Each call looks whether the name still leads to
 /// that file (it may do so through an inner folder that became a link meanwhile): where it was removed, renamed or replaced meanwhile the call fails, and so does a write behind the end of a file that was cut.
 /// The next call looks into the folder anew.
+///
+/// `sync` brings to the device what this disk wrote and made since the last one, and the names of what it made with the folders on their way,
+/// from its own folder on. Where that is more than four files it goes over the whole folder. A file that was removed or replaced meanwhile
+/// is a fault.
 ///
 /// After a create that failed no other is tried for a twentieth of a second, and twice as long after each further one, up to a second; calls
 /// in between fail.
@@ -81,11 +84,11 @@ impl<R: Files<File = File> + AllocGlobal + Clone + Drop + Eprint + Clock> Folder
         }
     }
 
-    fn listed(&self) -> Result<Vec<String>, ListFault> {
+    fn listed(&self) -> Result<Vec<String>, NamedFault> {
         if self.is_tried {
             if let Err(fault) = self.files.try_folder() {
                 let name = String::new(self.files.rt.alloc());
-                return Err(ListFault { name, fault });
+                return Err(NamedFault { name, fault });
             }
         }
         self.files.names()
@@ -139,6 +142,16 @@ impl<R: Files<File = File> + AllocGlobal + Clone + Drop + Eprint + Clock> Disk f
 
     ghost faults = { λ disk. disk.faults };
 
+    ghost may_leave = { λ _ _. ⊥ };
+
+    ghost moment = { λ _. 0 };
+
+    ghost left_since = { λ _ _ _. ⊥ };
+
+    ghost counts_now = { λ _ _ _ _ now. now };
+
+    ghost only_now = { λ _ _ since. since };
+
     fn faults(&self) -> u64 {
         self.faults
     }
@@ -147,7 +160,7 @@ impl<R: Files<File = File> + AllocGlobal + Clone + Drop + Eprint + Clock> Disk f
         self.files.begin_list();
         match self.listed() {
             Ok(names) => Ok(names),
-            Err(ListFault { name, fault }) => {
+            Err(NamedFault { name, fault }) => {
                 let _ = self.counted::<()>(name.as_str(), Err(fault));
                 Err(NamesFault::Failed)
             }
@@ -172,5 +185,12 @@ impl<R: Files<File = File> + AllocGlobal + Clone + Drop + Eprint + Clock> Disk f
     fn write_at(&mut self, name: &str, at: u64, piece: &[u8]) -> Result<(), DiskFailed> {
         let outcome = self.files.write(name, at, piece);
         self.counted(name, outcome)
+    }
+
+    fn sync(&mut self) -> Result<(), DiskFailed> {
+        match self.files.sync() {
+            Ok(()) => Ok(()),
+            Err(NamedFault { name, fault }) => self.counted(name.as_str(), Err(fault)),
+        }
     }
 }

@@ -1,5 +1,5 @@
 // Why a call for a file failed.
-use std::alloc::{AllocError, AllocFailed};
+use std::alloc::{AllocError, AllocFailed, Global};
 use std::io;
 use thiserror::Error;
 
@@ -24,6 +24,24 @@ pub(crate) enum FileFault {
     Paused,
     #[error("out of memory")]
     NoMemory,
+}
+
+// Which file or folder a call over several of them met a fault at.
+#[derive(Drop)]
+pub(crate) struct NamedFault {
+    pub(crate) name: String,
+    pub(crate) fault: FileFault,
+}
+
+impl NamedFault {
+    // The fault of a path in a folder; where there is no memory for its name, that of the folder.
+    pub(crate) fn of_path(alloc: Global, folder: &str, path: &str, fault: FileFault) -> NamedFault {
+        let name = path.get(folder.len() + 1..).unwrap_or("");
+        NamedFault {
+            name: String::from_str(alloc, name).unwrap_or(String::new(alloc)),
+            fault,
+        }
+    }
 }
 
 impl From<io::Error> for FileFault {

@@ -1,7 +1,8 @@
 // The files of a folder, one open at a time.
-use crate::fault::FileFault;
+use crate::fault::{FileFault, NamedFault};
 use crate::moment::Moment;
 use crate::open_file::{Access, Links, OpenedFile};
+use crate::unsynced::Unsynced;
 use std::alloc::AllocError;
 use std::fs::{self, File, OpenFile, OpenOptions};
 use std::io::{ErrorKind, Write};
@@ -22,10 +23,11 @@ const TRIAL: &str = "carbon.trial";
 pub(crate) struct FolderFiles<R> {
     pub(crate) rt: R,
     pub(crate) folder: String,
-    links: Links,
+    pub(crate) links: Links,
     kept: Option<OpenedFile>,
     // when the names were listed last
     listed: Option<Moment>,
+    unsynced: Unsynced,
 }
 
 // An open file, and how long it is.
@@ -44,12 +46,14 @@ impl<R: Clock> FolderFiles<R> {
 
 impl<R: Files<File = File> + AllocGlobal> FolderFiles<R> {
     pub(crate) fn new(rt: R, folder: String, links: Links) -> Self {
+        let unsynced = Unsynced::none(rt.alloc());
         FolderFiles {
             rt,
             folder,
             links,
             kept: None,
             listed: None,
+            unsynced,
         }
     }
 
@@ -87,6 +91,7 @@ impl<R: Files<File = File> + AllocGlobal> FolderFiles<R> {
 
     pub(crate) fn write(&mut self, name: &str, at: u64, piece: &[u8]) -> Result<(), FileFault> {
         let Taken { file, length } = self.take(name, Access::Writing)?;
+        self.unsynced.note(&file, false);
         file.write(length, at, piece)?;
         self.kept = Some(file);
         Ok(())
@@ -146,6 +151,7 @@ impl<R: Files<File = File> + AllocGlobal> FolderFiles<R> {
             fs::create_dir_all(&self.rt, folder)?;
         }
         let file = self.made(name)?;
+        self.unsynced.note(&file, true);
         file.clear(length)?;
         self.kept = Some(file);
         Ok(())
@@ -196,6 +202,20 @@ impl<R: Files<File = File> + AllocGlobal> FolderFiles<R> {
         file.write_all(b"carbon\n")?;
         file.sync_all()?;
         fs::remove_file(&self.rt, path.as_str())?;
+        Ok(())
+    }
+}
+
+impl<R: Files<File = File> + AllocGlobal + Clone + Drop> FolderFiles<R> {
+    // Brings to the device what awaits it.
+    pub(crate) fn sync(&mut self) -> Result<(), NamedFault> {
+        if self.unsynced.is_more() {
+            self.sync_every()?;
+        } else {
+            self.unsynced
+                .sync(&self.rt, self.folder.as_str(), self.links, &self.kept)?;
+        }
+        self.unsynced.clear();
         Ok(())
     }
 }

@@ -12,5 +12,6 @@ mod files;
 mod listing;
 mod moment;
 mod open_file;
+mod unsynced;
 
 pub use disk::FolderDisk;

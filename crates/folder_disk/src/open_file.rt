@@ -40,7 +40,7 @@ impl Links {
 
 // Which file of the system it is.
 #[derive(Clone, Copy, PartialEq, Eq)]
-struct Place {
+pub(crate) struct Place {
     device: u64,
     node: u64,
 }
@@ -115,6 +115,20 @@ impl OpenedFile {
         })
     }
 
+    pub(crate) fn path(&self) -> &str {
+        self.path.as_str()
+    }
+
+    pub(crate) fn place(&self) -> Place {
+        self.place
+    }
+
+    // Brings it to the device.
+    pub(crate) fn sync(&self, rt: &impl Files, links: Links) -> Result<(), FileFault> {
+        let _length = self.length_under_name(rt, links)?;
+        Ok(self.file.sync_all()?)
+    }
+
     pub(crate) fn serves(&self, name: &str, wanted: Access) -> bool {
         self.name.as_str() == name && self.access.allows(wanted)
     }
@@ -125,11 +139,7 @@ impl OpenedFile {
         rt: &impl Files,
         links: Links,
     ) -> Result<u64, FileFault> {
-        let found = match links.metadata_of(rt, self.path.as_str()) {
-            Ok(found) => found,
-            Err(error) if error.kind() == ErrorKind::NotFound => return Err(FileFault::Replaced),
-            Err(error) => return Err(FileFault::System(error)),
-        };
+        let found = found_under(rt, self.path.as_str(), links)?;
         if Place::of(&found)? != self.place {
             return Err(FileFault::Replaced);
         }
@@ -172,4 +182,46 @@ impl OpenedFile {
     pub(crate) fn was_there(&self, moment: Moment) -> Result<bool, FileFault> {
         Ok(Moment::of_change(&self.file.metadata()?).is_before(moment))
     }
+}
+
+// What stands under a path; where nothing does, it was removed.
+fn found_under(rt: &impl Files, path: &str, links: Links) -> Result<Metadata, FileFault> {
+    match links.metadata_of(rt, path) {
+        Ok(found) => Ok(found),
+        Err(error) if error.kind() == ErrorKind::NotFound => Err(FileFault::Replaced),
+        Err(error) => Err(FileFault::System(error)),
+    }
+}
+
+// Brings the file of a path to the device. It has to be that one, where one is told.
+pub(crate) fn sync_file<R: Files<File = File>>(
+    rt: &R,
+    path: &str,
+    links: Links,
+    wanted: Option<Place>,
+) -> Result<(), FileFault> {
+    let place = Place::of(&found_under(rt, path, links)?)?;
+    let file = opened(rt, path)?;
+    if Place::of(&file.metadata()?)? != place || wanted.unwrap_or(place) != place {
+        return Err(FileFault::Replaced);
+    }
+    Ok(file.sync_all()?)
+}
+
+// A plain file, opened as the system lets it.
+fn opened<R: Files<File = File>>(rt: &R, path: &str) -> Result<File, FileFault> {
+    let mut options = OpenOptions::new();
+    options.read(true);
+    if let Ok(file) = options.open(rt, path) {
+        return Ok(file);
+    }
+    options.read(false).write(true);
+    Ok(options.open(rt, path)?)
+}
+
+// Brings the names in a folder to the device.
+pub(crate) fn sync_folder<R: Files<File = File>>(rt: &R, path: &str) -> Result<(), FileFault> {
+    let mut options = OpenOptions::new();
+    options.read(true);
+    Ok(options.open(rt, path)?.sync_all()?)
 }

@@ -4,8 +4,8 @@ use crate::gate::{Gate, pass};
 use outside_io::{Disk, DiskFailed, MemDisk, NamesFault};
 use std::time::Clock;
 
-/// A disk over another one, whose image it tells. One of its calls of `read_at`, its first `create` and its first `write_at` may be made to
-/// wait at a gate, and fail where that does not open.
+/// A disk over another one, whose image it tells, and what a crash may leave of it. One of its calls of `read_at`, its first `create`, its
+/// first `write_at` and its first `sync` may be made to wait at a gate, and fail where that does not open.
 #[derive(Drop)]
 pub struct GateDisk<R: Clock, D: Disk = MemDisk> {
     disk: D,
@@ -14,6 +14,7 @@ pub struct GateDisk<R: Clock, D: Disk = MemDisk> {
     read_gate: Option<Gate<R>>,
     create_gate: Option<Gate<R>>,
     write_gate: Option<Gate<R>>,
+    sync_gate: Option<Gate<R>>,
     faults: u64,
 }
 
@@ -26,6 +27,7 @@ impl<R: Clock + Drop, D: Disk + Drop> GateDisk<R, D> {
             read_gate: None,
             create_gate: None,
             write_gate: None,
+            sync_gate: None,
             faults: 0,
         }
     }
@@ -48,12 +50,28 @@ impl<R: Clock + Drop, D: Disk + Drop> GateDisk<R, D> {
         self.write_gate = Some(gate);
         self
     }
+
+    /// The same disk, whose first `sync` waits.
+    pub fn syncing_at(mut self, gate: Gate<R>) -> GateDisk<R, D> {
+        self.sync_gate = Some(gate);
+        self
+    }
 }
 
 impl<R: Clock + Drop, D: Disk + Drop> Disk for GateDisk<R, D> {
     ghost image = { λ disk. D.image disk.disk };
 
     ghost faults = { λ disk. disk.faults };
+
+    ghost may_leave = { λ disk. D.may_leave disk.disk };
+
+    ghost moment = { λ disk. D.moment disk.disk };
+
+    ghost left_since = { λ disk. D.left_since disk.disk };
+
+    ghost counts_now = { λ disk. D.counts_now disk.disk };
+
+    ghost only_now = { λ disk. D.only_now disk.disk };
 
     fn faults(&self) -> u64 {
         self.faults
@@ -123,6 +141,22 @@ impl<R: Clock + Drop, D: Disk + Drop> Disk for GateDisk<R, D> {
             return Err(DiskFailed);
         }
         match self.disk.write_at(name, at, piece) {
+            Ok(()) => Ok(()),
+            Err(fault) => {
+                self.faults = raised(self.faults);
+                Err(fault)
+            }
+        }
+    }
+
+    fn sync(&mut self) -> Result<(), DiskFailed> {
+        let is_open = pass(&self.sync_gate);
+        self.sync_gate = None;
+        if !is_open {
+            self.faults = raised(self.faults);
+            return Err(DiskFailed);
+        }
+        match self.disk.sync() {
             Ok(()) => Ok(()),
             Err(fault) => {
                 self.faults = raised(self.faults);

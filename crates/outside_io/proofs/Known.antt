@@ -48,7 +48,7 @@ Consumes-all None b taken p end = tt
 Consumes-all (Some xs) None taken p end = absurd p
 Consumes-all (Some xs) (Some ys) taken p end = sym (p ∙ ap (λ bytes. taken ++ bytes) end ∙ append-nil taken)
 
-take_further : (xs : List ℕ) (at count : ℕ) → take (at + count) xs ≡ take at xs ++ take count (drop at xs)
+pub take_further : (xs : List ℕ) (at count : ℕ) → take (at + count) xs ≡ take at xs ++ take count (drop at xs)
 take_further xs at count =
     sym (take-append-drop at (take (at + count) xs))
     ∙ ap₂ (λ front rest. front ++ rest) (take-take at (at + count) xs (omega arith)) (drop-take at count xs)

@@ -3,3 +3,5 @@ pub mod Ranges
 mod FileNames
 pub mod FrameLemmas
 mod TornFiles
+pub mod CrashLemmas
+mod LogLemmas

@@ -4,5 +4,7 @@ pub mod Calls
 pub mod Source
 pub mod Sink
 pub mod Image
+pub mod Crash
+pub mod DiskLog
 pub mod Memory
 pub mod MemDisk

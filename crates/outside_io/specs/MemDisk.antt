@@ -1,11 +1,13 @@
 -- What the disk in memory holds, and what its calls leave.
-use Rattle.std.specs.Prelude.{ℕ, ◌+◌, ◌-◌, ◌^◌, ◌<◌, List, [], length, Bool, true, false, String, Vec, max, min, replicate, option_map, if◌then◌else◌}
+use Rattle.std.specs.Prelude.{ℕ, ◌+◌, ◌-◌, ◌^◌, ◌<◌, ◌⊎◌, List, [], length, Bool, true, false, String, Vec, max, min, replicate, option_map, if◌then◌else◌}
 use Rattle.std.specs.Option.{option_map_or}
 use Rattle.std.specs.BTreeMap.{BTreeMap, get_by_text}
 use Rattle.outside_io.specs.declared.disk_calls.DiskCalls.{DiskCalls}
 use Rattle.outside_io.specs.declared.disk_state.DiskState.{DiskState}
 use Rattle.outside_io.specs.declared.mem_disk.MemDisk.{MemDisk}
 use Rattle.outside_io.specs.Calls.{fails_next, after_call, listed_calls}
+use Rattle.outside_io.specs.Crash.{Crashes}
+use Rattle.outside_io.specs.DiskLog.{Outcomes, LeftSince}
 use Rattle.outside_io.specs.Faults.{raised}
 use Rattle.outside_io.specs.Image.{Image, SameImage, Writes}
 
@@ -16,6 +18,20 @@ image_of files = λ name. option_map (λ file. file.items) (get_by_text files na
 -- the bytes under each name
 abbrev pub disk_image : MemDisk → Image
 disk_image disk = image_of disk.files
+
+-- what a crash may leave of it, its moment, and what a crash since a moment might have left
+abbrev pub disk_may_leave : MemDisk → Image → Type 0
+disk_may_leave disk = Outcomes (disk_image disk) disk.log
+
+abbrev pub disk_moment : MemDisk → ℕ
+disk_moment disk = length disk.log
+
+abbrev pub disk_left_since : MemDisk → ℕ → Image → Type 0
+disk_left_since disk = LeftSince (disk_image disk) disk.log
+
+-- what a call says of crashes
+abbrev pub DiskCrashes : (Image → Image → Type 0) → MemDisk → MemDisk → Type 0
+DiskCrashes = Crashes disk_may_leave disk_moment disk_left_since
 
 -- how many bytes a file holds, 0 where it is not there
 abbrev pub held_bytes : Image → List ℕ → ℕ
@@ -32,7 +48,7 @@ new_state room = record {
   writes = listed_calls [];
   reads = listed_calls [];
   tears = false;
-  calls = record { names = 0; lengths = 0; creates = 0; reads = 0; writes = 0; longest_read = 0 };
+  calls = record { names = 0; lengths = 0; creates = 0; reads = 0; writes = 0; syncs = 0; longest_read = 0 };
   faults = 0;
 }
 
@@ -55,12 +71,25 @@ abbrev pub after_read : DiskState → ℕ → DiskState
 after_read state count = after_reading state
     (record state.calls { reads = raised state.calls.reads; longest_read = max state.calls.longest_read count })
 
-abbrev pub after_write : DiskState → DiskState
-after_write state = record state {
-  writes = after_call state.writes;
-  calls = record state.calls { writes = raised state.calls.writes };
-  faults = if fails_next state.writes then raised state.faults else state.faults;
-}
+-- a write was counted
+abbrev pub after_writing : DiskState → DiskState
+after_writing state =
+    record state { writes = after_call state.writes; calls = record state.calls { writes = raised state.calls.writes } }
+
+-- a write, or a write that failed
+abbrev pub after_write : DiskState → Bool → DiskState
+after_write state failed =
+    record (after_writing state) { faults = if failed then raised state.faults else state.faults }
+
+-- a sync was counted
+abbrev pub after_syncing : DiskState → DiskState
+after_syncing state =
+    record state { writes = after_call state.writes; calls = record state.calls { syncs = raised state.calls.syncs } }
+
+-- a sync, or a sync that failed
+abbrev pub after_sync : DiskState → Bool → DiskState
+after_sync state failed =
+    record (after_syncing state) { faults = if failed then raised state.faults else state.faults }
 
 -- the room does not reach for the file to have so many bytes
 abbrev pub IsBeyondRoom : MemDisk → List ℕ → ℕ → Type 0
@@ -81,9 +110,9 @@ after_create state room failed = record state {
   faults = if failed then raised state.faults else state.faults;
 }
 
--- each byte of the range is 255 where the disk tears, and else all is as before
+-- each byte of the range is 255 where the disk tears and there is memory to log it, and else all is as before
 abbrev pub IsTornImage : Bool → Image → Image → List ℕ → ℕ → ℕ → Type 0
-IsTornImage true before after name at count = Writes before after name at (replicate count 255)
+IsTornImage true before after name at count = Writes before after name at (replicate count 255) ⊎ SameImage before after
 IsTornImage false before after name at count = SameImage before after
 
 -- what a failed write leaves

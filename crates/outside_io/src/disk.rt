@@ -1,7 +1,8 @@
 // Named files.
 ghost use Rattle.std.specs.Prelude.{◌≡◌, ℕ, ◌≤◌, length, map, Option, IfOk, OnOk, OnErr, IfSome, string_bytes, IsErrOf};
+ghost use Rattle.outside_io.specs.Crash.{Crashes, OnlyKnown};
 ghost use Rattle.outside_io.specs.Faults.{Rose};
-ghost use Rattle.outside_io.specs.Image.{Image, WhereKnown, ListsNames, LengthIs, IsWithinFile, ReadsFile, ChangesOnly, Creates, Writes, Tears};
+ghost use Rattle.outside_io.specs.Image.{Image, SameImage, WhereKnown, ListsNames, LengthIs, IsWithinFile, ReadsFile, ChangesOnly, Creates, Writes, Tears};
 
 use std::alloc::{AllocError, AllocFailed};
 use thiserror::Error;
@@ -46,11 +47,32 @@ impl<T: Drop> From<AllocFailed<T>> for NamesFault {
 ///
 /// A name is text; a `/` in it stands between the parts of a path. A disk may tell contracts its image: the
 /// bytes under each name. No call changes a byte or a name but those that it says.
+///
+/// What a call changed is on the device once a `sync` behind it succeeded. Until then a crash leaves any bytes
+/// in each range that was written, and under each name that was created nothing or any bytes; all else is as it
+/// reads.
 pub trait Disk {
     // The bytes under each name, where the disk tells them.
     ghost image: { Self → Option Image };
 
     ghost faults: { Self → ℕ };
+
+    // What a crash at this moment may leave.
+    ghost may_leave: { Self → Image → Type 0 };
+
+    // The moment, as a number that does not fall.
+    ghost moment: { Self → ℕ };
+
+    // What a crash at some moment from that one on might have left, during a call or between two.
+    ghost left_since: { Self → ℕ → Image → Type 0 };
+
+    // This moment is one of those since an earlier one.
+    ghost counts_now: { (disk : Self) (t : ℕ) (left : Image) → t ≤ moment disk → may_leave disk left
+        → left_since disk t left };
+
+    // Since this moment there is no other.
+    ghost only_now: { (disk : Self) (left : Image) → left_since disk (moment disk) left
+        → may_leave disk left };
 
     /// How many calls have failed. The count never falls, and stays at 2^64 - 1.
     fn faults(&self) -> u64
@@ -64,14 +86,16 @@ pub trait Disk {
         ensures kept { image self.new ≡ image self.old }
         ensures later { Self.faults self.old ≤ Self.faults self.new }
         ensures cause { IsErrOf result NamesFault.Failed
-            → Rose (Self.faults self.old) (Self.faults self.new) };
+            → Rose (Self.faults self.old) (Self.faults self.new) }
+        ensures crash { Crashes may_leave moment left_since SameImage self.old self.new };
 
     /// The length in bytes of a file, or `None` where the name is not there.
     fn length(&mut self, name: &str) -> Result<Option<u64>, DiskFailed>
         ensures value { IfOk result (LengthIs (image self.old) name.now) }
         ensures kept { image self.new ≡ image self.old }
         ensures later { Self.faults self.old ≤ Self.faults self.new }
-        ensures cause { OnErr result (Rose (Self.faults self.old) (Self.faults self.new)) };
+        ensures cause { OnErr result (Rose (Self.faults self.old) (Self.faults self.new)) }
+        ensures crash { Crashes may_leave moment left_since SameImage self.old self.new };
 
     /// Leaves under the name exactly `len` zero bytes, whether it was there or not. A call that fails leaves
     /// anything or nothing under that name.
@@ -83,7 +107,9 @@ pub trait Disk {
             (WhereKnown (image self.old) (image self.new)
             (λ before after. ChangesOnly before after name.now)) }
         ensures later { Self.faults self.old ≤ Self.faults self.new }
-        ensures cause { OnErr result (Rose (Self.faults self.old) (Self.faults self.new)) };
+        ensures cause { OnErr result (Rose (Self.faults self.old) (Self.faults self.new)) }
+        ensures crash { Crashes may_leave moment left_since
+            (λ before after. ChangesOnly before after name.now) self.old self.new };
 
     /// Fills the buffer with the bytes of the file from a place on. Where the disk tells its image, the range
     /// has to lie in the file. After an error what the buffer holds is open.
@@ -92,7 +118,8 @@ pub trait Disk {
         ensures bytes { OnOk result (ReadsFile (image self.old) name.now at buf.new) }
         ensures kept { image self.new ≡ image self.old }
         ensures later { Self.faults self.old ≤ Self.faults self.new }
-        ensures cause { OnErr result (Rose (Self.faults self.old) (Self.faults self.new)) };
+        ensures cause { OnErr result (Rose (Self.faults self.old) (Self.faults self.new)) }
+        ensures crash { Crashes may_leave moment left_since SameImage self.old self.new };
 
     /// Puts a piece over the bytes of the file from a place on. Where the disk tells its image, the range has
     /// to lie in the file. A call that fails leaves any bytes in that range.
@@ -105,5 +132,17 @@ pub trait Disk {
             (WhereKnown (image self.old) (image self.new)
             (λ before after. Tears before after name.now at (length piece.now))) }
         ensures later { Self.faults self.old ≤ Self.faults self.new }
-        ensures cause { OnErr result (Rose (Self.faults self.old) (Self.faults self.new)) };
+        ensures cause { OnErr result (Rose (Self.faults self.old) (Self.faults self.new)) }
+        ensures crash { Crashes may_leave moment left_since
+            (λ before after. Tears before after name.now at (length piece.now))
+            self.old self.new };
+
+    /// Brings to the device all that was created and written. After it a crash leaves what a read gives. A call
+    /// that fails may have brought a part of it.
+    fn sync(&mut self) -> Result<(), DiskFailed>
+        ensures durable { OnOk result (OnlyKnown (image self.new) (may_leave self.new)) }
+        ensures kept { image self.new ≡ image self.old }
+        ensures later { Self.faults self.old ≤ Self.faults self.new }
+        ensures cause { OnErr result (Rose (Self.faults self.old) (Self.faults self.new)) }
+        ensures crash { Crashes may_leave moment left_since SameImage self.old self.new };
 }

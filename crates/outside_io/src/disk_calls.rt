@@ -14,6 +14,8 @@ pub struct DiskCalls {
     pub reads: u64,
     /// The calls of `write_at`.
     pub writes: u64,
+    /// The calls of `sync`.
+    pub syncs: u64,
     /// The most bytes that a call of `read_at` asked for.
     pub longest_read: u64,
 }
@@ -25,6 +27,7 @@ impl DiskCalls {
         creates: 0,
         reads: 0,
         writes: 0,
+        syncs: 0,
         longest_read: 0,
     };
 

@@ -2,7 +2,7 @@
 ghost use Rattle.std.specs.Prelude.{◌≡◌, ◌≤◌, IsErr, OnErr, is_err};
 ghost use Rattle.outside_io.specs.Calls.{fails_next};
 ghost use Rattle.outside_io.specs.Faults.{raised, Rose};
-ghost use Rattle.outside_io.specs.MemDisk.{new_state, after_reading, after_write};
+ghost use Rattle.outside_io.specs.MemDisk.{new_state, after_reading, after_writing, after_syncing};
 
 use crate::calls::FailingCalls;
 use crate::disk::DiskFailed;
@@ -14,7 +14,7 @@ use std::alloc::Global;
 #[derive(Debug, Drop)]
 pub(crate) struct DiskState {
     pub(crate) room: u64,
-    // Which of the creates and writes fail.
+    // Which of the creates, writes and syncs fail.
     pub(crate) writes: FailingCalls,
     // Which of the calls that only read fail.
     pub(crate) reads: FailingCalls,
@@ -62,17 +62,21 @@ impl DiskState {
         Ok(())
     }
 
-    // Counts a write; it fails where it is listed.
-    pub(crate) fn start_write(&mut self) -> Result<(), DiskFailed>
-        ensures answer { is_err result ≡ fails_next self.old.writes }
-        ensures counted { self.new ≡ after_write self.old }
-        ensures later { self.old.faults ≤ self.new.faults }
-        ensures cause { OnErr result (Rose self.old.faults self.new.faults) }
+    // Counts a write, and says whether it is to fail.
+    pub(crate) fn start_write(&mut self) -> bool
+        ensures answer { result ≡ fails_next self.old.writes }
+        ensures counted { self.new ≡ after_writing self.old }
     {
         self.calls.writes = raised(self.calls.writes);
-        if self.writes.fails_now() {
-            return self.failed();
-        }
-        Ok(())
+        self.writes.fails_now()
+    }
+
+    // Counts a sync, and says whether it is to fail.
+    pub(crate) fn start_sync(&mut self) -> bool
+        ensures answer { result ≡ fails_next self.old.writes }
+        ensures counted { self.new ≡ after_syncing self.old }
+    {
+        self.calls.syncs = raised(self.calls.syncs);
+        self.writes.fails_now()
     }
 }

@@ -10,6 +10,7 @@ mod clock;
 mod closed_net;
 mod disk;
 mod disk_calls;
+mod disk_log;
 mod disk_state;
 mod faults;
 mod fixed_clock;

@@ -19,6 +19,7 @@ enum Step {
     Create(&'static str, u64),
     Read(&'static str, u64),
     Write(&'static str, u64, &'static str),
+    Sync,
     // a write of so many sevens, a write of the bytes that a long file has from one place up to another, and whether they are read there
     WriteSevens(&'static str, usize),
     WriteLong(&'static str, usize, usize),
@@ -362,6 +363,111 @@ const LINKED: [Story; 1] = [Story {
     told: "4 ex ex failed failed ",
 }];
 
+// What a sync that fails tells, and one that succeeds; that a device then has the bytes, no test sees.
+const SYNCED: [Story; 8] = [
+    Story {
+        title: "where there is no folder and nothing was written, nothing awaits a sync",
+        steps: &[Step::Sync, Step::Names, Step::Sync],
+        told: "ok [] ok ",
+    },
+    Story {
+        title: "two files that were written are synced, and a second sync has nothing to do",
+        steps: &[
+            Step::Create("c", 4),
+            Step::Create("d", 4),
+            Step::Write("c", 0, "ab"),
+            Step::Write("d", 1, "cd"),
+            Step::Sync,
+            Step::Read("c", 0),
+            Step::Read("d", 1),
+            Step::Remove("c"),
+            Step::Remove("d"),
+            Step::Sync,
+        ],
+        told: "ok ok ok ok ok ab cd ok ",
+    },
+    Story {
+        title: "a file in new inner folders is synced with them",
+        steps: &[
+            Step::Create("a/b/c", 4),
+            Step::Sync,
+            Step::Write("a/b/c", 2, "xy"),
+            Step::Sync,
+            Step::Read("a/b/c", 2),
+        ],
+        told: "ok ok ok ok xy ",
+    },
+    Story {
+        title: "a file that was removed before its sync is a fault, until it is there again",
+        steps: &[
+            Step::Create("c", 4),
+            Step::Remove("c"),
+            Step::Sync,
+            Step::Sync,
+            Step::Put("c", "text"),
+            Step::Sync,
+            Step::Sync,
+        ],
+        told: "ok failed failed ok ok ",
+    },
+    Story {
+        title: "a file that another call closed is synced, and is a fault where it was removed",
+        steps: &[
+            Step::Folder(""),
+            Step::Put("c", "text"),
+            Step::Put("d", "text"),
+            Step::Write("c", 0, "xy"),
+            Step::Read("d", 0),
+            Step::Remove("c"),
+            Step::Sync,
+        ],
+        told: "ok te failed ",
+    },
+    Story {
+        title: "a file that was replaced before its sync fails once, and is then the other",
+        steps: &[
+            Step::Create("c", 4),
+            Step::Write("c", 0, "xy"),
+            Step::Put("d", "text"),
+            Step::Rename("d", "c"),
+            Step::Sync,
+            Step::Sync,
+            Step::Read("c", 0),
+        ],
+        told: "ok ok failed ok te ",
+    },
+    Story {
+        title: "a file that was only read awaits no sync",
+        steps: &[
+            Step::Folder(""),
+            Step::Put("c", "text"),
+            Step::Read("c", 0),
+            Step::Remove("c"),
+            Step::Sync,
+        ],
+        told: "te ok ",
+    },
+    Story {
+        title: "where more than four files await a sync it goes over the folder, in which a link is a fault",
+        steps: &[
+            Step::Create("a/b/c", 4),
+            Step::Create("a/d", 4),
+            Step::Create("e", 4),
+            Step::Create("f", 4),
+            Step::Create("g", 4),
+            Step::Write("g", 0, "xy"),
+            Step::Link("g", "h"),
+            Step::Sync,
+            Step::Remove("h"),
+            Step::Sync,
+            Step::Link("g", "h"),
+            Step::Sync,
+            Step::Read("g", 0),
+        ],
+        told: "ok ok ok ok ok ok failed ok ok xy ",
+    },
+];
+
 // The name of a file that lies two folders deep.
 const DEEP: &str = "a/b/c.ring";
 
@@ -445,6 +551,7 @@ fn tell(
         Step::IsLong(name, first, end) => {
             tell_end(told, is_long(rt.alloc(), disk, name, *first, *end)?)
         }
+        Step::Sync => tell_end(told, disk.sync().is_ok()),
         step => tell_deed(told, act(rt, folder, step).is_ok()),
     }
 }
@@ -650,6 +757,17 @@ fn a_folder_that_takes_no_files_is_told_at_once(rt: HostRuntime) -> Result<(), F
         "folder_disk_tried",
         "folder_disk_tried/disk",
         &TRIED,
+    )
+}
+
+#[test]
+fn a_sync_fails_where_a_file_that_awaits_it_is_gone(rt: HostRuntime) -> Result<(), Fail> {
+    assert_stories(
+        &rt,
+        &rt,
+        "folder_disk_synced",
+        "folder_disk_synced/disk",
+        &SYNCED,
     )
 }
 

@@ -281,6 +281,22 @@ fn listed_writes_fail_and_change_nothing_or_tear(rt: HostRuntime) -> Result<(), 
     Ok(())
 }
 
+// The second call is a sync that fails.
+fn assert_synced(rt: &impl Abort, disk: &mut MemDisk) {
+    let ends = [disk.create("a", 4), disk.sync(), disk.sync()];
+    assert!(rt; ends == [Ok(()), Err(DiskFailed), Ok(())]);
+    assert!(rt; disk.moments() == 2 && disk.faults() == 1);
+    let calls = disk.calls();
+    assert!(rt; calls.syncs == 2 && calls.writing() == 1);
+}
+
+#[test]
+fn a_sync_is_counted_with_the_writes(rt: HostRuntime) -> Result<(), Fail> {
+    let mut disk = MemDisk::new(rt.alloc(), 4).failing(Vec::from_slice(rt.alloc(), &[2])?);
+    assert_synced(&rt, &mut disk);
+    Ok(())
+}
+
 #[test]
 fn clocks_stand_and_nets_are_closed(rt: HostRuntime) {
     let clock = FixedClock::new(1_700_000_030);

@@ -1,0 +1,11 @@
+use Rattle.std.proofs.Common.{refl, rules, ap, ◌∙◌, drop}
+use Rattle.outside_io.proofs.LogLemmas.{create_crashes, same_crashes}
+use Rattle.outside_io.proofs.mem_disk.MemDisk.put_logged.Goals as goal
+
+pub returns-then-is_err-clause-crash : goal.returns-then-is_err-clause-crash
+returns-then-is_err-clause-crash c =
+    same_crashes c.args.self.now _ _ (λ image name differs. refl) (search rules) (c.pop.ensures ∙ ap (λ log. drop 1 log) c.in_ok-log_file.ensures.ok.logged)
+
+pub returns-else-is_err-clause-crash : goal.returns-else-is_err-clause-crash
+returns-else-is_err-clause-crash c =
+    create_crashes c.args.self.now _ c.args.name.now c.in_ok-log_file.ensures.ok (search rules)

@@ -1,0 +1,63 @@
+-- What a crash may leave of a disk in memory, by the log of its changes, the last one first.
+use Rattle.std.specs.Prelude.{◌≡◌, ◌≤◌, ◌⊎◌, ℕ, List, [], ◌∷◌, length, Some, option_map, if◌then◌else◌, bytes_eq, string_bytes}
+use Rattle.std.proofs.Common.{inl, inr, arith}
+use Rattle.outside_io.specs.declared.disk_log.DiskChange.{DiskChange}
+use Rattle.outside_io.specs.declared.disk_log.DiskChange.TheVariants.{Wrote, Created, Synced}
+use Rattle.outside_io.specs.declared.disk_log.OldRange.{OldRange}
+use Rattle.outside_io.specs.declared.disk_log.OldFile.{OldFile}
+use Rattle.outside_io.specs.Image.{Image, SameImage, ReadsFile, ChangesOnly, Tears, put_over}
+
+-- the files before a change
+abbrev pub undone : DiskChange → Image → Image
+undone (Wrote range) image =
+    λ name. if bytes_eq name (string_bytes range.name) then option_map (λ file. put_over file range.at range.bytes.items) (image name)
+    else image name
+undone (Created old) image =
+    λ name. if bytes_eq name (string_bytes old.name) then option_map (λ file. file.items) old.file else image name
+undone Synced image = image
+
+-- what a crash may leave where these are the files, and these were the changes: the files, or any bytes in the range
+-- that was written last, or under the name that was created last, of what a crash before might have left
+abbrev pub Outcomes : Image → List DiskChange → Image → Type 0
+Outcomes image [] left = SameImage image left
+Outcomes image (Synced ∷ older) left = SameImage image left
+Outcomes image (Wrote range ∷ older) left =
+    SameImage image left
+    ⊎ ((before : Image) × Outcomes (undone (Wrote range) image) older before
+    × Tears before left (string_bytes range.name) range.at (length range.bytes.items))
+Outcomes image (Created old ∷ older) left =
+    SameImage image left
+    ⊎ ((before : Image) × Outcomes (undone (Created old) image) older before × ChangesOnly before left (string_bytes old.name))
+
+-- what a crash at a moment from t on might have left; the moments are the lengths of the log
+abbrev pub LeftSince : Image → List DiskChange → ℕ → Image → Type 0
+LeftSince image [] t left = Outcomes image [] left
+LeftSince image (change ∷ older) t left =
+    Outcomes image (change ∷ older) left ⊎ ((t ≤ length older) × LeftSince (undone change image) older t left)
+
+-- the old bytes of a range of a file are the last change of the log
+pub record LogsRange (image : Image) (name : List ℕ) (at count : ℕ) (old new : List DiskChange) : Type 0 where
+  pub range : OldRange
+  pub logged : new ≡ Wrote range ∷ old
+  pub named : string_bytes range.name ≡ name
+  pub place : range.at ≡ at
+  pub long : length range.bytes.items ≡ count
+  pub bytes : ReadsFile (Some image) name at range.bytes.items
+
+-- what stood under a name is the last change of the log
+pub record LogsFile (image : Image) (name : List ℕ) (old new : List DiskChange) : Type 0 where
+  pub made : OldFile
+  pub logged : new ≡ Created made ∷ old
+  pub named : string_bytes made.name ≡ name
+  pub file : option_map (λ file. file.items) made.file ≡ image name
+
+-- this moment is one of those since an earlier one
+pub counted_now : (image : Image) (log : List DiskChange) (t : ℕ) (left : Image) → Outcomes image log left → LeftSince image log t left
+counted_now image [] t left now = now
+counted_now image (change ∷ older) t left now = inl now
+
+-- since this moment there is no other
+pub now_alone : (image : Image) (log : List DiskChange) (left : Image) → LeftSince image log (length log) left → Outcomes image log left
+now_alone image [] left since = since
+now_alone image (change ∷ older) left (inl now) = now
+now_alone image (change ∷ older) left (inr earlier) = absurd (omega (arith, earlier.0))
