@@ -1,5 +1,6 @@
 //! Values: whole numbers of thousandths, from -10^30 to 10^30.
-ghost use Rattle.std.specs.Prelude.{◌≡◌, ◌^◌, ◌≤◌, SomeIff, pos, unsigned_abs};
+ghost use Rattle.std.specs.Prelude.{◌≡◌, ◌^◌, ◌≤◌, FitsSigned, SomeIff, pos, unsigned_abs};
+ghost use Rattle.std.specs.Int.{w64};
 ghost use Rattle.std.proofs.Common.{rules};
 ghost use Rattle.std.specs.Cmp.{partial_order_from_own_ties};
 ghost use Rattle.std.specs.Cmp.Rules.{comparing};
@@ -69,10 +70,21 @@ pub fn narrow(number: i128) -> Option<Milli>
     ensures exactly { SomeIff result (IsMilli number) number }
     ensures value { result ≡ value_of number }
 {
+    // Most numbers have 64 bits, which is the faster test.
+    if let Some(few) = few_bits(number) {
+        return Some(milli_of(few));
+    }
     if number.unsigned_abs() > MOST {
         return None;
     }
     Some(halved(number))
+}
+
+// The same number, where 64 bits hold it.
+fn few_bits(number: i128) -> Option<i64>
+    ensures { SomeIff result (FitsSigned w64 number) number }
+{
+    i64::try_from(number).ok()
 }
 
 /// The value of a number of thousandths that 64 bits hold, which fits.

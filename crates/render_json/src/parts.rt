@@ -29,8 +29,17 @@ fn value_room(value: Option<Milli>, missing: usize) -> usize {
 pub(crate) fn number_room(number: u128) -> usize
     ensures { result ≤ 39 }
 {
-    let bits = 128_u32.saturating_sub(number.leading_zeros());
-    (bits * 1_233 / 4_096 + 1) as usize
+    (bits_of(number) * 1_233 / 4_096 + 1) as usize
+}
+
+// How many bits a number has. Mostly they are 64 at most, which is the faster count.
+fn bits_of(number: u128) -> u32
+    ensures { result ≤ 128 }
+{
+    if number <= u128::from(u64::MAX) {
+        return 64_u32.saturating_sub((number as u64).leading_zeros());
+    }
+    128_u32.saturating_sub(number.leading_zeros())
 }
 
 /// Writes a value, or the word for a missing one, so that it ends at `end`, and answers where it starts.

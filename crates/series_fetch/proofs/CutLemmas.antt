@@ -163,3 +163,10 @@ values_of_bucket xs known step bucket i j a b order some whole are =
     (own_bucket step bucket (get_or xs (i + k) d).0 some whole (a.behind (i + k) d (omega arith) (omega (arith, b.within))) (b.before (i + k) d (omega arith) (omega arith)))) in
     ap (λ (vs : List ℤ). take (j - i) (drop i vs)) are ∙ ap (take (j - i)) (drop-map (λ (p : ℕ × ℤ). p.1) i xs) ∙ take-map (λ (p : ℕ × ℤ). p.1) (j - i) (drop i xs)
     ∙ ap (map (λ (p : ℕ × ℤ). p.1)) (sym all) ∙ values_of_stretch xs bucket (bucket + step) i j step bucket a b order some (omega arith) (omega arith)
+
+-- the same of the points themselves
+pub points_of_bucket : (xs : List (ℕ × ℤ)) (step bucket i j : ℕ) → IsCut xs bucket i → IsCut xs (bucket + step) j → i ≤ j → 0 < step → bucket % step ≡ 0
+    → map (λ (p : ℕ × ℤ). p.1) (take (j - i) (drop i xs)) ≡ values_in step xs bucket
+points_of_bucket xs step bucket i j a b order some whole =
+    sym (ap (take (j - i)) (drop-map (λ (p : ℕ × ℤ). p.1) i xs) ∙ take-map (λ (p : ℕ × ℤ). p.1) (j - i) (drop i xs))
+    ∙ values_of_bucket xs (map (λ (p : ℕ × ℤ). p.1) xs) step bucket i j a b order some whole refl

@@ -1,12 +1,13 @@
 -- Pending points over the values of buckets.
-use Rattle.std.proofs.Common.{◌≡◌, ℕ, ℤ, ◌+◌, ◌*◌, ◌%◌, ◌<◌, ◌≤◌, List, [], ◌∷◌, length, get_or, set, Option, None, inl, inr, refl, sym, ap, ◌∙◌, arith}
+use Rattle.std.proofs.Common.{◌≡◌, ℕ, ℤ, ◌+◌, ◌-◌, ◌*◌, ◌%◌, ◌<◌, ◌≤◌, List, [], ◌∷◌, length, get_or, set, map, slice_get, option_map, Option, Some, None, inl, inr, refl, sym, ap, ◌∙◌, arith}
 use Rattle.std.proofs.Math.Nat.{add-mul-mod_self_right}
 use Rattle.std.proofs.lemmas.Bool.{cases_lt}
 use Rattle.std.proofs.lemmas.Grind.{get_or-set_at}
-use Rattle.std.proofs.lemmas.List.{get_or-set_other}
+use Rattle.std.proofs.lemmas.List.{get_or-set_other, length-map}
 use Rattle.std.proofs.lemmas.Nat.{mul-le}
+use Rattle.std.proofs.lemmas.Option.{slice_get-get_or, slice_get-map}
 use Rattle.ring_format.specs.Layout.{LayoutValue}
-use Rattle.series_fetch.specs.Shown.{values_in, shown_of, shown_in}
+use Rattle.series_fetch.specs.Shown.{values_in, shown_of, shown_in, shown_of_pending}
 
 -- a value that is held stands for an archive that holds it in any bucket
 held_anywhere : (layout : LayoutValue) (held : Option ℤ) (i a b : ℕ) (pending : List ℤ) → shown_of layout (λ _ _. held) i a pending ≡ shown_of layout (λ _ _. held) i b pending
@@ -20,6 +21,20 @@ unfolding shown_in
 value_laid layout points i step bucket value held was pending is as_before are =
     is ∙ held_anywhere layout held i 0 bucket pending ∙ ap (λ (h : Option ℤ). shown_of layout (λ _ _. h) i bucket pending) as_before
     ∙ ap (λ (vs : List ℤ). shown_of layout (λ _ _. was) i bucket vs) are
+
+-- in the finest archive a bucket shows its latest point, or what is held where it has none
+pub latest_shown : (layout : LayoutValue) (held : Option ℤ) (points : List (ℕ × ℤ)) (d : ℕ × ℤ) → 0 < length points
+    → Some (get_or points (length points - 1) d).1 ≡ shown_of layout (λ _ _. held) 0 0 (map (λ p. p.1) points)
+unfolding shown_of_pending
+latest_shown layout held [] d some = absurd (omega (arith, some))
+latest_shown layout held (p ∷ ps) d some =
+    sym (ap (λ (n : ℕ). slice_get (map (λ (p : ℕ × ℤ). p.1) (p ∷ ps)) (n - 1)) (length-map (p ∷ ps) (λ (p : ℕ × ℤ). p.1))
+    ∙ slice_get-map (λ (p : ℕ × ℤ). p.1) (p ∷ ps) (length (p ∷ ps) - 1)
+    ∙ ap (option_map (λ (p : ℕ × ℤ). p.1)) (slice_get-get_or (p ∷ ps) (length (p ∷ ps) - 1) d (omega arith)))
+
+pub held_shown : (layout : LayoutValue) (held : Option ℤ) (points : List (ℕ × ℤ)) → length points ≡ 0 → held ≡ shown_of layout (λ _ _. held) 0 0 (map (λ p. p.1) points)
+held_shown layout held [] none = refl
+held_shown layout held (p ∷ ps) none = absurd (omega (arith, none))
 
 -- one more bucket
 pub laid_more : (layout : LayoutValue) (old now : List (Option ℤ)) (points : List (ℕ × ℤ)) (i first step k : ℕ) (value : Option ℤ) → k < length now

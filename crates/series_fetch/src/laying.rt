@@ -35,8 +35,12 @@ pub(crate) fn with_pending(
     if points.is_empty() {
         return Ok(values);
     }
-    let known = values_of(alloc, points)?;
-    lay_points(&mut values, layout, archive, first, step, points, &known);
+    if archive > 0 {
+        let known = values_of(alloc, points)?;
+        lay_points(&mut values, layout, archive, first, step, points, &known);
+        return Ok(values);
+    }
+    lay_latest(&mut values, layout, first, step, points);
     Ok(values)
 }
 
@@ -69,6 +73,46 @@ fn lay_points(
         values[k] = shown_value(layout, archive, held, &known[at..end]);
         at = end;
     }
+}
+
+/// The same in the finest archive, whose buckets show the latest of their points, so that no list of the values is needed.
+fn lay_latest(
+    values: &mut [Option<Milli>],
+    layout: &Layout,
+    first: u32,
+    step: u32,
+    points: &[(u32, Milli)],
+)
+    requires step { (0 < step) × (step ≤ 31_536_000) }
+    requires whole { first % step ≡ 0 }
+    requires fits { first + length values.old * step < 2 ^ 32 }
+    requires rising { IsRising points.now }
+    requires from { All (λ p. first ≤ p.0) points.now }
+    ensures all { length values.new ≡ length values.old }
+    ensures each { (k : ℕ) → k < length values.old → slice_index_or values.new k None ≡
+        shown_in layout.now (λ _ _. slice_index_or values.old k None) points.now 0 step (first + k * step) }
+{
+    let mut at = 0;
+    let mut limit = first;
+    for k in 0..values.len() {
+        limit += step;
+        let end = cut_from(points, at, limit);
+        let held = values[k];
+        values[k] = latest_or(layout, held, &points[at..end]);
+        at = end;
+    }
+}
+
+/// What a bucket of the finest archive shows: the value of its latest point comes before what is held of it.
+fn latest_or(layout: &Layout, held: Option<Milli>, own: &[(u32, Milli)]) -> Option<Milli>
+    ensures { result ≡ shown_of layout.now (λ _ _. held) 0 0 (map (λ p. p.1) own.now) }
+{
+    // The layout is an argument for the contract alone.
+    let _ = layout;
+    if !own.is_empty() {
+        return Some(own[own.len() - 1].1);
+    }
+    held
 }
 
 /// What a bucket shows: its pending values, in order of time, come before what is held of it.
