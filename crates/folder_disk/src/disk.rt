@@ -30,7 +30,8 @@ use std::time::Clock;
 ///
 /// `sync` brings to the device what this disk wrote and made since the last one, and the names of what it made with the folders on their way,
 /// from its own folder on. Where that is more than four files it goes over the whole folder. A file that was removed or replaced meanwhile
-/// is a fault.
+/// is a fault. Once the system failed to bring something to the device every further `sync` fails: it may have forgotten what was written,
+/// and would not say so again.
 ///
 /// After a create that failed no other is tried for a twentieth of a second, and twice as long after each further one, up to a second; calls
 /// in between fail.

@@ -22,6 +22,10 @@ pub(crate) enum FileFault {
     InTheWay,
     #[error("no file is made for a moment, since one could not be made")]
     Paused,
+    #[error("not brought to the device ({0}); the system may have forgotten what was written, so start again")]
+    NotSynced(io::Error),
+    #[error("not brought to the device earlier; the system may have forgotten what was written, so start again")]
+    Forgotten,
     #[error("out of memory")]
     NoMemory,
 }
@@ -34,6 +38,14 @@ pub(crate) struct NamedFault {
 }
 
 impl NamedFault {
+    // What a sync comes to behind one at which the system failed.
+    pub(crate) fn forgotten(alloc: Global) -> NamedFault {
+        NamedFault {
+            name: String::new(alloc),
+            fault: FileFault::Forgotten,
+        }
+    }
+
     // The fault of a path in a folder; where there is no memory for its name, that of the folder.
     pub(crate) fn of_path(alloc: Global, folder: &str, path: &str, fault: FileFault) -> NamedFault {
         let name = path.get(folder.len() + 1..).unwrap_or("");

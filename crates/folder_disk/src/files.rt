@@ -28,6 +28,8 @@ pub(crate) struct FolderFiles<R> {
     // when the names were listed last
     listed: Option<Moment>,
     unsynced: Unsynced,
+    // whether the system failed to bring something to the device
+    has_forgotten: bool,
 }
 
 // An open file, and how long it is.
@@ -54,6 +56,7 @@ impl<R: Files<File = File> + AllocGlobal> FolderFiles<R> {
             kept: None,
             listed: None,
             unsynced,
+            has_forgotten: false,
         }
     }
 
@@ -207,8 +210,24 @@ impl<R: Files<File = File> + AllocGlobal> FolderFiles<R> {
 }
 
 impl<R: Files<File = File> + AllocGlobal + Clone + Drop> FolderFiles<R> {
-    // Brings to the device what awaits it.
+    // Brings to the device what awaits it. Where the system failed at that once, it may say that all is there though it has forgotten it:
+    // each further call fails.
     pub(crate) fn sync(&mut self) -> Result<(), NamedFault> {
+        if self.has_forgotten {
+            return Err(NamedFault::forgotten(self.rt.alloc()));
+        }
+        let outcome = self.sync_awaited();
+        self.has_forgotten = matches!(
+            outcome,
+            Err(NamedFault {
+                fault: FileFault::NotSynced(_),
+                ..
+            })
+        );
+        outcome
+    }
+
+    fn sync_awaited(&mut self) -> Result<(), NamedFault> {
         if self.unsynced.is_more() {
             self.sync_every()?;
         } else {

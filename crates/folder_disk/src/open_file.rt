@@ -126,7 +126,7 @@ impl OpenedFile {
     // Brings it to the device.
     pub(crate) fn sync(&self, rt: &impl Files, links: Links) -> Result<(), FileFault> {
         let _length = self.length_under_name(rt, links)?;
-        Ok(self.file.sync_all()?)
+        synced(&self.file)
     }
 
     pub(crate) fn serves(&self, name: &str, wanted: Access) -> bool {
@@ -205,7 +205,7 @@ pub(crate) fn sync_file<R: Files<File = File>>(
     if Place::of(&file.metadata()?)? != place || wanted.unwrap_or(place) != place {
         return Err(FileFault::Replaced);
     }
-    Ok(file.sync_all()?)
+    synced(&file)
 }
 
 // A plain file, opened as the system lets it.
@@ -223,5 +223,12 @@ fn opened<R: Files<File = File>>(rt: &R, path: &str) -> Result<File, FileFault> 
 pub(crate) fn sync_folder<R: Files<File = File>>(rt: &R, path: &str) -> Result<(), FileFault> {
     let mut options = OpenOptions::new();
     options.read(true);
-    Ok(options.open(rt, path)?.sync_all()?)
+    synced(&options.open(rt, path)?)
+}
+
+fn synced(file: &File) -> Result<(), FileFault> {
+    match file.sync_all() {
+        Ok(()) => Ok(()),
+        Err(error) => Err(FileFault::NotSynced(error)),
+    }
 }
