@@ -1,0 +1,4 @@
+pub mod Form
+pub mod Parts
+pub mod Read
+pub mod Room
