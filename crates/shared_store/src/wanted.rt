@@ -8,6 +8,10 @@ use shard_core::Verdicts;
 use std::alloc::{AllocError, Global};
 use std::marker::Model;
 
+/// How much work the globs of one question may be, held against the names of all classes: under a second of a processor.
+/// A client that leaves meanwhile is computed for no longer.
+const MOST_WORK: u64 = 160_000_000;
+
 /// A need of a question, and of the names of each class whether its glob fits them, where that was found out
 /// before the locks of all classes are taken.
 #[derive(Drop)]
@@ -91,7 +95,7 @@ pub(crate) fn want_all<'a>(
 ) -> Result<Vec<Wanted<'a>>, AllocError>
     ensures { IfOk result (λ all. all.items ≡ needs.now) }
 {
-    let mut work = Work::of_question();
+    let mut work = Work::new(MOST_WORK);
     let mut all = Vec::with_capacity(alloc, needs.len())?;
     for need in needs {
         all.push(Wanted::new(alloc, need, names, &mut work)?)?;
