@@ -38,7 +38,7 @@ module _ {V : Type 0} (fits : List ℕ → Type 0) where
       subst (λ (l : List (List ℕ × V)). IsStrictlySortedBy order (paths_of l)) (sym is) (picked_below (λ path. order e.0 path ≡ Less) es rest picks rising.0, picked_rising es rest picks rising.1)
   picked_rising (e ∷ es) hits (inr (none, picks)) rising = picked_rising es hits picks rising.1
 
-  never_none : (o : Option V) → o ≡ None → IsSome o → ⊥
+  pub never_none : (o : Option V) → o ≡ None → IsSome o → ⊥
   never_none None is some = absurd cc
   never_none (Some v) is some = absurd cc
 
@@ -68,10 +68,10 @@ module _ {V : Type 0} (fits : List ℕ → Type 0) where
 
 -- ---- known paths
 
-known_of : {V : Type 0} (es : List (List ℕ × V)) (path : List ℕ) → Contains (paths_of es) path → IsSome (entry_of es path)
+pub known_of : {V : Type 0} (es : List (List ℕ × V)) (path : List ℕ) → Contains (paths_of es) path → IsSome (entry_of es path)
 known_of es path within = subst (λ (o : Option _). IsSome o) (by_bytes path es) (IsSome-lookup_from_Contains (eq_by_cmp_equiv nat_list_cmp_total) path es within)
 
-of_known : {V : Type 0} (es : List (List ℕ × V)) (path : List ℕ) → IsSome (entry_of es path) → Contains (paths_of es) path
+pub of_known : {V : Type 0} (es : List (List ℕ × V)) (path : List ℕ) → IsSome (entry_of es path) → Contains (paths_of es) path
 of_known es path known = Contains-keys_from_lookup (tells_apart exact_bytes) path es (subst (λ (o : Option _). IsSome o) (sym (by_bytes path es)) known)
 
 pub own_entry : {V : Type 0} (es : List (List ℕ × V)) (e : List ℕ × V) → IsStrictlySortedBy order (paths_of es) → Contains es e → entry_of es e.0 ≡ Some e.1

@@ -4,3 +4,4 @@ pub mod IndexLemmas
 mod LiteralLemmas
 mod WalkLemmas
 mod VerdictLemmas
+mod SearchedLemmas

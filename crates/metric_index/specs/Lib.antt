@@ -1,3 +1,4 @@
 pub mod Index
 pub mod Found
 pub mod Verdicts
+pub mod Searched

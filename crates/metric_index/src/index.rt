@@ -4,6 +4,7 @@ ghost use Rattle.std.specs.Prelude.{◌≡◌};
 use crate::finding::fitted;
 use crate::front::{is_literal, least_path};
 use crate::hit::Hit;
+use crate::searched::SearchedNames;
 use crate::verdicts::Verdicts;
 use metric_path::MetricPath;
 use path_glob::Glob;
@@ -38,6 +39,7 @@ impl<V: Drop> Index<V> {
     ghost use Rattle.metric_path.specs.Path.{path_fault};
     ghost use Rattle.metric_index.specs.Index.{Sets, entry_of, paths_of};
     ghost use Rattle.metric_index.specs.Found.{Finds, IsFitted, seen};
+    ghost use Rattle.metric_index.specs.Searched.{AreHits, AreKnown};
 
     /// An index without a path.
     pub fn new(alloc: Global) -> Index<V>
@@ -109,6 +111,43 @@ impl<V: Drop> Index<V> {
         ensures { IfOk result (λ hits. Finds self.now (IsFitted glob.now) (map seen hits.items)) }
     {
         self.find_by(alloc, glob.glob(), glob)
+    }
+
+    /// The same of a glob that was held against names, all of which are known still. Where no more are known only those
+    /// that it fits are looked up.
+    pub fn find_again<'a>(
+        &'a self,
+        alloc: Global,
+        searched: &'a SearchedNames<'_>,
+    ) -> Result<Vec<Hit<'a, V>>, AllocError>
+        requires known { AreKnown self.now searched.now.names }
+        ensures { IfOk result (λ hits. Finds self.now (IsFitted searched.now.glob)
+            (map seen hits.items)) }
+    {
+        if self.len() != searched.count() {
+            return self.find(alloc, searched.verdicts());
+        }
+        self.hits_of(alloc, searched.fitting())
+    }
+
+    // The hits of these paths, which are known.
+    fn hits_of<'a>(
+        &'a self,
+        alloc: Global,
+        paths: &[&'a MetricPath],
+    ) -> Result<Vec<Hit<'a, V>>, AllocError>
+        requires known { AreKnown self.now (map (λ path. path.now) paths.now) }
+        ensures { IfOk result (λ hits. AreHits self.now (map (λ path. path.now) paths.now)
+            (map seen hits.items)) }
+    {
+        let mut hits = Vec::with_capacity(alloc, paths.len())?;
+        for path in paths {
+            let Some(entry) = self.get(path) else {
+                unreachable!()
+            };
+            hits.push(Hit { path, entry })?;
+        }
+        Ok(hits)
     }
 
     // The same of a glob, of which this is known beforehand.

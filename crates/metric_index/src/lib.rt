@@ -5,8 +5,10 @@ mod finding;
 mod front;
 mod hit;
 mod index;
+mod searched;
 mod verdicts;
 
 pub use hit::Hit;
 pub use index::Index;
+pub use searched::SearchedNames;
 pub use verdicts::Verdicts;

@@ -78,6 +78,13 @@ impl<'a> Verdicts<'a> {
         ensures { IsTrue result ↔ IsFitted self.now path.now }
     {
         *cursor = self.place_from(*cursor, path);
+        self.fits_next(cursor, path)
+    }
+
+    /// The same where the known paths come in turn: the cursor stands at the next of them.
+    pub(crate) fn fits_next(&self, cursor: &mut usize, path: &MetricPath) -> bool
+        ensures { IsTrue result ↔ IsFitted self.now path.now }
+    {
         match self.known_at(*cursor, path) {
             Some(fits) => {
                 *cursor = cursor.saturating_add(1);

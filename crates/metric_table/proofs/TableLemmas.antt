@@ -16,6 +16,7 @@ use Rattle.ring_format.specs.Layout.{LayoutValue}
 use Rattle.metric_index.specs.Found.{Finds, seen as hit_seen}
 use Rattle.metric_index.specs.declared.hit.Hit.{Hit}
 use Rattle.metric_index.specs.Index.{Sets, entry_of, paths_of}
+use Rattle.metric_index.specs.Searched.{AreKnown}
 use Rattle.metric_index.proofs.FindLemmas.{own_entry}
 use Rattle.metric_table.specs.Numbered.{HaveLayouts, KeepsNumbers, known_by, known_by_all, no_layout}
 use Rattle.metric_table.specs.declared.entry.Entry.{Entry}
@@ -118,6 +119,11 @@ some_shown layouts (Some entry) some = refl
 some_before : (layouts : List LayoutValue) (found : Option Entry) → IsSome (option_map (known_by layouts) found) → IsSome found
 some_before layouts None some = absurd cc
 some_before layouts (Some entry) some = refl
+
+pub known_before : (layouts : List LayoutValue) (index : List (List ℕ × Entry)) (table : List (List ℕ × Known)) (names : List (List ℕ)) → known_by_all layouts index ≡ table → AreKnown table names → AreKnown index names
+known_before layouts index table names is known = λ k d less.
+    let path : List ℕ = get_or names k d in
+    some_before layouts (entry_of index path) (subst (λ (o : Option Known). IsSome o) (shown_entry layouts index table path (entry_of index path) is refl) (known k d less))
 
 pub finds_shown : (layouts : List LayoutValue) (index hits : List (List ℕ × Entry)) (table found : List (List ℕ × Known)) (fits : List ℕ → Type 0) → known_by_all layouts index ≡ table → Finds index fits hits
     → found ≡ known_by_all layouts hits → Finds table fits found

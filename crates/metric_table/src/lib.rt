@@ -14,7 +14,7 @@ mod table;
 
 pub use found_metric::FoundMetric;
 pub use known::Known;
-pub use metric_index::Verdicts;
+pub use metric_index::{SearchedNames, Verdicts};
 pub use table::MetricTable;
 
 #[cfg(test)]

@@ -6,7 +6,7 @@ use crate::found::metrics_of;
 use crate::found_metric::FoundMetric;
 use crate::known::Known;
 use crate::layout_list::LayoutList;
-use metric_index::{Index, Verdicts};
+use metric_index::{Index, SearchedNames, Verdicts};
 use metric_path::MetricPath;
 use path_glob::Glob;
 use ring_format::Layout;
@@ -40,6 +40,7 @@ impl MetricTable {
     ghost use Rattle.metric_path.specs.Path.{path_fault};
     ghost use Rattle.metric_index.specs.Found.{Finds, IsFitted};
     ghost use Rattle.metric_index.specs.Index.{Sets, entry_of, paths_of};
+    ghost use Rattle.metric_index.specs.Searched.{AreKnown};
     ghost use Rattle.metric_table.specs.Numbered.{known_by};
     ghost use Rattle.metric_table.specs.Table.{IsLawful, drained, seen, undrained};
 
@@ -130,6 +131,20 @@ impl MetricTable {
         ensures { IfOk result (λ found. Finds self.now (IsFitted glob.now) (map seen found.items)) }
     {
         let hits = self.index.find(alloc, glob)?;
+        metrics_of(alloc, &self.layouts, &hits)
+    }
+
+    /// The same of a glob that was held against names, all of which are known still, as [`Index::find_again`] finds them.
+    pub fn find_again<'a>(
+        &'a self,
+        alloc: Global,
+        searched: &'a SearchedNames<'_>,
+    ) -> Result<Vec<FoundMetric<'a>>, AllocError>
+        requires known { AreKnown self.now searched.now.names }
+        ensures { IfOk result (λ found. Finds self.now (IsFitted searched.now.glob)
+            (map seen found.items)) }
+    {
+        let hits = self.index.find_again(alloc, searched)?;
         metrics_of(alloc, &self.layouts, &hits)
     }
 

@@ -28,7 +28,7 @@ pub use laws::{
 };
 pub use look_count::count_found;
 pub use looked::{LookCount, LookFault, Looked};
-pub use metric_table::{FoundMetric, Verdicts};
+pub use metric_table::{FoundMetric, SearchedNames, Verdicts};
 pub use next_metric::NextMetric;
 pub use planned::{Planned, Wrote};
 pub use planning::NextDrain;

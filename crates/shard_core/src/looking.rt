@@ -1,7 +1,7 @@
 //! Looking at metrics.
 use crate::desk::Desk;
 use crate::looked::Looked;
-use metric_table::{FoundMetric, Verdicts};
+use metric_table::{FoundMetric, SearchedNames, Verdicts};
 use point_cache::Points;
 use series_fetch::{Window, window_of};
 use std::alloc::AllocError;
@@ -10,6 +10,7 @@ impl Desk {
     ghost use Rattle.std.specs.Prelude.{◌≡◌, ◌≤◌, All, IfOk, map};
     ghost use Rattle.path_glob.specs.Faults.{Said};
     ghost use Rattle.metric_index.specs.Found.{IsFitted};
+    ghost use Rattle.metric_index.specs.Searched.{AreKnown};
     ghost use Rattle.metric_table.specs.Table.{seen};
     ghost use Rattle.series_fetch.specs.Window.{IsWindow};
     ghost use Rattle.point_cache.specs.Points.{IsRising};
@@ -47,6 +48,21 @@ impl Desk {
         // Each path is legal, and they rise.
         let _ = self.table.len();
         self.table.find(self.alloc, glob)
+    }
+
+    /// The same of a glob that was held against names, all of which are known still. Where no more are known, only those
+    /// that it fits are looked up.
+    pub fn find_again<'a>(
+        &'a self,
+        searched: &'a SearchedNames<'_>,
+    ) -> Result<Vec<FoundMetric<'a>>, AllocError>
+        requires known { AreKnown self.now.table searched.now.names }
+        ensures { IfOk result (λ found. (files : FilesInside)
+            → IsFoundIn (both (desk_of self.now) files) (IsFitted searched.now.glob) found.items) }
+    {
+        // Each path is legal, and they rise.
+        let _ = self.table.len();
+        self.table.find_again(self.alloc, searched)
     }
 
     /// What [`Desk::look`] tells of metrics that were found, for a question from a moment until
