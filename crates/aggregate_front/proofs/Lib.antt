@@ -1,0 +1,6 @@
+pub mod IntervalLemmas
+pub mod TimeOrderLemmas
+pub mod GatheredLemmas
+pub mod DeedLemmas
+pub mod HeldLemmas
+pub mod KnownLemmas
