@@ -4,3 +4,4 @@ pub mod GatheredLemmas
 pub mod DeedLemmas
 pub mod HeldLemmas
 pub mod KnownLemmas
+mod PlaceLemmas

@@ -80,9 +80,10 @@ impl<'a> Aggregator<'a> {
         ensures err { OnErr result (self.new ≡ self.old) }
     {
         let alloc = self.alloc;
+        let rules = self.rules.as_slice();
         let place = self
             .known
-            .place_of(alloc, self.rules.as_slice(), &datum.path)?;
+            .place_of(alloc, rules, &datum.path, &self.outputs)?;
         let point = TimedValue {
             time: datum.time,
             value: datum.value,

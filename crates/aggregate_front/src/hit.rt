@@ -28,12 +28,14 @@ impl OutputKey {
     }
 }
 
-/// What a rule makes of a path.
+/// What a rule makes of a path, and a guess at which place its output stands. Contracts do not see
+/// the guess: whoever goes by it looks first whether it holds.
 #[derive(Drop)]
 pub(crate) struct Hit {
     key: OutputKey,
     seconds: u32,
     method: Method,
+    guess: usize,
 }
 
 impl Model for Hit {
@@ -51,7 +53,7 @@ impl Hit {
     ghost use Rattle.aggregate_front.specs.Gathering.{interval_of};
 
     /// The output of a rule, which has intervals of so many seconds.
-    pub(crate) fn new(key: OutputKey, seconds: u32, method: Method) -> Hit
+    pub(crate) fn new(key: OutputKey, seconds: u32, method: Method, guess: usize) -> Hit
         requires { 0 < seconds }
         ensures { result ≡ record { key = key; seconds = seconds; method = method } }
     {
@@ -59,6 +61,7 @@ impl Hit {
             key,
             seconds,
             method,
+            guess,
         }
     }
 
@@ -67,6 +70,11 @@ impl Hit {
         ensures { result.now ≡ self.now.key }
     {
         &self.key
+    }
+
+    /// The place at which the output is thought to stand.
+    pub(crate) fn guess(&self) -> usize {
+        self.guess
     }
 
     /// The method of its rule.

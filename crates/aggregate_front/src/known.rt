@@ -8,6 +8,7 @@ ghost use Rattle.aggregate_rules.specs.Readings.{output_path};
 ghost use Rattle.aggregate_front.specs.Emitting.{Knows};
 
 use crate::hit::{Hit, OutputKey};
+use crate::outputs::Outputs;
 use aggregate_rules::Rule;
 use indexmap::IndexMap;
 use metric_path::MetricPath;
@@ -33,13 +34,19 @@ impl Model for Hits {
 }
 
 impl Hits {
-    /// The outputs of a path.
-    fn of(alloc: Global, rules: &[Rule], path: &MetricPath) -> Result<Hits, AllocError>
+    /// The outputs of a path, with what is held so far.
+    fn of(
+        alloc: Global,
+        rules: &[Rule],
+        path: &MetricPath,
+        outputs: &Outputs,
+    ) -> Result<Hits, AllocError>
         ensures { IfOk result (λ hits. hits ≡ hits_of rules.now path.now) }
     {
         let mut items = Vec::new(alloc);
+        let mut next = outputs.len();
         for (place, rule) in rules.iter().enumerate() {
-            let hit = hit_of(alloc, place, rule, path)?;
+            let hit = hit_of(alloc, place, rule, path, outputs, &mut next)?;
             push_hit(&mut items, hit)?;
         }
         Ok(Hits { items })
@@ -56,12 +63,14 @@ fn push_hit(items: &mut Vec<Hit>, hit: Option<Hit>) -> Result<(), AllocError>
     Ok(())
 }
 
-// The output that the rule at a place has for a path.
+// The output that the rule at a place has for a path; the next one that is made has this place.
 fn hit_of(
     alloc: Global,
     place: usize,
     rule: &Rule,
     path: &MetricPath,
+    outputs: &Outputs,
+    next: &mut usize,
 ) -> Result<Option<Hit>, AllocError>
     ensures { IfOk result
         (λ hit. hit ≡ option_map (hit_of place rule.now) (output_path rule.now path.now)) }
@@ -70,7 +79,20 @@ fn hit_of(
         return Ok(None);
     };
     let key = OutputKey { rule: place, path };
-    Ok(Some(Hit::new(key, rule.seconds(), rule.method())))
+    let guess = guess_of(outputs, &key, next);
+    Ok(Some(Hit::new(key, rule.seconds(), rule.method(), guess)))
+}
+
+// Where an output stands, or will, if this point makes it.
+fn guess_of(outputs: &Outputs, key: &OutputKey, next: &mut usize) -> usize {
+    match outputs.find(key) {
+        Some(place) => place,
+        None => {
+            let guess = *next;
+            *next = guess.saturating_add(1);
+            guess
+        }
+    }
 }
 
 /// The outputs of paths, each of which was looked at by all rules once. All are forgotten where
@@ -107,6 +129,7 @@ impl Known {
         alloc: Global,
         rules: &[Rule],
         path: &MetricPath,
+        outputs: &Outputs,
     ) -> Result<usize, AllocError>
         requires { Knows rules.now self.old }
         ensures knows { Knows rules.now self.new }
@@ -115,7 +138,7 @@ impl Known {
     {
         match self.paths.get_index_of(path) {
             Some(place) => return Ok(place),
-            None => return self.learn(alloc, rules, path),
+            None => return self.learn(alloc, rules, path, outputs),
         }
     }
 
@@ -125,6 +148,7 @@ impl Known {
         alloc: Global,
         rules: &[Rule],
         path: &MetricPath,
+        outputs: &Outputs,
     ) -> Result<usize, AllocError>
         requires knows { Knows rules.now self.old }
         requires absent { lookup (bytes_eq path.now) self.old ≡ None }
@@ -132,7 +156,7 @@ impl Known {
         ensures place { IfOk result (λ place.
             slice_get self.new place ≡ Some (path.now, hits_of rules.now path.now)) }
     {
-        let hits = Hits::of(alloc, rules, path)?;
+        let hits = Hits::of(alloc, rules, path, outputs)?;
         let path = path.copy()?;
         self.make_room(hits.items.len());
         let place = self.paths.len();

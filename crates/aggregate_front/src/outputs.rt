@@ -116,9 +116,44 @@ impl Outputs {
         if !is_moment(start) {
             return Ok(None);
         }
-        match self.entries.get_index_of(hit.key()) {
+        match self.place_of(hit) {
             Some(place) => self.take_at(alloc, place, hit, start, point),
             None => self.make(alloc, hit, start, point),
+        }
+    }
+
+    /// How many outputs there are.
+    pub(crate) fn len(&self) -> usize {
+        self.entries.len()
+    }
+
+    /// Where an output stands.
+    pub(crate) fn find(&self, key: &OutputKey) -> Option<usize> {
+        self.entries.get_index_of(key)
+    }
+
+    // Where an output stands: at the guess, if that holds, which is found without a look-up.
+    fn place_of(&self, hit: &Hit) -> Option<usize>
+        ensures { result ≡ position (is_key hit.now.key) (keys_of self.now.outputs) }
+    {
+        let guess = hit.guess();
+        if self.is_at(guess, hit.key()) {
+            return Some(guess);
+        }
+        self.entries.get_index_of(hit.key())
+    }
+
+    // Whether an output stands at a place.
+    fn is_at(&self, place: usize, key: &OutputKey) -> bool
+        ensures { result ≡ true
+            → position (is_key key.now) (keys_of self.now.outputs) ≡ Some place }
+    {
+        if place >= self.entries.len() {
+            return false;
+        }
+        match self.entries.get_index(place) {
+            Some((other, _)) => return *key == *other,
+            None => return false,
         }
     }
 
