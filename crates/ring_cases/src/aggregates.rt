@@ -25,6 +25,11 @@ fn tell_cause(told: &mut String, cause: AggCause) -> Result<(), AllocError> {
     }
 }
 
+/// `agg-limits`: how many outputs and points a link holds.
+pub fn tell_limits(told: &mut String) -> Result<(), CaseFault> {
+    Ok(write!(told, "{} {}", LINK_LIMITS.outputs, LINK_LIMITS.points)?)
+}
+
 /// `aggregate RULES POINTS..`: what these rules emit for the points of a link: behind `N>` what its Nth point emits, and behind `end`
 /// what its end does. Points are `PATH@TIME:VALUE`; behind that, `*N` says N of them, and `?` in the path is the number of each of
 /// these, from 0 on.
@@ -167,5 +172,11 @@ fn tell_points(told: &mut String, points: &[Datum]) -> Result<(), AllocError> {
 }
 
 fn tell_point(told: &mut String, point: &Datum) -> Result<(), AllocError> {
-    write!(told, " {}@{}:{}", point.path.as_str(), point.time, wide(point.value))
+    write!(
+        told,
+        " {}@{}:{}",
+        point.path.as_str(),
+        point.time,
+        wide(point.value)
+    )
 }
