@@ -1,8 +1,8 @@
 //! The verbs of the cases.
 
 use crate::{
-    batch_sweep, batches, caches, carries, fetches, layouts, lookups, order_sweep, orders, patches,
-    rollups, rules, shelves, writes,
+    aggregates, batch_sweep, batches, caches, carries, fetches, layouts, lookups, order_sweep,
+    orders, patches, rollups, rules, shelves, writes,
 };
 use case_lines::{Calls, Case, CaseFault};
 use std::alloc::Global;
@@ -39,6 +39,11 @@ fn tell_case(alloc: Global, told: &mut String, case: &Case) -> Result<(), CaseFa
         "rules" => rules::tell_rules(alloc, told, case),
         "retentions" => rules::tell_retentions(alloc, told, case),
         "path-layout" => rules::tell_path_layout(alloc, told, case),
+        "agg-rules" => aggregates::tell_rules(alloc, told, case),
+        "agg-limits" => aggregates::tell_limits(told),
+        "aggregate" => aggregates::tell_emitted(alloc, told, case),
+        "aggregate-within" => aggregates::tell_within(alloc, told, case),
+        "aggregate-end" => aggregates::tell_end(alloc, told, case),
         _ => tell_run(alloc, told, case),
     }
 }

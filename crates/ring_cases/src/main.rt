@@ -13,6 +13,7 @@
 //! Values are in thousandths, and `-` is a value that is missing. Bytes are told as hexadecimal digits, four bytes a word.
 #![tactic(auto)]
 
+mod aggregates;
 mod batch_model;
 mod batch_sweep;
 mod batches;

@@ -1,0 +1,14 @@
+use Rattle.std.proofs.Common.{◌≡◌, sym, ◌∙◌, Some, rules}
+use Rattle.std.proofs.lemmas.List.{take_rest}
+use Rattle.std.specs.List.{position}
+use Rattle.aggregate_rules.specs.RuleTexts.{is_opening}
+use Rattle.schema_rules.proofs.SplitLemmas.{split_first, split_nowhere}
+use Rattle.aggregate_rules.proofs.text.next_opened.Goals as goal
+
+pub returns-in-Some : goal.returns-in-Some
+returns-in-Some c =
+    let found : position is_opening c.args.text.now ≡ Some c.in-Some.at = sym c.opening_in.ensures.value ∙ c.in-Some.is in
+    (rw take_rest (split_first is_opening c.args.text.now c.in-Some.at found), search rules)
+
+pub returns-in-None : goal.returns-in-None
+returns-in-None c = split_nowhere is_opening c.args.text.now (sym c.opening_in.ensures.value ∙ c.in-None.is)
