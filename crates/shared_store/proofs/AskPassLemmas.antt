@@ -227,7 +227,7 @@ enters_try start passes order order' old new try now count legal order_is new_is
     }
 
 -- a try is about no class
-ask_out : (k : ℕ) (list : List Entry) (pass : PassValue) (try now : ℕ) → about_class k (list ++ ask_by pass try now ∷ []) ≡ about_class k list
+pub ask_out : (k : ℕ) (list : List Entry) (pass : PassValue) (try now : ℕ) → about_class k (list ++ ask_by pass try now ∷ []) ≡ about_class k list
 ask_out k list pass try now = filter-append (is_about k) list (ask_by pass try now ∷ []) ∙ append-nil (about_class k list)
 
 pub desks_entered : (list : List Entry) (pass : PassValue) (try now : ℕ) (seen : List Entry) (desks : List (MutexGuard DeskValue)) → seen ≡ list ++ ask_by pass try now ∷ []

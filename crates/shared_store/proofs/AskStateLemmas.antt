@@ -287,7 +287,7 @@ has_points s path none (inr kept) = absurd (no_kept (s.kept path) none kept)
 abbrev HasAs : Table → List ℕ → LayoutValue → Type 0
 HasAs table path layout = IsSomeAnd (entry_of table path) (λ known. known.layout ≡ layout)
 
-knows_as : (desk : DeskInside) (s : State) (path : List ℕ) → Lists desk.class desk.rules desk.cache.metrics desk.table → HoldsDesk desk s
+pub knows_as : (desk : DeskInside) (s : State) (path : List ℕ) → Lists desk.class desk.rules desk.cache.metrics desk.table → HoldsDesk desk s
     → IsOfClass desk.class path → IsKnown s path → HasAs desk.table path (layout_of s path)
 knows_as desk s path lists holds one known = by (s.kept path) refl
   where

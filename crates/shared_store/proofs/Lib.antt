@@ -25,3 +25,4 @@ mod BothLemmas
 mod CreateLemmas
 mod PlannedLemmas
 mod WrittenLemmas
+mod KnownLemmas

@@ -15,3 +15,4 @@ pub mod Pieces
 pub mod Finds
 pub mod Locks
 pub mod Held
+pub mod Known

@@ -31,6 +31,7 @@ impl<D: Disk, N: Named> Store<D, N> {
     ghost use Rattle.shared_store.specs.Asking.{AnswersTry, AreAllDesksOf, AreDesks, AreDesksOf, EntersBehind, EntersTries, IsNoMove, MarksAll, TriesTo};
     ghost use Rattle.shared_store.specs.Asks.{Asks};
     ghost use Rattle.shared_store.specs.Held.{AreFiles, AreHeld, IsHeld};
+    ghost use Rattle.shared_store.specs.Known.{AllKnow, KnowsBy, KnowsIn, needs_of};
     ghost use Rattle.shared_store.specs.Passes.{Enters, HasRoom, LooksOn};
 
     // The locks of all classes, taken in order.
@@ -174,9 +175,11 @@ impl<D: Disk, N: Named> Store<D, N> {
         requires held { IsHeld pass.old.seen held.items }
         requires one { pass.old.table ≡ N.table }
         requires room { length (own_entries pass.old) + 1 ≤ 2 ^ 48 }
-        requires needs { All AreEnds needs.now }
+        requires needs { All AreEnds (needs_of needs.now) }
+        requires known { AllKnow (KnowsIn N.start pass.old.seen) needs.now }
         requires now { now ≤ 4_000_000_000 }
-        ensures answers { AnswersTry N.start N.told N.passes now needs.now result pass.old pass.new }
+        ensures answers { AnswersTry N.start N.told N.passes now (needs_of needs.now) result
+            pass.old pass.new }
         ensures rows { IfOk result AreRows }
         ensures still { 0 < vec_len held.entry → IsNoMove result }
     {
@@ -207,9 +210,11 @@ impl<D: Disk, N: Named> Store<D, N> {
         requires one { pass.old.table ≡ N.table }
         requires may { MayAsk pass.old attempt }
         requires room { length (own_entries pass.old) + 2 ≤ 2 ^ 48 }
-        requires needs { All AreEnds needs.now }
+        requires needs { All AreEnds (needs_of needs.now) }
+        requires known { AllKnow (KnowsBy N.start pass.old.looks) needs.now }
         requires now { now ≤ 4_000_000_000 }
-        ensures tries { TriesTo N.start N.told N.passes now needs.now attempt result pass.old pass.new }
+        ensures tries { TriesTo N.start N.told N.passes now (needs_of needs.now) attempt result
+            pass.old pass.new }
         ensures rows { IfOk result AreRows }
         ensures looks { LooksOn pass.old pass.new }
     {
@@ -237,9 +242,11 @@ impl<D: Disk, N: Named> Store<D, N> {
     ) -> Result<SeriesRows, AskFault>
         requires one { pass.old.table ≡ N.table }
         requires room { HasRoom pass.old }
-        requires needs { All AreEnds needs.now }
+        requires needs { All AreEnds (needs_of needs.now) }
+        requires known { AllKnow (KnowsBy N.start pass.old.looks) needs.now }
         requires now { now ≤ 4_000_000_000 }
-        ensures asks { Asks N.start N.told N.passes now needs.now result pass.old pass.new }
+        ensures asks { Asks N.start N.told N.passes now (needs_of needs.now) result
+            pass.old pass.new }
         ensures rows { IfOk result AreRows }
         ensures looks { LooksOn pass.old pass.new }
     {
@@ -279,7 +286,7 @@ impl<D: Disk, N: Named> Store<D, N> {
         ensures rows { IfOk result AreRows }
         ensures looks { LooksOn pass.old pass.new }
     {
-        let Ok(names) = self.names_for(rt, alloc, needs) else {
+        let Ok(names) = self.names_for(rt, alloc, pass, needs) else {
             return Err(self.give_up(rt, pass));
         };
         let Ok(wanted) = want_all(alloc, needs, names.as_slice()) else {

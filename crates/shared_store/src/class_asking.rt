@@ -16,6 +16,7 @@ impl<N: Named> ClassDesk<N> {
     ghost use Rattle.carbon_model.specs.Replay.{replay};
     ghost use Rattle.shard_core.specs.Looks.{FindsFor, Looks};
     ghost use Rattle.shared_store.specs.Asking.{IsLookAt, IsReadable, MarksClass, OnlyLooks, WasDrained};
+    ghost use Rattle.shared_store.specs.Known.{KnowsHere};
 
     /// The entries of the class are those that the history has about it. Nothing changes.
     pub(crate) fn agree(&mut self, order: &mut OrderDesk<N>)
@@ -52,11 +53,15 @@ impl<N: Named> ClassDesk<N> {
     }
 
     /// The known metrics of the class that a need's glob fits, in byte order of their paths.
-    pub(crate) fn find(&self, wanted: &Wanted<'_>) -> Result<Vec<FoundMetric<'_>>, AllocError>
+    pub(crate) fn find<'a>(
+        &'a self,
+        wanted: &'a Wanted<'_>,
+    ) -> Result<Vec<FoundMetric<'a>>, AllocError>
+        requires known { KnowsHere N.start self.now wanted.now.names }
         ensures { IfOk result (λ found. FindsFor self.now.class (replay N.start self.now.list)
-            (IsFitted wanted.now.glob) found.items) }
+            (IsFitted wanted.now.need.glob) found.items) }
     {
-        self.desk.find(wanted.glob(self.class()))
+        self.desk.find_again(wanted.searched(self.class()))
     }
 
     /// What there is to say of those of these metrics of which a question has buckets, which its glob found, in byte

@@ -3,6 +3,7 @@ ghost use Rattle.std.specs.Prelude.{◌≡◌, List, All, IfOk, length};
 ghost use Rattle.carbon_history.specs.declared.entry.Entry.{Entry};
 ghost use Rattle.shared_store.specs.Asking.{AreDesks, AreDesksOf};
 ghost use Rattle.shared_store.specs.Finds.{AreFindsOf, needs_in};
+ghost use Rattle.shared_store.specs.Known.{AllKnow, KnowsAt, needs_of};
 
 use crate::class_desk::ClassDesk;
 use crate::named::Named;
@@ -47,6 +48,7 @@ impl<'a, N: Named> ClassFinds<'a, N> {
     ghost use Rattle.render_need.specs.Ends.{AreEnds};
     ghost use Rattle.shard_core.specs.Looks.{CountsFor, Looks};
     ghost use Rattle.shared_store.specs.Asking.{IsReadable};
+    ghost use Rattle.shared_store.specs.Known.{KnowsHere};
 
     /// What a need finds in the class of a desk, where that is no more than may be kept, of which it
     /// then takes its part. Else that is want of memory.
@@ -55,7 +57,9 @@ impl<'a, N: Named> ClassFinds<'a, N> {
         wanted: &'a Wanted<'_>,
         left: &mut u64,
     ) -> Result<ClassFinds<'a, N>, AllocError>
-        ensures { IfOk result (λ finds. finds ≡ record { desk = desk.now; need = wanted.now }) }
+        requires known { KnowsHere N.start desk.now wanted.now.names }
+        ensures { IfOk result
+            (λ finds. finds ≡ record { desk = desk.now; need = wanted.now.need }) }
     {
         let found = desk.find(wanted)?;
         let Some(rest) = left.checked_sub(found.len() as u64) else {
@@ -136,7 +140,8 @@ pub(crate) fn find_all<'a, N: Named>(
 ) -> Result<Vec<NeedFinds<'a, N>>, AllocError>
     requires sixteen { length desks.now ≡ 16 }
     requires desks { AreDesks desks.now }
-    ensures needs { IfOk result (λ finds. needs_in finds.items ≡ needs.now) }
+    requires known { AllKnow (KnowsAt N.start desks.now) needs.now }
+    ensures needs { IfOk result (λ finds. needs_in finds.items ≡ needs_of needs.now) }
     ensures finds { IfOk result (λ finds. (list : List Entry) → AreDesksOf list desks.now
         → All (AreFindsOf list) finds.items) }
 {
@@ -157,7 +162,8 @@ fn find<'a, N: Named>(
 ) -> Result<NeedFinds<'a, N>, AllocError>
     requires sixteen { length desks.now ≡ 16 }
     requires desks { AreDesks desks.now }
-    ensures need { IfOk result (λ finds. finds.need ≡ wanted.now) }
+    requires known { KnowsAt N.start desks.now wanted.now.names }
+    ensures need { IfOk result (λ finds. finds.need ≡ wanted.now.need) }
     ensures finds { IfOk result (λ finds. (list : List Entry) → AreDesksOf list desks.now
         → AreFindsOf list finds) }
 {

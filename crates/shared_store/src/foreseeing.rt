@@ -1,11 +1,10 @@
 //! What is found out before the locks of all classes are taken.
-ghost use Rattle.std.specs.Prelude.{◌<◌};
-
 use crate::named::Named;
 use crate::store::Store;
 use metric_path::{CLASSES, MetricPath};
 use outside_io::Disk;
 use render_need::Need;
+use shared_history::Pass;
 use std::alloc::{AllocError, Global};
 use std::sync::Wait;
 
@@ -44,6 +43,11 @@ impl Foreseen {
 }
 
 impl<D: Disk, N: Named> Store<D, N> {
+    ghost use Rattle.std.specs.Prelude.{◌≡◌, ◌≢◌, ◌<◌, ℕ, IfOk};
+    ghost use Rattle.shared_history.specs.Views.{look_at};
+    ghost use Rattle.shared_store.specs.Asking.{OnlyLooks};
+    ghost use Rattle.shared_store.specs.Known.{AreInOrder, AreKnownAfter, IsInOrder, KnowsBy, lists_of};
+
     // Looks at a class for these needs. Its lock is given back behind each need.
     fn foresee(
         &self,
@@ -72,20 +76,50 @@ impl<D: Disk, N: Named> Store<D, N> {
         Ok(seen.work > MOST_WORK_LOCKED)
     }
 
+    // The names of a class, at which the pass looks.
+    fn names_in(
+        &self,
+        rt: &impl Wait,
+        class: u32,
+        pass: &mut Pass,
+    ) -> Result<Vec<MetricPath>, AllocError>
+        requires here { class < 16 }
+        requires one { pass.old.table ≡ N.table }
+        ensures known { IfOk result (λ names.
+            AreKnownAfter N.start class (look_at class pass.new.looks).list names.items) }
+        ensures order { IfOk result (λ names. IsInOrder names.items) }
+        ensures only { OnlyLooks pass.old pass.new }
+        ensures others { (other : ℕ) → other ≢ class
+            → look_at other pass.new.looks ≡ look_at other pass.old.looks }
+    {
+        let mut guard = self.lock_class(rt, class);
+        let desk = &mut *guard;
+        desk.mark(pass);
+        desk.names()
+    }
+
     /// The names of each class, where a look at all classes for these needs would be too much work for the time
-    /// under their locks; else none. One lock is held at a time. More names than may be looked at are want of memory.
+    /// under their locks; else none. One lock is held at a time, and the pass looks at the class. More names than
+    /// may be looked at are want of memory.
     pub(crate) fn names_for(
         &self,
         rt: &impl Wait,
         alloc: Global,
+        pass: &mut Pass,
         needs: &[Need],
-    ) -> Result<Vec<Vec<MetricPath>>, AllocError> {
+    ) -> Result<Vec<Vec<MetricPath>>, AllocError>
+        requires one { pass.old.table ≡ N.table }
+        ensures known { IfOk result
+            (λ names. KnowsBy N.start pass.new.looks (lists_of names.items)) }
+        ensures order { IfOk result (λ names. AreInOrder names.items) }
+        ensures only { OnlyLooks pass.old pass.new }
+    {
         if !self.is_wide(rt, needs)? {
             return Ok(Vec::new(alloc));
         }
         let mut names = Vec::with_capacity(alloc, CLASSES as usize)?;
         for class in 0..CLASSES {
-            names.push(self.lock_class(rt, class).names()?)?;
+            names.push(self.names_in(rt, class, pass)?)?;
         }
         Ok(names)
     }

@@ -1,10 +1,11 @@
 //! The needs of a question, with what is known beforehand of the names.
-ghost use Rattle.std.specs.Prelude.{◌≡◌, All, IfOk};
+ghost use Rattle.std.specs.Prelude.{◌≡◌, All, IfOk, map};
+ghost use Rattle.shared_store.specs.Known.{AreInOrder, lists_of, needs_of};
 
 use metric_path::MetricPath;
 use path_glob::{GlobSearch, Work};
 use render_need::Need;
-use shard_core::Verdicts;
+use shard_core::SearchedNames;
 use std::alloc::{AllocError, Global};
 use std::marker::Model;
 
@@ -12,28 +13,30 @@ use std::marker::Model;
 /// A client that leaves meanwhile is computed for no longer.
 const MOST_WORK: u64 = 160_000_000;
 
-/// A need of a question, and of the names of each class whether its glob fits them, where that was found out
-/// before the locks of all classes are taken.
+/// A need of a question, and of the names of each class those that its glob fits, where that was found out before the
+/// locks of all classes are taken.
 #[derive(Drop)]
 pub(crate) struct Wanted<'a> {
     need: &'a Need,
-    unknown: Verdicts<'a>,
-    by_class: Vec<Verdicts<'a>>,
+    unknown: SearchedNames<'a>,
+    by_class: Vec<SearchedNames<'a>>,
 }
 
 impl<'a> Model for Wanted<'a> {
-    ghost use Rattle.std.specs.Prelude.{◌≡◌, All};
-    ghost use Rattle.render_need.specs.declared.need.Need.{Need as NeedValue};
+    ghost use Rattle.std.specs.Prelude.{◌≡◌, [], All, map};
+    ghost use Rattle.shared_store.specs.Known.{WantedValue};
 
-    ghost Value = { NeedValue };
+    ghost Value = { WantedValue };
 
-    ghost view = { λ w. w.need.now };
+    ghost view = { λ w. record { need = w.need.now; names = map (λ s. s.names) w.by_class.items } };
 
-    ghost invariant = { λ w. (w.unknown ≡ w.need.now.glob) × All (λ v. v ≡ w.need.now.glob) w.by_class.items };
+    ghost invariant = { λ w. (w.unknown ≡ record { glob = w.need.now.glob; names = [] })
+        × All (λ s. s.glob ≡ w.need.now.glob) w.by_class.items };
 }
 
 impl<'a> Wanted<'a> {
-    ghost use Rattle.std.specs.Prelude.{◌≡◌, IfOk};
+    ghost use Rattle.std.specs.Prelude.{◌≡◌, [], IfOk, get_or};
+    ghost use Rattle.shared_store.specs.Known.{AreInOrder, lists_of};
 
     /// A need, of which the names of each class are known, or none.
     fn new(
@@ -42,47 +45,52 @@ impl<'a> Wanted<'a> {
         names: &'a [Vec<MetricPath>],
         work: &mut Work,
     ) -> Result<Wanted<'a>, AllocError>
-        ensures { IfOk result (λ wanted. wanted ≡ need.now) }
+        requires order { AreInOrder names.now }
+        ensures { IfOk result
+            (λ wanted. wanted ≡ record { need = need.now; names = lists_of names.now }) }
     {
         Ok(Wanted {
             need,
-            unknown: Verdicts::none(alloc, &need.glob),
-            by_class: verdicts_by_class(alloc, need, names, work)?,
+            unknown: SearchedNames::none(alloc, &need.glob),
+            by_class: search_classes(alloc, need, names, work)?,
         })
     }
 
     /// The need.
     pub(crate) fn need(&self) -> &Need
-        ensures { result.now ≡ self.now }
+        ensures { result.now ≡ self.now.need }
     {
         self.need
     }
 
     /// Its glob, with what is known of the names of a class.
-    pub(crate) fn glob(&self, class: u32) -> &Verdicts<'a>
-        ensures { result.now ≡ self.now.glob }
+    pub(crate) fn searched(&self, class: u32) -> &SearchedNames<'a>
+        ensures glob { result.now.glob ≡ self.now.need.glob }
+        ensures names { result.now.names ≡ get_or self.now.names class [] }
     {
         match self.by_class.get(class as usize) {
-            Some(verdicts) => return verdicts,
+            Some(searched) => return searched,
             None => return &self.unknown,
         }
     }
 }
 
-// The glob of a need, with what is known of the names of each class.
-fn verdicts_by_class<'a>(
+// The glob of a need, held against the names of each class.
+fn search_classes<'a>(
     alloc: Global,
     need: &'a Need,
     names: &'a [Vec<MetricPath>],
     work: &mut Work,
-) -> Result<Vec<Verdicts<'a>>, AllocError>
-    ensures { IfOk result (λ all. All (λ v. v ≡ need.now.glob) all.items) }
+) -> Result<Vec<SearchedNames<'a>>, AllocError>
+    requires order { AreInOrder names.now }
+    ensures glob { IfOk result (λ all. All (λ s. s.glob ≡ need.now.glob) all.items) }
+    ensures names { IfOk result (λ all. map (λ s. s.names) all.items ≡ lists_of names.now) }
 {
     let mut all = Vec::with_capacity(alloc, names.len())?;
     // Nodes that stand in several classes are tried once.
     let mut search = GlobSearch::new(alloc, &need.glob)?;
     for paths in names {
-        all.push(Verdicts::of_paths(alloc, &need.glob, &mut search, paths, work)?)?;
+        all.push(SearchedNames::of_names(alloc, &need.glob, &mut search, paths, work)?)?;
     }
     Ok(all)
 }
@@ -93,7 +101,9 @@ pub(crate) fn want_all<'a>(
     needs: &'a [Need],
     names: &'a [Vec<MetricPath>],
 ) -> Result<Vec<Wanted<'a>>, AllocError>
-    ensures { IfOk result (λ all. all.items ≡ needs.now) }
+    requires order { AreInOrder names.now }
+    ensures needs { IfOk result (λ all. needs_of all.items ≡ needs.now) }
+    ensures names { IfOk result (λ all. All (λ w. w.names ≡ lists_of names.now) all.items) }
 {
     let mut work = Work::new(MOST_WORK);
     let mut all = Vec::with_capacity(alloc, needs.len())?;

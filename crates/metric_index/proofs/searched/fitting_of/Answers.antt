@@ -3,7 +3,6 @@ use Rattle.std.specs.Cmp.{unsigned_Decides}
 use Rattle.std.proofs.lemmas.List.{map_push, take_more}
 use Rattle.std.proofs.lemmas.Slice.Eq.{starts_is}
 use Rattle.path_glob.specs.Faults.{Said}
-use Rattle.path_glob.specs.Laws.{BeginsWith}
 use Rattle.metric_index.specs.Found.{IsFitted}
 use Rattle.metric_index.specs.Searched.{PicksNames}
 use Rattle.metric_index.proofs.SearchedLemmas.{picks_more, picks_pass}

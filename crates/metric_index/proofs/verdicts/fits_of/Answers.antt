@@ -1,4 +1,4 @@
-use Rattle.std.proofs.Common.{rules, ◌≡◌, ◌∙◌, ◌<◌, ◌↔◌, IsTrue, ℕ, List, Bool, length, get_or, sym, subst, ap, arith}
+use Rattle.std.proofs.Common.{rules, ◌≡◌, ◌∙◌, ◌<◌, ◌↔◌, IsTrue, ℕ, List, Bool, length, get_or, sym, subst, arith}
 use Rattle.path_glob.specs.Faults.{Said}
 use Rattle.metric_index.specs.Found.{IsFitted}
 use Rattle.metric_index.specs.Verdicts.{AreVerdicts}

@@ -1,4 +1,4 @@
-use Rattle.std.proofs.Common.{◌≡◌, ◌∙◌, ℕ, ◌+◌, ◌<◌, Bor, List, [], ◌∷◌, ◌++◌, None, Some, length, map, take, get_or, sym, ap, subst}
+use Rattle.std.proofs.Common.{◌≡◌, ◌∙◌, ℕ, ◌+◌, ◌<◌, Bor, List, [], ◌∷◌, ◌++◌, length, map, take, get_or, sym, ap, subst}
 use Rattle.std.specs.Option.{IsSome, option_copied}
 use Rattle.std.proofs.lemmas.List.{get_or-map, length-map, map_more, map_push}
 use Rattle.std.proofs.lemmas.List.Elements.{All-get_or}

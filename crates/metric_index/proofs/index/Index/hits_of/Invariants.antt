@@ -1,6 +1,5 @@
-use Rattle.std.proofs.Common.{◌≡◌, All, List, ℕ, Bor, Some, map, take}
+use Rattle.std.proofs.Common.{map, take}
 use Rattle.metric_index.specs.Found.{seen}
-use Rattle.metric_index.specs.Index.{entry_of}
 use Rattle.metric_index.specs.Searched.{AreHits}
 use Rattle.metric_index.proofs.index.Index.hits_of.Given as goal
 

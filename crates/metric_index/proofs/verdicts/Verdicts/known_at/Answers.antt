@@ -1,5 +1,4 @@
-use Rattle.std.proofs.Common.{rules, ◌≡◌, ◌<◌, ◌↔◌, IsTrue, Bool, List, ℕ, length, get_or, sym, subst, arith}
-use Rattle.std.proofs.lemmas.Slice.Eq.{bytes_eq-Decides}
+use Rattle.std.proofs.Common.{rules, ◌≡◌, ◌<◌, ◌↔◌, IsTrue, Bool, List, ℕ, length, get_or, subst}
 use Rattle.path_glob.specs.Faults.{Said}
 use Rattle.metric_index.specs.Found.{IsFitted}
 use Rattle.metric_index.proofs.VerdictLemmas.{known_verdict}
