@@ -213,14 +213,32 @@ const OTHERS: [Held; 4] = [
     ("a/b.ring", SOUND, 148),
 ];
 
+fn assert_others(rt: &impl Abort, alloc: Global, disk: &mut MemDisk) -> Result<(), Fail> {
+    for held in OTHERS.iter() {
+        assert!(rt; holds(alloc, disk, held)?, "{}", held.0);
+    }
+    assert!(rt; count_files(disk) == Some(4));
+    Ok(())
+}
+
 #[test]
 fn other_files_are_left_alone(rt: HostRuntime) -> Result<(), Fail> {
     let mut disk = disk_after(rt.alloc(), disk_with(rt.alloc(), &OTHERS)?)?;
-    for held in OTHERS.iter() {
-        assert!(rt; holds(rt.alloc(), &mut disk, held)?, "{}", held.0);
+    assert_others(&rt, rt.alloc(), &mut disk)
+}
+
+// A disk with the file of `a.b`, of which one reading call fails.
+fn failing_disk(alloc: Global, call: u64) -> Result<MemDisk, AllocError> {
+    let calls = vec![in alloc; call]?;
+    let disk = disk_with(alloc, &[("a/b.ring", SOUND, 148)])?;
+    Ok(disk.failing_reads(calls))
+}
+
+fn faults_of_refusal(refusal: &(MemDisk, StartFault)) -> Option<u64> {
+    match &refusal.1 {
+        StartFault::DiskFault => Some(refusal.0.faults()),
+        StartFault::Damaged(_) | StartFault::NoMemory => None,
     }
-    assert!(rt; count_files(&mut disk) == Some(4));
-    Ok(())
 }
 
 // How many faults the disk counts after a start that it lets succeed or fails, `None` where the start ends
@@ -228,25 +246,22 @@ fn other_files_are_left_alone(rt: HostRuntime) -> Result<(), Fail> {
 fn faults_of_start(alloc: Global, disk: MemDisk, rules: Rules) -> Option<u64> {
     match start(alloc, disk, rules) {
         Ok(shard) => Some(shard.finish().faults()),
-        Err(refusal) => {
-            let (disk, fault) = refusal;
-            match fault {
-                StartFault::DiskFault => Some(disk.faults()),
-                StartFault::Damaged(_) | StartFault::NoMemory => None,
-            }
-        }
+        Err(refusal) => faults_of_refusal(&refusal),
     }
+}
+
+fn assert_counted(rt: &impl Abort, alloc: Global, call: u64, want: u64) -> Result<(), Fail> {
+    let rules = read_rules(alloc, b"")?;
+    let faults = faults_of_start(alloc, failing_disk(alloc, call)?, rules);
+    assert!(rt; faults == Some(want), "call {call}");
+    Ok(())
 }
 
 // A start lists the names, and then asks the length of the one file and reads its head.
 #[test]
 fn a_failed_call_is_counted(rt: HostRuntime) -> Result<(), Fail> {
-    let alloc = rt.alloc();
     for (call, want) in [(1, 1), (2, 1), (3, 1), (4, 0)] {
-        let disk = disk_with(alloc, &[("a/b.ring", SOUND, 148)])?;
-        let disk = disk.failing_reads(vec![in alloc; call]?);
-        let faults = faults_of_start(alloc, disk, read_rules(alloc, b"")?);
-        assert!(rt; faults == Some(want), "call {call}");
+        assert_counted(&rt, rt.alloc(), call, want)?;
     }
     Ok(())
 }

@@ -44,29 +44,41 @@ fn failing_call(class: u32, failing: u32) -> u64 {
     if class == failing { 1 } else { 0 }
 }
 
+// The same disk, whose first call fails where its class is to fail.
+fn failing_disk_of(
+    alloc: Global,
+    class: u32,
+    files: &[Held],
+    failing: u32,
+) -> Result<MemDisk, AllocError> {
+    let calls = vec![in alloc; failing_call(class, failing)]?;
+    Ok(disk_of(alloc, class, files)?.failing_reads(calls))
+}
+
 // Sixteen disks, of which that of one class fails at its first call.
 fn sixteen_disks(alloc: Global, files: &[Held], failing: u32) -> Result<Vec<MemDisk>, AllocError>
     ensures { IfOk result (λ disks. vec_len disks ≡ 16) }
 {
     let mut disks = Vec::new(alloc);
     for class in 0..CLASSES {
-        let calls = vec![in alloc; failing_call(class, failing)]?;
-        disks.push(disk_of(alloc, class, files)?.failing_reads(calls))?;
+        disks.push(failing_disk_of(alloc, class, files, failing)?)?;
     }
     Ok(disks)
 }
 
+fn is_of_class(disk: &mut MemDisk, class: u32) -> bool {
+    disk.mend();
+    disk.length("class.txt") == Ok(Some(u64::from(class)))
+}
+
 // Whether all disks are there, each in the place of its class.
-fn are_in_order(disks: Vec<MemDisk>) -> bool {
-    let mut count = 0u64;
-    for mut disk in disks {
-        disk.mend();
-        if disk.length("class.txt") != Ok(Some(count)) {
+fn are_in_order(disks: &mut [MemDisk]) -> bool {
+    for (class, disk) in (0..CLASSES).zip(disks.iter_mut()) {
+        if !is_of_class(disk, class) {
             return false;
         }
-        count = count.saturating_add(1);
     }
-    count == u64::from(CLASSES)
+    disks.len() == CLASSES as usize
 }
 
 // The class of the disk that has failed, 16 where none has.
@@ -108,9 +120,9 @@ fn assert_refused(
 ) -> Result<(), Fail>
     requires { vec_len disks ≡ 16 }
 {
-    let Refused { disks, refusal } = start_refused(alloc, disks)?;
-    assert_refusal(rt, &refusal, disks.as_slice(), class, want);
-    assert!(rt; are_in_order(disks), "{want}");
+    let mut refused = start_refused(alloc, disks)?;
+    assert_refusal(rt, &refused.refusal, refused.disks.as_slice(), class, want);
+    assert!(rt; are_in_order(refused.disks.as_mut_slice()), "{want}");
     Ok(())
 }
 
@@ -178,12 +190,19 @@ const FILES: [Held; 3] = [
     ("x.txt", DAMAGED, 148),
 ];
 
+// The disks that are handed back behind a start whose shards find what they have.
+fn disks_behind(rt: &impl Abort, alloc: Global, disks: Vec<MemDisk>) -> Result<Vec<MemDisk>, Fail>
+    requires { vec_len disks ≡ 16 }
+{
+    let started = start_sixteen(alloc, disks)?;
+    assert_found(rt, alloc, started.shards.as_slice())?;
+    Ok(hand_back(started.shards, started.room))
+}
+
 #[test]
 fn each_shard_has_the_disk_of_its_class(rt: HostRuntime) -> Result<(), Fail> {
     let disks = sixteen_disks(rt.alloc(), &FILES, NONE)?;
-    let started = start_sixteen(rt.alloc(), disks)?;
-    assert_found(&rt, rt.alloc(), started.shards.as_slice())?;
-    let disks = hand_back(started.shards, started.room);
-    assert!(rt; are_in_order(disks));
+    let mut disks = disks_behind(&rt, rt.alloc(), disks)?;
+    assert!(rt; are_in_order(disks.as_mut_slice()));
     Ok(())
 }
