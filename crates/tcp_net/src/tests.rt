@@ -10,7 +10,8 @@ use crate::port::BoundPorts;
 use crate::tcp_link::TcpLink;
 use crate::{NetCloser, SystemClock, TcpNet};
 use kit::{
-    Pair, bound_net, connect_and_end, connect_and_send, gives, is_refused, is_sent, settings,
+    Pair, bound_net, connect_and_end, connect_and_send, gives, is_refused, is_sent, millis,
+    millis_since, seconds, settings,
 };
 use libc::net::{SO_KEEPALIVE, SOL_SOCKET, getsockopt};
 use outside_io::{Clock, Net, NetFailed, ReadEnd, Sink, Source, WriteEnd};
@@ -29,12 +30,12 @@ struct StoppedAt(Option<u64>);
 
 impl std::time::Clock for StoppedAt {
     fn monotonic(&self) -> io::Result<Duration> {
-        Ok(Duration::from_secs(0))
+        Ok(seconds(0))
     }
 
     fn since_1970(&self) -> io::Result<Duration> {
         match self.0 {
-            Some(seconds) => Ok(Duration::from_secs(seconds)),
+            Some(moment) => Ok(seconds(moment)),
             None => Err(io::Error::from(ErrorKind::Other)),
         }
     }
@@ -64,7 +65,7 @@ fn moments_are_brought_into_the_legal_range(rt: HostRuntime) -> Result<(), Fail>
 fn millis_of_pause(rt: HostRuntime) -> io::Result<u128> {
     let begun = Instant::now(&rt)?;
     SystemClock::new(rt).pause();
-    Ok(begun.elapsed(&rt)?.as_millis())
+    millis_since(rt, begun)
 }
 
 fn system_seconds(rt: HostRuntime) -> Result<u64, Fail> {
@@ -234,8 +235,8 @@ fn is_gone(link: &mut TcpLink<HostRuntime>) -> bool {
 #[test]
 fn a_peer_that_is_silent_takes_nothing_or_goes_is_given_up(rt: HostRuntime) -> Result<(), Fail> {
     let patience = Patience {
-        for_bytes: Some(Duration::from_millis(20)),
-        for_room: Duration::from_millis(20),
+        for_bytes: Some(millis(20)),
+        for_room: millis(20),
         for_exchange: None,
         idle: None,
     };

@@ -1,5 +1,6 @@
 // Both ends of connections in one process.
 use crate::net_closer::StopTimes;
+use crate::pace::ExchangeTimes;
 use crate::patience::Patience;
 use crate::port::{BoundPorts, Port};
 use crate::shared::Shared;
@@ -7,16 +8,43 @@ use crate::tcp_link::TcpLink;
 use crate::timed_stream::TimedStream;
 use crate::{NetSettings, TcpNet};
 use outside_io::{Net, ReadEnd, Source};
-use std::io;
 use std::io::{ErrorKind, Read, Write};
 use std::net::{IpAddr, Ipv4Addr, Shutdown, SocketAddr, TcpStream};
 use std::sync::Arc;
-use std::time::Duration;
+use std::test::Fail;
+use std::time::{Duration, Instant};
+use std::{io, thread};
 
 pub(super) const LOCAL: IpAddr = IpAddr::V4(Ipv4Addr::LOCALHOST);
 
 pub(super) fn other_fault() -> io::Error {
     io::Error::from(ErrorKind::Other)
+}
+
+// The times of the tests are all made here, since each place that makes one is proved at some cost.
+pub(super) fn millis(count: u64) -> Duration {
+    Duration::from_millis(count)
+}
+
+pub(super) fn seconds(count: u64) -> Duration {
+    Duration::from_secs(count)
+}
+
+pub(super) fn pause(rt: HostRuntime, count: u64) {
+    thread::sleep(&rt, millis(count));
+}
+
+// How many milliseconds have gone by since then.
+pub(super) fn millis_since(rt: HostRuntime, begun: Instant) -> io::Result<u128> {
+    Ok(begun.elapsed(&rt)?.as_millis())
+}
+
+// The times of a link for HTTP.
+pub(super) fn exchange_times() -> Result<ExchangeTimes, Fail> {
+    match Patience::for_http().for_exchange {
+        Some(times) => Ok(times),
+        None => Err(Fail::new("no times")),
+    }
 }
 
 pub(super) fn settings(line_patience: u32) -> NetSettings {
@@ -28,8 +56,8 @@ pub(super) fn settings(line_patience: u32) -> NetSettings {
 
 pub(super) fn stop_times(grace_millis: u64, rest_millis: u64) -> StopTimes {
     StopTimes {
-        grace: Duration::from_millis(grace_millis),
-        rest: Duration::from_millis(rest_millis),
+        grace: millis(grace_millis),
+        rest: millis(rest_millis),
     }
 }
 
@@ -49,6 +77,20 @@ pub(super) fn connect_and_end(rt: HostRuntime, port: u16, piece: &[u8]) -> io::R
     let client = connect_and_send(rt, port, piece)?;
     client.shutdown(Shutdown::Write)?;
     Ok(client)
+}
+
+// Takes as many bytes as fit in the buffer, so often and with so many milliseconds behind each.
+pub(super) fn sip(
+    rt: HostRuntime,
+    mut client: &TcpStream,
+    buf: &mut [u8],
+    times: u64,
+    each_millis: u64,
+) {
+    for _ in 0..times {
+        let _ = client.read(buf);
+        pause(rt, each_millis);
+    }
 }
 
 // Whether a source gives just this text and is then at its end.
@@ -106,6 +148,28 @@ pub(super) fn bind(mut net: TcpNet<HostRuntime>, links: u64) -> io::Result<Bound
     }
 }
 
+// Both ends of a connection.
+#[derive(Drop)]
+pub(super) struct Streams {
+    pub(super) client: TcpStream,
+    pub(super) served: TcpStream,
+}
+
+pub(super) fn connected_streams(rt: HostRuntime) -> io::Result<Streams> {
+    let port = Port::open(&rt, rt.alloc(), LOCAL, 0, 0)?;
+    let client = connect(rt, port.number())?;
+    match port.next_stream(&rt) {
+        Some(served) => Ok(Streams { client, served }),
+        None => Err(other_fault()),
+    }
+}
+
+// What a net shares with its links.
+pub(super) fn new_shared(rt: HostRuntime, rest_millis: u64) -> io::Result<Arc<Shared>> {
+    let shared = Shared::new(&rt, stop_times(0, rest_millis))?;
+    Ok(Arc::new(rt.alloc(), shared)?)
+}
+
 // Both ends of a connection, and what the link's net would share with it.
 #[derive(Drop)]
 pub(super) struct Pair {
@@ -116,15 +180,12 @@ pub(super) struct Pair {
 
 impl Pair {
     pub(super) fn new(rt: HostRuntime, patience: Patience, rest_millis: u64) -> io::Result<Self> {
-        let shared = Shared::new(&rt, stop_times(0, rest_millis))?;
-        let shared = Arc::new(rt.alloc(), shared)?;
-        let port = Port::open(&rt, rt.alloc(), LOCAL, 0, 0)?;
-        let client = connect(rt, port.number())?;
-        let stream = port.next_stream(&rt).ok_or(ErrorKind::Other)?;
-        let link = TcpLink::new(TimedStream::new(rt, stream, Arc::try_clone(&shared)?, patience));
+        let shared = new_shared(rt, rest_millis)?;
+        let of_link = Arc::try_clone(&shared)?;
+        let Streams { client, served } = connected_streams(rt)?;
         Ok(Pair {
             client,
-            link,
+            link: TcpLink::new(TimedStream::new(rt, served, of_link, patience)),
             shared,
         })
     }

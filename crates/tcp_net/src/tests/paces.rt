@@ -1,9 +1,8 @@
 // What requests and replies are allowed, at the times of links for HTTP.
+use super::kit::{exchange_times, seconds};
 use crate::pace::Pace;
-use crate::patience::Patience;
 use std::process::Abort;
 use std::test::Fail;
-use std::time::Duration;
 
 // Times are in seconds.
 #[derive(Clone, Copy)]
@@ -22,16 +21,15 @@ const LONG: [u8; 1_021] = [b'x'; 1_021];
 
 fn note(pace: &mut Pace, event: Event<'_>) {
     match event {
-        Read(moment, piece) => pace.note_read(piece, Duration::from_secs(moment)),
-        Wait(time) => pace.note_wait(Duration::from_secs(time)),
+        Read(moment, piece) => pace.note_read(piece, seconds(moment)),
+        Wait(time) => pace.note_wait(seconds(time)),
         Write(count) => pace.note_write(count),
     }
 }
 
 // Until when bytes may come, and how much longer writes may wait, after these events.
 fn allowed_after(events: &[Event<'_>]) -> Result<(Option<u64>, u64), Fail> {
-    let times = Patience::for_http().for_exchange.ok_or("no times")?;
-    let mut pace = Pace::new(times);
+    let mut pace = Pace::new(exchange_times()?);
     for event in events {
         note(&mut pace, *event);
     }

@@ -1,5 +1,5 @@
 // What an operator is told of questions for which there was no memory.
-use super::kit::Pair;
+use super::kit::{Streams, connected_streams, exchange_times, millis, new_shared, seconds};
 use crate::exchange::Exchange;
 use crate::patience::Patience;
 use crate::questions_told::QuestionsTold;
@@ -31,11 +31,11 @@ struct Host<'a> {
 
 impl Clock for Host<'_> {
     fn monotonic(&self) -> io::Result<Duration> {
-        Ok(Duration::from_millis(self.millis))
+        Ok(millis(self.millis))
     }
 
     fn since_1970(&self) -> io::Result<Duration> {
-        Ok(Duration::from_millis(self.millis))
+        Ok(millis(self.millis))
     }
 }
 
@@ -55,10 +55,10 @@ impl Eprint for Host<'_> {
 }
 
 fn exchange_of(pieces: &[&[u8]]) -> Result<Exchange, Fail> {
-    let times = Patience::for_http().for_exchange.ok_or("no times")?;
-    let mut exchange = Exchange::new(times);
+    let mut exchange = Exchange::new(exchange_times()?);
+    let now = seconds(0);
     for piece in pieces {
-        exchange.note_read(piece, Duration::ZERO);
+        exchange.note_read(piece, now);
     }
     Ok(exchange)
 }
@@ -164,13 +164,9 @@ struct Ends<'a> {
 }
 
 fn ends_over(rt: HostRuntime, host: Host<'_>) -> io::Result<Ends<'_>> {
-    let Pair {
-        client,
-        link,
-        shared,
-    } = Pair::new(rt, Patience::for_http(), 0)?;
-    let stream = link.timed.stream.try_clone()?;
-    let link = TcpLink::new(TimedStream::new(host, stream, shared, Patience::for_http()));
+    let shared = new_shared(rt, 0)?;
+    let Streams { client, served } = connected_streams(rt)?;
+    let link = TcpLink::new(TimedStream::new(host, served, shared, Patience::for_http()));
     Ok(Ends { client, link })
 }
 

@@ -1,19 +1,23 @@
 // Other ends that are slow, silent or gone.
-use super::kit::{Pair, bind, bound_net, connect, connect_and_send, gives, read_out, settings};
+use super::kit::{
+    Pair, bind, bound_net, connect, connect_and_send, gives, millis, millis_since, pause, read_out,
+    settings, sip,
+};
 use crate::TcpNet;
 use crate::pace::{Allowance, ExchangeTimes};
 use crate::patience::Patience;
+use crate::tcp_link::TcpLink;
 use outside_io::{Net, ReadEnd, Sink, Source, WriteEnd, write_all};
 use std::io::{Read, Write};
 use std::net::{Shutdown, TcpStream};
 use std::test::Fail;
 use std::thread::Threads;
-use std::time::{Duration, Instant};
+use std::time::Instant;
 use std::{io, thread};
 
 // Of a link for HTTP whose head, body and reply have 200 milliseconds each, however many their bytes are.
 fn short_patience() -> Patience {
-    let at_once = Duration::from_millis(200);
+    let at_once = millis(200);
     let allowance = Allowance {
         at_once,
         bytes_a_second: u64::MAX,
@@ -33,7 +37,7 @@ fn drip(rt: HostRuntime, mut client: &TcpStream) {
         if client.write_all(b"x").is_err() {
             break;
         }
-        thread::sleep(&rt, Duration::from_millis(10));
+        pause(rt, 10);
     }
 }
 
@@ -60,20 +64,11 @@ fn a_head_or_a_body_that_drips_is_ended(rt: HostRuntime) -> Result<(), Fail> {
     for first in firsts {
         let begun = Instant::now(&rt)?;
         let (end, reads) = end_of_drips(&rt, rt, first)?;
-        let millis = begun.elapsed(&rt)?.as_millis();
+        let millis = millis_since(rt, begun)?;
         assert!(rt; end == ReadEnd::End && 0 < reads, "{end:?} after {reads}");
         assert!(rt; (200..10_000).contains(&millis), "{millis}");
     }
     Ok(())
-}
-
-// Takes 1,000 bytes each 10 milliseconds, so often.
-fn sip(rt: HostRuntime, mut client: &TcpStream, times: u64) {
-    let mut buf = [0u8; 1_000];
-    for _ in 0..times {
-        let _ = client.read(&mut buf);
-        thread::sleep(&rt, Duration::from_millis(10));
-    }
 }
 
 // Writes until that fails.
@@ -86,6 +81,11 @@ fn write_out<K: Sink>(out: &mut K) {
     }
 }
 
+// Takes 1,000 bytes each 10 milliseconds.
+fn sip_slowly(rt: HostRuntime, client: &TcpStream) {
+    sip(rt, client, &mut [0u8; 1_000], 60, 10);
+}
+
 // How many milliseconds a link is written to whose other end sips, and how many faults it then has.
 fn millis_of_sips(threads: &impl Threads, rt: HostRuntime) -> Result<(u128, u64), Fail> {
     let Pair {
@@ -96,10 +96,10 @@ fn millis_of_sips(threads: &impl Threads, rt: HostRuntime) -> Result<(u128, u64)
     let begun = Instant::now(&rt)?;
     let writing = || {
         write_out(&mut link);
-        begun.elapsed(&rt)
+        millis_since(rt, begun)
     };
-    let (elapsed, ()) = thread::join(threads, writing, || sip(rt, &client, 60));
-    Ok((elapsed?.as_millis(), link.write_faults()))
+    let (elapsed, ()) = thread::join(threads, writing, || sip_slowly(rt, &client));
+    Ok((elapsed?, link.write_faults()))
 }
 
 #[test]
@@ -114,10 +114,16 @@ fn a_reply_that_is_sipped_fails(rt: HostRuntime) -> Result<(), Fail> {
 
 // Whether the next link of lines gives a line and is then at its end, and after how many milliseconds.
 fn millis_of_silence(rt: HostRuntime, net: &TcpNet<HostRuntime>) -> Result<(bool, u128), Fail> {
-    let mut link = net.next_lines().ok_or("no link of lines")?;
+    match net.next_lines() {
+        Some(mut link) => Ok(millis_of_line(rt, &mut link)?),
+        None => Err(Fail::new("no link of lines")),
+    }
+}
+
+fn millis_of_line(rt: HostRuntime, link: &mut TcpLink<HostRuntime>) -> io::Result<(bool, u128)> {
     let begun = Instant::now(&rt)?;
-    let is_given = gives(&mut link, b"a 1 2\n");
-    Ok((is_given, begun.elapsed(&rt)?.as_millis()))
+    let is_given = gives(link, b"a 1 2\n");
+    Ok((is_given, millis_since(rt, begun)?))
 }
 
 #[test]
@@ -141,13 +147,21 @@ fn millis_of_idleness(
     net: &TcpNet<HostRuntime>,
     is_replied: bool,
 ) -> Result<(ReadEnd, u128), Fail> {
-    let mut link = net.next_http().ok_or("no link for HTTP")?;
-    if is_replied {
-        write_all(&mut link, b"404")?;
+    let Some(mut link) = net.next_http() else {
+        return Err(Fail::new("no link for HTTP"));
+    };
+    let is_written = !is_replied || write_all(&mut link, b"404").is_ok();
+    if !is_written {
+        return Err(Fail::new("no reply"));
     }
+    Ok(millis_of_read(rt, &mut link)?)
+}
+
+// How a read of a link ends, and after how many milliseconds.
+fn millis_of_read(rt: HostRuntime, link: &mut TcpLink<HostRuntime>) -> io::Result<(ReadEnd, u128)> {
     let begun = Instant::now(&rt)?;
     let end = link.read(&mut [0u8; 8]);
-    Ok((end, begun.elapsed(&rt)?.as_millis()))
+    Ok((end, millis_since(rt, begun)?))
 }
 
 #[test]
@@ -171,9 +185,9 @@ fn a_link_without_a_request_gives_way_to_a_connection_that_waits(
 
 // Connects once more after a while, and sends a byte over the first connection after another while.
 fn connect_and_wait(rt: HostRuntime, port: u16, mut first: &TcpStream) -> io::Result<()> {
-    thread::sleep(&rt, Duration::from_millis(400));
+    pause(rt, 400);
     let second = connect(rt, port)?;
-    thread::sleep(&rt, Duration::from_millis(400));
+    pause(rt, 400);
     first.write_all(b"x")?;
     drop(second);
     Ok(())

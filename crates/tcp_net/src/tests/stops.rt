@@ -1,17 +1,18 @@
 // What a stop gives, and when it ends.
 use super::kit::{
-    BoundNet, Pair, bind, connect, connect_and_send, gives, is_refused, is_sent, settings,
-    stop_times,
+    BoundNet, Pair, bind, connect, connect_and_send, gives, is_refused, is_sent, millis_since,
+    pause, settings, sip, stop_times,
 };
 use crate::TcpNet;
 use crate::patience::Patience;
 use crate::port::BoundPorts;
+use crate::tcp_link::TcpLink;
 use outside_io::{Net, ReadEnd, Sink, Source, WriteEnd};
-use std::io::{Read, Write};
+use std::io::Write;
 use std::net::TcpStream;
 use std::test::Fail;
 use std::thread::Threads;
-use std::time::{Clock, Duration, Instant};
+use std::time::{Clock, Instant};
 use std::{io, thread};
 
 fn quick_net(rt: HostRuntime, links: u64) -> io::Result<BoundNet> {
@@ -97,15 +98,6 @@ fn links_that_wait_at_the_stop_are_given(rt: HostRuntime) -> Result<(), Fail> {
     Ok(())
 }
 
-// Takes up to 4,096 bytes each 50 milliseconds, for a second.
-fn sip(rt: HostRuntime, mut client: &TcpStream) {
-    let mut buf = [0u8; 4096];
-    for _ in 0..20 {
-        let _ = client.read(&mut buf);
-        thread::sleep(&rt, Duration::from_millis(50));
-    }
-}
-
 // Writes to the next link for HTTP until that fails, and drops it.
 fn write_out(net: &TcpNet<HostRuntime>) {
     let piece = [b'x'; 4096];
@@ -126,16 +118,17 @@ fn millis_of_reply(threads: &impl Threads, rt: HostRuntime, sips: bool) -> Resul
     let begun = Instant::now(&rt)?;
     let writing = || {
         write_out(&net);
-        begun.elapsed(&rt)
+        millis_since(rt, begun)
     };
     let stopping = || {
         closer.close(&rt);
         if sips {
-            sip(rt, &client);
+            // up to 4,096 bytes each 50 milliseconds, for a second
+            sip(rt, &client, &mut [0u8; 4096], 20, 50);
         }
     };
     let (elapsed, ()) = thread::join(threads, writing, stopping);
-    Ok(elapsed?.as_millis())
+    Ok(elapsed?)
 }
 
 #[test]
@@ -152,28 +145,30 @@ fn read_slowly<S: Source>(rt: HostRuntime, source: &mut S) -> ReadEnd {
     let mut buf = [0u8; 4096];
     for _ in 0..u64::MAX {
         match source.read(&mut buf) {
-            ReadEnd::Got(_) => thread::sleep(&rt, Duration::from_millis(1)),
+            ReadEnd::Got(_) => pause(rt, 1),
             end => return end,
         }
     }
     ReadEnd::Failed
 }
 
+fn send_piece(mut client: &TcpStream) -> io::Result<()> {
+    client.write_all(&[b'x'; 4096])
+}
+
 // Sends while the other end is there.
-fn send_on(mut client: &TcpStream) {
-    let piece = [b'x'; 4096];
+fn send_on(client: &TcpStream) {
     for _ in 0..u64::MAX {
-        if client.write_all(&piece).is_err() {
+        if send_piece(client).is_err() {
             break;
         }
     }
 }
 
 // Sends what bridges the time until the sender has its thread.
-fn send_ahead(mut client: &TcpStream) -> io::Result<()> {
-    let piece = [b'x'; 4096];
+fn send_ahead(client: &TcpStream) -> io::Result<()> {
     for _ in 0..25 {
-        client.write_all(&piece)?;
+        send_piece(client)?;
     }
     Ok(())
 }
@@ -190,10 +185,10 @@ fn end_of_sender(threads: &impl Threads, rt: HostRuntime) -> Result<(ReadEnd, u1
     shared.hang_up.give(rt.monotonic()?);
     let reading = move || {
         let end = read_slowly(rt, &mut link);
-        (end, begun.elapsed(&rt))
+        (end, millis_since(rt, begun))
     };
     let ((end, elapsed), ()) = thread::join(threads, reading, || send_on(&client));
-    Ok((end, elapsed?.as_millis()))
+    Ok((end, elapsed?))
 }
 
 #[test]
@@ -217,11 +212,15 @@ fn millis_of_drop(rt: HostRuntime, is_stopped: bool) -> Result<u128, Fail> {
         shared.hang_up.give(rt.monotonic()?);
     }
     let _ = link.write(b"404");
+    let millis = millis_of_end(rt, link);
+    drop(client);
+    Ok(millis?)
+}
+
+fn millis_of_end(rt: HostRuntime, link: TcpLink<HostRuntime>) -> io::Result<u128> {
     let begun = Instant::now(&rt)?;
     drop(link);
-    let millis = begun.elapsed(&rt)?.as_millis();
-    drop(client);
-    Ok(millis)
+    millis_since(rt, begun)
 }
 
 #[test]
