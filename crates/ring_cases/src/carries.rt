@@ -3,11 +3,12 @@ ghost use Rattle.std.specs.Prelude.{◌≡◌, ◌<◌, IfOk, length, true};
 ghost use Rattle.point_cache.specs.Points.{IsRising};
 
 use crate::fetches::are_legal;
-use crate::rings::{disk_of, file_of};
-use crate::told::{tell_blank, tell_cell, tell_value, tell_whether};
-use crate::words::{cells_in, layout_of, number_in, path_in, place_in, points_in};
+use crate::patches::tell_laid;
+use crate::rings::{bucket_value, case_fault_of, disk_of, file_of};
+use crate::told::{tell_blank, tell_value, tell_whether};
+use crate::words::{cells_in, layout_of, path_in, place_in, points_in};
 use archive_update::{carry, plan};
-use case_lines::{Case, CaseFault};
+use case_lines::{Case, CaseFault, small_in, text_in};
 use fixed_num::Milli;
 use outside_io::MemDisk;
 use ring_archive::{RingFault, RingView};
@@ -20,12 +21,7 @@ pub fn tell_carried(alloc: Global, told: &mut String, case: &Case) -> Result<(),
     let layout = layout_of(alloc, case)?;
     let file = old_file(alloc, &layout, case)?;
     let patch = carried(alloc, layout, &file)?;
-    write!(told, "{}", patch.cell_count())?;
-    for (place, held) in patch.cells() {
-        told.push(' ')?;
-        tell_cell(told, *place, *held)?;
-    }
-    Ok(())
+    Ok(tell_laid(told, &patch)?)
 }
 
 /// `carried-drain ARCHIVES METHOD FACTOR STORED POINTS@NOW ARCHIVE/BUCKET..`: the values of
@@ -38,7 +34,7 @@ pub fn tell_drained(alloc: Global, told: &mut String, case: &Case) -> Result<(),
         return Err(CaseFault::Malformed);
     };
     let points = points_in(alloc, points)?;
-    let patch = drained(alloc, layout, &file, points.list(), number_in(now)?)?;
+    let patch = drained(alloc, layout, &file, points.list(), small_in(now)?)?;
     for word in case.rest(5) {
         tell_blank(told)?;
         tell_bucket(alloc, told, layout, &patch, word)?;
@@ -53,7 +49,7 @@ pub fn tell_alike(alloc: Global, told: &mut String, case: &Case) -> Result<(), C
     let file = old_file(alloc, &layout, case)?;
     let patch = carried(alloc, layout, &file)?;
     for cell in &cells_in(alloc, &layout, case.text(3)?)? {
-        let before = value_in(alloc, layout, &file, cell.archive, cell.bucket)?;
+        let before = bucket_value(alloc, layout, OLD_VERSION, &file, cell.archive, cell.bucket)?;
         let after = value_under(alloc, layout, &patch, cell.archive, cell.bucket)?;
         if before != after {
             return Ok(tell_whether(told, false)?);
@@ -78,7 +74,7 @@ fn carried(alloc: Global, layout: Layout, file: &[u8]) -> Result<Patch, CaseFaul
     let view = RingView::new("a", layout, OLD_VERSION);
     match carry(alloc, &view, &mut disk, patch) {
         Ok(patch) => Ok(patch),
-        Err((_, fault)) => Err(fault_of(fault)),
+        Err((_, fault)) => Err(case_fault_of(fault)),
     }
 }
 
@@ -102,7 +98,7 @@ fn drained(
     let view = RingView::new("a", layout, OLD_VERSION);
     match plan(alloc, &view, &mut disk, patch, points, now) {
         Ok(patch) => Ok(patch),
-        Err((_, fault)) => Err(fault_of(fault)),
+        Err((_, fault)) => Err(case_fault_of(fault)),
     }
 }
 
@@ -116,32 +112,9 @@ fn tell_bucket(
     requires layout { patch.now.layout ≡ layout }
     requires fresh { patch.now.fresh ≡ true }
 {
-    let Ok(text) = str::from_utf8(word) else {
-        return Err(CaseFault::Malformed);
-    };
-    let place = place_in(text)?;
+    let place = place_in(text_in(word)?)?;
     let value = value_under(alloc, layout, patch, place.archive, place.at)?;
     Ok(tell_value(told, value)?)
-}
-
-// What a file of version 1 has in a bucket.
-fn value_in(
-    alloc: Global,
-    layout: Layout,
-    file: &[u8],
-    archive: u32,
-    bucket: u32,
-) -> Result<Option<Milli>, CaseFault> {
-    if archive >= layout.archive_count() {
-        return Err(CaseFault::Malformed);
-    }
-    let patch = Patch::new(alloc, path_in(alloc, b"a")?, layout, false);
-    let mut disk = disk_of(alloc, "a", &layout, OLD_VERSION, file)?;
-    let view = RingView::new("a", layout, OLD_VERSION);
-    match view.cell_at(&mut disk, &patch, archive, bucket) {
-        Ok(value) => Ok(value),
-        Err(fault) => Err(fault_of(RingFault::from(fault))),
-    }
 }
 
 // What a patch has there that makes its file anew, which is not there yet.
@@ -162,14 +135,6 @@ fn value_under(
     let view = RingView::new("a", layout, VERSION);
     match view.cell_at(&mut disk, patch, archive, bucket) {
         Ok(value) => Ok(value),
-        Err(fault) => Err(fault_of(RingFault::from(fault))),
-    }
-}
-
-// The disk has no call that fails.
-fn fault_of(fault: RingFault) -> CaseFault {
-    match fault {
-        RingFault::NoMemory => CaseFault::NoMemory,
-        RingFault::DiskFault => CaseFault::Malformed,
+        Err(fault) => Err(case_fault_of(RingFault::from(fault))),
     }
 }

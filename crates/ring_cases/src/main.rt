@@ -13,8 +13,6 @@
 //! Values are in thousandths, and `-` is a value that is missing. Bytes are told as hexadecimal digits, four bytes a word.
 #![tactic(auto)]
 
-mod batch_model;
-mod batch_sweep;
 mod batches;
 mod caches;
 mod calls;
@@ -22,8 +20,7 @@ mod carries;
 mod fetches;
 mod layouts;
 mod lookups;
-mod order_model;
-mod order_sweep;
+mod order_many;
 mod orders;
 mod patches;
 mod rings;

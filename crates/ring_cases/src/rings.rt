@@ -4,11 +4,11 @@ ghost use Rattle.ring_format.specs.Cell.{IsVersion};
 ghost use Rattle.ring_archive.specs.Ring.{HoldsRing};
 
 use crate::patches::patch_with;
-use crate::words::{cells_in, layout_of};
+use crate::words::{cells_in, layout_of, path_in};
 use case_lines::{Case, CaseFault};
-use fixed_num::wide;
+use fixed_num::{Milli, wide};
 use outside_io::{Disk, MemDisk};
-use ring_archive::RingFault;
+use ring_archive::{RingFault, RingView};
 use ring_format::{
     CELL_BYTES, CellWrite, Layout, Method, OLD_VERSION, Patch, VERSION, version_of, write_cell,
 };
@@ -203,6 +203,29 @@ pub fn disk_of(
     Ok(disk)
 }
 
+/// The value of a bucket in a file of a version, which has these bytes.
+pub fn bucket_value(
+    alloc: Global,
+    layout: Layout,
+    version: u32,
+    file: &[u8],
+    archive: u32,
+    bucket: u32,
+) -> Result<Option<Milli>, CaseFault>
+    requires { IsVersion version }
+{
+    if archive >= layout.archive_count() {
+        return Err(CaseFault::Malformed);
+    }
+    let patch = Patch::new(alloc, path_in(alloc, b"a")?, layout, false);
+    let mut disk = disk_of(alloc, "a", &layout, version, file)?;
+    let view = RingView::new("a", layout, version);
+    match view.cell_at(&mut disk, &patch, archive, bucket) {
+        Ok(value) => Ok(value),
+        Err(fault) => Err(case_fault_of(RingFault::from(fault))),
+    }
+}
+
 // The version of a file, and its cells: `1!` stands before those of one of version 1.
 fn version_of_text(text: &str) -> (u32, &str)
     ensures { IsVersion result.0 }
@@ -210,6 +233,14 @@ fn version_of_text(text: &str) -> (u32, &str)
     match text.split_once('!') {
         Some((_, cells)) => (OLD_VERSION, cells),
         None => (VERSION, text),
+    }
+}
+
+/// What a fault is where the disk has no call that fails.
+pub fn case_fault_of(fault: RingFault) -> CaseFault {
+    match fault {
+        RingFault::NoMemory => CaseFault::NoMemory,
+        RingFault::DiskFault => CaseFault::Malformed,
     }
 }
 
