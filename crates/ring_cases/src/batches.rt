@@ -2,7 +2,7 @@
 ghost use Rattle.point_cache.specs.Points.{IsRising};
 
 use crate::fetches::are_legal;
-use crate::rings::{bucket_value, case_fault_of, disk_of, put_cell, put_piece};
+use crate::rings::{case_fault_of, disk_of, put_cell, put_piece, read_of};
 use crate::told::{tell_blank, tell_value, tell_whether};
 use crate::words::{Place, layout_of, path_in, place_in, points_in};
 use archive_update::plan;
@@ -73,7 +73,7 @@ impl Kept {
         archive: u32,
         bucket: u32,
     ) -> Result<Option<Milli>, CaseFault> {
-        bucket_value(alloc, self.layout, VERSION, &self.file, archive, bucket)
+        value_in(alloc, self.layout, &self.file, archive, bucket)
     }
 }
 
@@ -105,8 +105,26 @@ fn plan_points(
             patch,
             calls: disk.calls(),
         }),
-        Err((_, fault)) => Err(case_fault_of(fault)),
+        Err(left) => Err(case_fault_of(left.1)),
     }
+}
+
+// The value of a bucket in a file with these bytes.
+fn value_in(
+    alloc: Global,
+    layout: Layout,
+    file: &[u8],
+    archive: u32,
+    bucket: u32,
+) -> Result<Option<Milli>, CaseFault> {
+    if archive >= layout.archive_count() {
+        return Err(CaseFault::Malformed);
+    }
+    let patch = Patch::new(alloc, path_in(alloc, b"a")?, layout, false);
+    let mut disk = disk_of(alloc, "a", &layout, VERSION, file)?;
+    let view = RingView::new("a", layout, VERSION);
+    let found = view.cell_at(&mut disk, &patch, archive, bucket);
+    read_of(found)
 }
 
 /// `batch ARCHIVES METHOD FACTOR WORD..`: `POINTS@NOW` drains points into a file, and `ARCHIVE/BUCKET` tells the value of a bucket.

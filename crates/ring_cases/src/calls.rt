@@ -55,7 +55,6 @@ fn tell_run(alloc: Global, told: &mut String, case: &Case) -> Result<(), CaseFau
         "fetch" => fetches::tell_fetch(alloc, told, case),
         "carry" => carries::tell_carried(alloc, told, case),
         "carried-drain" => carries::tell_drained(alloc, told, case),
-        "carried-alike" => carries::tell_alike(alloc, told, case),
         "batch" => batches::tell_batch(alloc, told, case),
         "runs" => shelves::tell_runs(alloc, told, case),
         "run-bytes" => shelves::tell_run_bytes(alloc, told, case),

@@ -4,7 +4,7 @@ ghost use Rattle.std.specs.Prelude.{◌≡◌, IfOk};
 use crate::told::{tell_cell, tell_layout};
 use crate::words::{cells_in, is_new, layout_of, path_in, place_in};
 use case_lines::{Case, CaseFault};
-use fixed_num::wide;
+use fixed_num::{Milli, wide};
 use ring_format::{CellWrite, Layout, Patch};
 use std::alloc::{AllocError, Global};
 
@@ -81,9 +81,13 @@ pub fn tell_laid(told: &mut String, patch: &Patch) -> Result<(), AllocError> {
 pub fn tell_cell_at(alloc: Global, told: &mut String, case: &Case) -> Result<(), CaseFault> {
     let place = place_in(case.text(4)?)?;
     let patch = patch_of(alloc, case)?;
-    match patch.cell(place.archive, place.at) {
-        Some((bucket, value)) => Ok(write!(told, "{bucket}:{}", wide(value))?),
-        None => Ok(told.push('-')?),
+    Ok(tell_held(told, patch.cell(place.archive, place.at))?)
+}
+
+fn tell_held(told: &mut String, held: Option<(u32, Milli)>) -> Result<(), AllocError> {
+    match held {
+        Some(held) => write!(told, "{}:{}", held.0, wide(held.1)),
+        None => told.push('-'),
     }
 }
 
@@ -91,8 +95,15 @@ pub fn tell_cell_at(alloc: Global, told: &mut String, case: &Case) -> Result<(),
 pub fn tell_cell_from(alloc: Global, told: &mut String, case: &Case) -> Result<(), CaseFault> {
     let place = place_in(case.text(4)?)?;
     let patch = patch_of(alloc, case)?;
-    match patch.first_cell_from(place.archive, place.at) {
-        Some((place, held)) => Ok(tell_cell(told, place, held)?),
-        None => Ok(told.push('-')?),
+    Ok(tell_first(told, patch.first_cell_from(place.archive, place.at))?)
+}
+
+fn tell_first(
+    told: &mut String,
+    found: Option<((u32, u32), (u32, Milli))>,
+) -> Result<(), AllocError> {
+    match found {
+        Some(cell) => tell_cell(told, cell.0, cell.1),
+        None => told.push('-'),
     }
 }

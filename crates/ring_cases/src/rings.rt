@@ -4,11 +4,11 @@ ghost use Rattle.ring_format.specs.Cell.{IsVersion};
 ghost use Rattle.ring_archive.specs.Ring.{HoldsRing};
 
 use crate::patches::patch_with;
-use crate::words::{cells_in, layout_of, path_in};
+use crate::words::{cells_in, layout_of};
 use case_lines::{Case, CaseFault};
 use fixed_num::{Milli, wide};
-use outside_io::{Disk, MemDisk};
-use ring_archive::{RingFault, RingView};
+use outside_io::{Disk, DiskFailed, MemDisk};
+use ring_archive::RingFault;
 use ring_format::{
     CELL_BYTES, CellWrite, Layout, Method, OLD_VERSION, Patch, VERSION, version_of, write_cell,
 };
@@ -203,24 +203,9 @@ pub fn disk_of(
     Ok(disk)
 }
 
-/// The value of a bucket in a file of a version, which has these bytes.
-pub fn bucket_value(
-    alloc: Global,
-    layout: Layout,
-    version: u32,
-    file: &[u8],
-    archive: u32,
-    bucket: u32,
-) -> Result<Option<Milli>, CaseFault>
-    requires { IsVersion version }
-{
-    if archive >= layout.archive_count() {
-        return Err(CaseFault::Malformed);
-    }
-    let patch = Patch::new(alloc, path_in(alloc, b"a")?, layout, false);
-    let mut disk = disk_of(alloc, "a", &layout, version, file)?;
-    let view = RingView::new("a", layout, version);
-    match view.cell_at(&mut disk, &patch, archive, bucket) {
+/// What was read on a disk that has no call that fails.
+pub fn read_of(found: Result<Option<Milli>, DiskFailed>) -> Result<Option<Milli>, CaseFault> {
+    match found {
         Ok(value) => Ok(value),
         Err(fault) => Err(case_fault_of(RingFault::from(fault))),
     }
