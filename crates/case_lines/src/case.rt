@@ -2,6 +2,7 @@
 
 use crate::escapes::unescaped;
 use crate::fault::CaseFault;
+use crate::readings::{number_in, signed_in, small_in, text_in};
 use std::alloc::Global;
 
 /// One case.
@@ -72,33 +73,21 @@ impl Case {
 
     /// That word as UTF-8.
     pub fn text(&self, at: usize) -> Result<&str, CaseFault> {
-        match str::from_utf8(self.bytes(at)?) {
-            Ok(text) => Ok(text),
-            Err(_) => Err(CaseFault::Malformed),
-        }
+        text_in(self.bytes(at)?)
     }
 
     /// That word as a number.
     pub fn number(&self, at: usize) -> Result<u64, CaseFault> {
-        match self.text(at)?.parse::<u64>() {
-            Ok(number) => Ok(number),
-            Err(_) => Err(CaseFault::Malformed),
-        }
+        number_in(self.text(at)?)
     }
 
     /// That word as a number of 32 bits.
     pub fn small(&self, at: usize) -> Result<u32, CaseFault> {
-        match self.text(at)?.parse::<u32>() {
-            Ok(number) => Ok(number),
-            Err(_) => Err(CaseFault::Malformed),
-        }
+        small_in(self.text(at)?)
     }
 
     /// That word as a number with a sign or none.
     pub fn signed(&self, at: usize) -> Result<i64, CaseFault> {
-        match self.text(at)?.parse::<i64>() {
-            Ok(number) => Ok(number),
-            Err(_) => Err(CaseFault::Malformed),
-        }
+        signed_in(self.text(at)?)
     }
 }

@@ -53,10 +53,19 @@ fn take_row<'a>(alloc: Global, bytes: &mut Vec<u8>, text: &'a [u8]) -> Result<&'
     let (count, rest) = take_count(text);
     let mut piece = Vec::new(alloc);
     let rest = take_piece(&mut piece, rest)?;
-    for _ in 0..count {
-        bytes.extend_from_slice(&piece)?;
-    }
+    push_row(bytes, count, &piece)?;
     Ok(rest)
+}
+
+// So many times a piece. Rows of millions are of one byte.
+fn push_row(bytes: &mut Vec<u8>, count: usize, piece: &[u8]) -> Result<(), AllocError> {
+    if let [byte] = piece {
+        return bytes.resize(bytes.len().saturating_add(count), *byte);
+    }
+    for _ in 0..count {
+        bytes.extend_from_slice(piece)?;
+    }
+    Ok(())
 }
 
 // The number at the front of a text, and what stands behind it.

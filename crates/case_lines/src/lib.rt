@@ -17,10 +17,12 @@ mod case;
 mod cases;
 mod escapes;
 mod fault;
+mod readings;
 mod session;
 
 pub use case::{Case, read_case};
 pub use cases::Cases;
 pub use escapes::{escaped, unescaped};
 pub use fault::CaseFault;
+pub use readings::{number_in, signed_in, small_in, text_in};
 pub use session::{Calls, run_cases};

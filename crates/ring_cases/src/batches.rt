@@ -1,17 +1,15 @@
 //! Drains into a file, and what its archives hold then.
-ghost use Rattle.std.specs.Prelude.{◌<◌, ◌≤◌, length};
-ghost use Rattle.ring_format.specs.LayoutFile.{file_size_of};
 ghost use Rattle.point_cache.specs.Points.{IsRising};
 
 use crate::fetches::are_legal;
-use crate::rings::{disk_of, put_cell, put_piece};
+use crate::rings::{case_fault_of, disk_of, put_cell, put_piece, read_of};
 use crate::told::{tell_blank, tell_value, tell_whether};
-use crate::words::{layout_of, number_in, path_in, place_in, points_in};
+use crate::words::{Place, layout_of, path_in, place_in, points_in};
 use archive_update::plan;
-use case_lines::{Case, CaseFault};
-use fixed_num::Milli;
+use case_lines::{Case, CaseFault, small_in, text_in};
+use fixed_num::{Milli, wide};
 use outside_io::DiskCalls;
-use ring_archive::{RingFault, RingView};
+use ring_archive::RingView;
 use ring_format::{CellWrite, HEAD_BYTES, Layout, Patch, VERSION, write_head};
 use std::alloc::{AllocError, Global};
 
@@ -60,6 +58,14 @@ impl Kept {
         Ok(())
     }
 
+    // The step of an archive.
+    fn step(&self, archive: u32) -> Result<u32, CaseFault> {
+        if archive >= self.layout.archive_count() {
+            return Err(CaseFault::Malformed);
+        }
+        Ok(self.layout.archive(archive).step)
+    }
+
     /// The value of a bucket of an archive.
     pub fn value(
         &self,
@@ -67,11 +73,6 @@ impl Kept {
         archive: u32,
         bucket: u32,
     ) -> Result<Option<Milli>, CaseFault> {
-        if archive >= self.layout.archive_count()
-            || (self.file.len() as u64) < self.layout.file_size()
-        {
-            return Err(CaseFault::Malformed);
-        }
         value_in(alloc, self.layout, &self.file, archive, bucket)
     }
 }
@@ -104,38 +105,31 @@ fn plan_points(
             patch,
             calls: disk.calls(),
         }),
-        Err((_, fault)) => Err(fault_of(fault)),
+        Err(left) => Err(case_fault_of(left.1)),
     }
 }
 
-// The disk has no call that fails.
-fn fault_of(fault: RingFault) -> CaseFault {
-    match fault {
-        RingFault::NoMemory => CaseFault::NoMemory,
-        RingFault::DiskFault => CaseFault::Malformed,
-    }
-}
-
+// The value of a bucket in a file with these bytes.
 fn value_in(
     alloc: Global,
     layout: Layout,
     file: &[u8],
     archive: u32,
     bucket: u32,
-) -> Result<Option<Milli>, CaseFault>
-    requires archive { archive < length layout.archives }
-    requires room { file_size_of layout.archives ≤ length file.now }
-{
+) -> Result<Option<Milli>, CaseFault> {
+    if archive >= layout.archive_count() {
+        return Err(CaseFault::Malformed);
+    }
     let patch = Patch::new(alloc, path_in(alloc, b"a")?, layout, false);
     let mut disk = disk_of(alloc, "a", &layout, VERSION, file)?;
     let view = RingView::new("a", layout, VERSION);
-    match view.cell_at(&mut disk, &patch, archive, bucket) {
-        Ok(value) => Ok(value),
-        Err(fault) => Err(fault_of(RingFault::from(fault))),
-    }
+    let found = view.cell_at(&mut disk, &patch, archive, bucket);
+    read_of(found)
 }
 
 /// `batch ARCHIVES METHOD FACTOR WORD..`: `POINTS@NOW` drains points into a file, and `ARCHIVE/BUCKET` tells the value of a bucket.
+/// `ARCHIVE/LAST-COUNT` tells those values that are known of so many buckets up to a last one, each as `PLACE:VALUE,`, counted back from it,
+/// and a stop.
 /// Of the last drain `reads` tells how often the disk was read, `longest` the most bytes of a read, and `reads<=N` whether it is at most N.
 pub fn tell_batch(alloc: Global, told: &mut String, case: &Case) -> Result<(), CaseFault> {
     let layout = layout_of(alloc, case)?;
@@ -150,10 +144,7 @@ fn take_words(
     words: &[Vec<u8>],
 ) -> Result<(), CaseFault> {
     for word in words {
-        let Ok(text) = str::from_utf8(word) else {
-            return Err(CaseFault::Malformed);
-        };
-        take_word(alloc, told, kept, text)?;
+        take_word(alloc, told, kept, text_in(word)?)?;
     }
     Ok(())
 }
@@ -165,15 +156,40 @@ fn take_word(
     word: &str,
 ) -> Result<(), CaseFault> {
     if let Some((points, now)) = word.split_once('@') {
-        return drain_word(alloc, kept, points, number_in(now)?);
+        return drain_word(alloc, kept, points, small_in(now)?);
     }
     tell_blank(told)?;
+    if let Some((last, count)) = word.split_once('-') {
+        return tell_row(alloc, told, kept, place_in(last)?, small_in(count)?);
+    }
     if word.contains('/') {
         let place = place_in(word)?;
         let value = kept.value(alloc, place.archive, place.at)?;
         return Ok(tell_value(told, value)?);
     }
     tell_calls(told, kept.calls, word)
+}
+
+fn tell_row(
+    alloc: Global,
+    told: &mut String,
+    kept: &Kept,
+    last: Place,
+    count: u32,
+) -> Result<(), CaseFault> {
+    let step = kept.step(last.archive)?;
+    for place in 0..count {
+        let bucket = last.at.saturating_sub(step.saturating_mul(place));
+        tell_known(told, place, kept.value(alloc, last.archive, bucket)?)?;
+    }
+    Ok(told.push('.')?)
+}
+
+fn tell_known(told: &mut String, place: u32, value: Option<Milli>) -> Result<(), AllocError> {
+    match value {
+        Some(value) => write!(told, "{place}:{},", wide(value)),
+        None => Ok(()),
+    }
 }
 
 fn drain_word(alloc: Global, kept: &mut Kept, points: &str, now: u32) -> Result<(), CaseFault> {
@@ -187,7 +203,7 @@ fn tell_calls(told: &mut String, calls: Option<DiskCalls>, word: &str) -> Result
     };
     match word.split_once("<=") {
         Some((count, most)) => {
-            let holds = count_of(calls, count)? <= u64::from(number_in(most)?);
+            let holds = count_of(calls, count)? <= u64::from(small_in(most)?);
             Ok(tell_whether(told, holds)?)
         }
         None => Ok(write!(told, "{}", count_of(calls, word)?)?),

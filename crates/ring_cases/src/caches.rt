@@ -2,7 +2,7 @@
 
 use crate::told::tell_blank;
 use crate::words::{path_in, point_in};
-use case_lines::{Case, CaseFault};
+use case_lines::{Case, CaseFault, text_in};
 use fixed_num::{Milli, wide};
 use point_cache::{PointCache, Put};
 use std::alloc::{AllocError, Global};
@@ -38,9 +38,7 @@ fn take_word(
     cache: &mut PointCache,
     word: &[u8],
 ) -> Result<(), CaseFault> {
-    let Ok(text) = str::from_utf8(word) else {
-        return Err(CaseFault::Malformed);
-    };
+    let text = text_in(word)?;
     if let Some((path, point)) = text.split_once('@') {
         return put(alloc, told, cache, path, point);
     }

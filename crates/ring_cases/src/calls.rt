@@ -1,8 +1,8 @@
 //! The verbs of the cases.
 
 use crate::{
-    aggregates, batch_sweep, batches, caches, carries, fetches, layouts, lookups, order_sweep,
-    orders, patches, rollups, rules, shelves, writes,
+    aggregates, batches, caches, carries, fetches, layouts, lookups, order_many, orders, patches,
+    rollups, rules, shelves, writes,
 };
 use case_lines::{Calls, Case, CaseFault};
 use std::alloc::Global;
@@ -32,7 +32,6 @@ fn tell_case(alloc: Global, told: &mut String, case: &Case) -> Result<(), CaseFa
         "patch-of" => patches::tell_patch(alloc, told, case),
         "patch-cells" => patches::tell_cells(alloc, told, case),
         "patch-cell" => patches::tell_cell_at(alloc, told, case),
-        "patch-found" => patches::tell_found(alloc, told, case),
         "patch-from" => patches::tell_cell_from(alloc, told, case),
         "roll" => rollups::tell_roll(alloc, told, case),
         "enough" => rollups::tell_enough(told, case),
@@ -52,8 +51,7 @@ fn tell_run(alloc: Global, told: &mut String, case: &Case) -> Result<(), CaseFau
     match case.verb() {
         "cache" => caches::tell_cache(alloc, told, case),
         "order" => orders::tell_order(alloc, told, case),
-        "order-sweep" => order_sweep::tell_sweep(alloc, told, case),
-        "order-many" => order_sweep::tell_many(alloc, told, case),
+        "order-many" => order_many::tell_many(alloc, told, case),
         "bucket" => lookups::tell_bucket(alloc, told, case),
         "buckets" => lookups::tell_buckets(alloc, told, case),
         "based-buckets" => lookups::tell_based_buckets(alloc, told, case),
@@ -62,9 +60,7 @@ fn tell_run(alloc: Global, told: &mut String, case: &Case) -> Result<(), CaseFau
         "fetch" => fetches::tell_fetch(alloc, told, case),
         "carry" => carries::tell_carried(alloc, told, case),
         "carried-drain" => carries::tell_drained(alloc, told, case),
-        "carried-alike" => carries::tell_alike(alloc, told, case),
         "batch" => batches::tell_batch(alloc, told, case),
-        "batch-sweep" => batch_sweep::tell_sweep(alloc, told, case),
         "runs" => shelves::tell_runs(alloc, told, case),
         "run-bytes" => shelves::tell_run_bytes(alloc, told, case),
         "file" => writes::tell_file(alloc, told, case),

@@ -3,14 +3,15 @@ ghost use Rattle.std.specs.Prelude.{◌≡◌, ◌<◌, IfOk, length, true};
 ghost use Rattle.point_cache.specs.Points.{IsRising};
 
 use crate::fetches::are_legal;
-use crate::rings::{disk_of, file_of};
-use crate::told::{tell_blank, tell_cell, tell_value, tell_whether};
-use crate::words::{cells_in, layout_of, number_in, path_in, place_in, points_in};
+use crate::patches::tell_laid;
+use crate::rings::{case_fault_of, disk_of, file_of, read_of};
+use crate::told::{tell_blank, tell_value};
+use crate::words::{cells_in, layout_of, path_in, place_in, points_in};
 use archive_update::{carry, plan};
-use case_lines::{Case, CaseFault};
+use case_lines::{Case, CaseFault, small_in, text_in};
 use fixed_num::Milli;
 use outside_io::MemDisk;
-use ring_archive::{RingFault, RingView};
+use ring_archive::RingView;
 use ring_format::{Layout, OLD_VERSION, Patch, VERSION};
 use std::alloc::Global;
 
@@ -20,12 +21,7 @@ pub fn tell_carried(alloc: Global, told: &mut String, case: &Case) -> Result<(),
     let layout = layout_of(alloc, case)?;
     let file = old_file(alloc, &layout, case)?;
     let patch = carried(alloc, layout, &file)?;
-    write!(told, "{}", patch.cell_count())?;
-    for (place, held) in patch.cells() {
-        told.push(' ')?;
-        tell_cell(told, *place, *held)?;
-    }
-    Ok(())
+    Ok(tell_laid(told, &patch)?)
 }
 
 /// `carried-drain ARCHIVES METHOD FACTOR STORED POINTS@NOW ARCHIVE/BUCKET..`: the values of
@@ -34,32 +30,37 @@ pub fn tell_carried(alloc: Global, told: &mut String, case: &Case) -> Result<(),
 pub fn tell_drained(alloc: Global, told: &mut String, case: &Case) -> Result<(), CaseFault> {
     let layout = layout_of(alloc, case)?;
     let file = old_file(alloc, &layout, case)?;
-    let Some((points, now)) = case.text(4)?.split_once('@') else {
+    let patch = drained_by(alloc, layout, &file, case.text(4)?)?;
+    tell_buckets(alloc, told, layout, &patch, case.rest(5))
+}
+
+// What a file of version 1 is carried into, with the points of `POINTS@NOW` drained into it.
+fn drained_by(alloc: Global, layout: Layout, file: &[u8], text: &str) -> Result<Patch, CaseFault>
+    ensures layout { IfOk result (λ patch. patch.layout ≡ layout) }
+    ensures fresh { IfOk result (λ patch. patch.fresh ≡ true) }
+{
+    let Some((points, now)) = text.split_once('@') else {
         return Err(CaseFault::Malformed);
     };
     let points = points_in(alloc, points)?;
-    let patch = drained(alloc, layout, &file, points.list(), number_in(now)?)?;
-    for word in case.rest(5) {
-        tell_blank(told)?;
-        tell_bucket(alloc, told, layout, &patch, word)?;
-    }
-    Ok(())
+    drained(alloc, layout, file, points.list(), small_in(now)?)
 }
 
-/// `carried-alike ARCHIVES METHOD FACTOR STORED`: whether each bucket of the cells that a file
-/// of version 1 holds has the value in it that it has in what the file was carried into.
-pub fn tell_alike(alloc: Global, told: &mut String, case: &Case) -> Result<(), CaseFault> {
-    let layout = layout_of(alloc, case)?;
-    let file = old_file(alloc, &layout, case)?;
-    let patch = carried(alloc, layout, &file)?;
-    for cell in &cells_in(alloc, &layout, case.text(3)?)? {
-        let before = value_in(alloc, layout, &file, cell.archive, cell.bucket)?;
-        let after = value_under(alloc, layout, &patch, cell.archive, cell.bucket)?;
-        if before != after {
-            return Ok(tell_whether(told, false)?);
-        }
+fn tell_buckets(
+    alloc: Global,
+    told: &mut String,
+    layout: Layout,
+    patch: &Patch,
+    words: &[Vec<u8>],
+) -> Result<(), CaseFault>
+    requires layout { patch.now.layout ≡ layout }
+    requires fresh { patch.now.fresh ≡ true }
+{
+    for word in words {
+        tell_blank(told)?;
+        tell_bucket(alloc, told, layout, patch, word)?;
     }
-    Ok(tell_whether(told, true)?)
+    Ok(())
 }
 
 // The bytes of a file of version 1.
@@ -78,7 +79,7 @@ fn carried(alloc: Global, layout: Layout, file: &[u8]) -> Result<Patch, CaseFaul
     let view = RingView::new("a", layout, OLD_VERSION);
     match carry(alloc, &view, &mut disk, patch) {
         Ok(patch) => Ok(patch),
-        Err((_, fault)) => Err(fault_of(fault)),
+        Err(left) => Err(case_fault_of(left.1)),
     }
 }
 
@@ -102,7 +103,7 @@ fn drained(
     let view = RingView::new("a", layout, OLD_VERSION);
     match plan(alloc, &view, &mut disk, patch, points, now) {
         Ok(patch) => Ok(patch),
-        Err((_, fault)) => Err(fault_of(fault)),
+        Err(left) => Err(case_fault_of(left.1)),
     }
 }
 
@@ -116,32 +117,9 @@ fn tell_bucket(
     requires layout { patch.now.layout ≡ layout }
     requires fresh { patch.now.fresh ≡ true }
 {
-    let Ok(text) = str::from_utf8(word) else {
-        return Err(CaseFault::Malformed);
-    };
-    let place = place_in(text)?;
+    let place = place_in(text_in(word)?)?;
     let value = value_under(alloc, layout, patch, place.archive, place.at)?;
     Ok(tell_value(told, value)?)
-}
-
-// What a file of version 1 has in a bucket.
-fn value_in(
-    alloc: Global,
-    layout: Layout,
-    file: &[u8],
-    archive: u32,
-    bucket: u32,
-) -> Result<Option<Milli>, CaseFault> {
-    if archive >= layout.archive_count() {
-        return Err(CaseFault::Malformed);
-    }
-    let patch = Patch::new(alloc, path_in(alloc, b"a")?, layout, false);
-    let mut disk = disk_of(alloc, "a", &layout, OLD_VERSION, file)?;
-    let view = RingView::new("a", layout, OLD_VERSION);
-    match view.cell_at(&mut disk, &patch, archive, bucket) {
-        Ok(value) => Ok(value),
-        Err(fault) => Err(fault_of(RingFault::from(fault))),
-    }
 }
 
 // What a patch has there that makes its file anew, which is not there yet.
@@ -160,16 +138,6 @@ fn value_under(
     }
     let mut disk = MemDisk::new(alloc, 0);
     let view = RingView::new("a", layout, VERSION);
-    match view.cell_at(&mut disk, patch, archive, bucket) {
-        Ok(value) => Ok(value),
-        Err(fault) => Err(fault_of(RingFault::from(fault))),
-    }
-}
-
-// The disk has no call that fails.
-fn fault_of(fault: RingFault) -> CaseFault {
-    match fault {
-        RingFault::NoMemory => CaseFault::NoMemory,
-        RingFault::DiskFault => CaseFault::Malformed,
-    }
+    let found = view.cell_at(&mut disk, patch, archive, bucket);
+    read_of(found)
 }

@@ -2,7 +2,7 @@
 
 use crate::told::{name_of, tell_bytes, tell_layout as tell_lawful, tell_value};
 use crate::words::{archive_in, layout_of, layout_or_fault, value_in, version_in};
-use case_lines::{Case, CaseFault};
+use case_lines::{Case, CaseFault, text_in};
 use ring_format::{
     CELL_BYTES, HEAD_BYTES, HeadFault, LayoutFault, OLD_VERSION, cell_bytes_in, read_cell,
     read_head, slot_of, write_cell, write_head,
@@ -89,10 +89,7 @@ fn bytes_from(alloc: Global, case: &Case, at: usize) -> Result<Vec<u8>, CaseFaul
 }
 
 fn four_bytes(word: &[u8]) -> Result<[u8; 4], CaseFault> {
-    let Ok(text) = str::from_utf8(word) else {
-        return Err(CaseFault::Malformed);
-    };
-    match u32::from_str_radix(text, 16) {
+    match u32::from_str_radix(text_in(word)?, 16) {
         Ok(number) => Ok(number.to_be_bytes()),
         Err(_) => Err(CaseFault::Malformed),
     }

@@ -14,8 +14,6 @@
 #![tactic(auto)]
 
 mod aggregates;
-mod batch_model;
-mod batch_sweep;
 mod batches;
 mod caches;
 mod calls;
@@ -23,8 +21,7 @@ mod carries;
 mod fetches;
 mod layouts;
 mod lookups;
-mod order_model;
-mod order_sweep;
+mod order_many;
 mod orders;
 mod patches;
 mod rings;

@@ -3,8 +3,8 @@ ghost use Rattle.std.proofs.Props.{props};
 ghost use Rattle.drain_order.specs.Picking.{Follows};
 
 use crate::told::tell_blank;
-use crate::words::{halves, number_in, path_in};
-use case_lines::{Case, CaseFault};
+use crate::words::{halves, path_in};
+use case_lines::{Case, CaseFault, small_in, text_in};
 use drain_order::{Picker, Strategy};
 use fixed_num::milli_of;
 use metric_path::MetricPath;
@@ -80,10 +80,7 @@ fn take_words(
     words: &[Vec<u8>],
 ) -> Result<(), CaseFault> {
     for word in words {
-        let Ok(text) = str::from_utf8(word) else {
-            return Err(CaseFault::Malformed);
-        };
-        take_word(alloc, told, drains, text)?;
+        take_word(alloc, told, drains, text_in(word)?)?;
     }
     Ok(())
 }
@@ -113,8 +110,8 @@ fn put_points(alloc: Global, drains: &mut Drains, word: &str) -> Result<(), Case
     let (path, points) = halves(word, '@')?;
     let (time, count) = halves(points, 'x')?;
     let path = path_in(alloc, path.as_bytes())?;
-    let first = number_in(time)?;
-    for minute in 0..number_in(count)? {
+    let first = small_in(time)?;
+    for minute in 0..small_in(count)? {
         let time = minute.saturating_mul(60).saturating_add(first);
         if drains.put(&path, time) == Put::NoMemory {
             return Err(CaseFault::NoMemory);

@@ -1,11 +1,11 @@
 //! The cells that are to be laid over a file.
 ghost use Rattle.std.specs.Prelude.{◌≡◌, IfOk};
 
-use crate::told::{tell_blank, tell_cell, tell_layout};
-use crate::words::{archive_in, cells_in, is_new, layout_of, path_in, place_in};
+use crate::told::{tell_cell, tell_layout};
+use crate::words::{cells_in, is_new, layout_of, path_in, place_in};
 use case_lines::{Case, CaseFault};
-use fixed_num::wide;
-use ring_format::{Archive, CellWrite, Layout, Patch};
+use fixed_num::{Milli, wide};
+use ring_format::{CellWrite, Layout, Patch};
 use std::alloc::{AllocError, Global};
 
 /// A patch of the metric of a path that lays these cells, in this order.
@@ -67,7 +67,8 @@ pub fn tell_cells(alloc: Global, told: &mut String, case: &Case) -> Result<(), C
     Ok(tell_laid(told, &patch)?)
 }
 
-fn tell_laid(told: &mut String, patch: &Patch) -> Result<(), AllocError> {
+/// Tells how many cells a patch has, and all of them.
+pub fn tell_laid(told: &mut String, patch: &Patch) -> Result<(), AllocError> {
     write!(told, "{}", patch.cell_count())?;
     for (place, held) in patch.cells() {
         told.push(' ')?;
@@ -80,39 +81,29 @@ fn tell_laid(told: &mut String, patch: &Patch) -> Result<(), AllocError> {
 pub fn tell_cell_at(alloc: Global, told: &mut String, case: &Case) -> Result<(), CaseFault> {
     let place = place_in(case.text(4)?)?;
     let patch = patch_of(alloc, case)?;
-    match patch.cell(place.archive, place.at) {
-        Some((bucket, value)) => Ok(write!(told, "{bucket}:{}", wide(value))?),
-        None => Ok(told.push('-')?),
-    }
+    Ok(tell_held(told, patch.cell(place.archive, place.at))?)
 }
 
-/// `patch-found ARCHIVES METHOD FACTOR LAID NxM`: the cells that are found, where each of the first M slots of the first N archives is
-/// looked up.
-pub fn tell_found(alloc: Global, told: &mut String, case: &Case) -> Result<(), CaseFault> {
-    let grid = archive_in(case.text(4)?)?;
-    let patch = patch_of(alloc, case)?;
-    Ok(tell_grid(told, &patch, grid)?)
-}
-
-// Tells the cells that are found in the first slots of the first archives, whose counts stand as an archive's.
-fn tell_grid(told: &mut String, patch: &Patch, grid: Archive) -> Result<(), AllocError> {
-    for archive in 0..grid.step {
-        for slot in 0..grid.points {
-            if let Some(held) = patch.cell(archive, slot) {
-                tell_blank(told)?;
-                tell_cell(told, (archive, slot), held)?;
-            }
-        }
+fn tell_held(told: &mut String, held: Option<(u32, Milli)>) -> Result<(), AllocError> {
+    match held {
+        Some(held) => write!(told, "{}:{}", held.0, wide(held.1)),
+        None => told.push('-'),
     }
-    Ok(())
 }
 
 /// `patch-from ARCHIVES METHOD FACTOR LAID ARCHIVE/SLOT`: the first cell from there on, or `-`.
 pub fn tell_cell_from(alloc: Global, told: &mut String, case: &Case) -> Result<(), CaseFault> {
     let place = place_in(case.text(4)?)?;
     let patch = patch_of(alloc, case)?;
-    match patch.first_cell_from(place.archive, place.at) {
-        Some((place, held)) => Ok(tell_cell(told, place, held)?),
-        None => Ok(told.push('-')?),
+    Ok(tell_first(told, patch.first_cell_from(place.archive, place.at))?)
+}
+
+fn tell_first(
+    told: &mut String,
+    found: Option<((u32, u32), (u32, Milli))>,
+) -> Result<(), AllocError> {
+    match found {
+        Some(cell) => tell_cell(told, cell.0, cell.1),
+        None => told.push('-'),
     }
 }

@@ -6,8 +6,8 @@ ghost use Rattle.ring_archive.specs.Ring.{HoldsRing};
 use crate::patches::patch_with;
 use crate::words::{cells_in, layout_of};
 use case_lines::{Case, CaseFault};
-use fixed_num::wide;
-use outside_io::{Disk, MemDisk};
+use fixed_num::{Milli, wide};
+use outside_io::{Disk, DiskFailed, MemDisk};
 use ring_archive::RingFault;
 use ring_format::{
     CELL_BYTES, CellWrite, Layout, Method, OLD_VERSION, Patch, VERSION, version_of, write_cell,
@@ -203,6 +203,14 @@ pub fn disk_of(
     Ok(disk)
 }
 
+/// What was read on a disk that has no call that fails.
+pub fn read_of(found: Result<Option<Milli>, DiskFailed>) -> Result<Option<Milli>, CaseFault> {
+    match found {
+        Ok(value) => Ok(value),
+        Err(fault) => Err(case_fault_of(RingFault::from(fault))),
+    }
+}
+
 // The version of a file, and its cells: `1!` stands before those of one of version 1.
 fn version_of_text(text: &str) -> (u32, &str)
     ensures { IsVersion result.0 }
@@ -210,6 +218,14 @@ fn version_of_text(text: &str) -> (u32, &str)
     match text.split_once('!') {
         Some((_, cells)) => (OLD_VERSION, cells),
         None => (VERSION, text),
+    }
+}
+
+/// What a fault is where the disk has no call that fails.
+pub fn case_fault_of(fault: RingFault) -> CaseFault {
+    match fault {
+        RingFault::NoMemory => CaseFault::NoMemory,
+        RingFault::DiskFault => CaseFault::Malformed,
     }
 }
 

@@ -3,8 +3,8 @@ ghost use Rattle.std.specs.Prelude.{◌≢◌, None};
 
 use crate::patches::patch_laying;
 use crate::told::{tell_blank, tell_bytes};
-use crate::words::{halves, is_new, layout_of, number_in, path_in, place_in};
-use case_lines::{Case, CaseFault};
+use crate::words::{halves, is_new, layout_of, path_in, place_in};
+use case_lines::{Case, CaseFault, small_in};
 use fixed_num::milli_of;
 use ring_format::{CellWrite, Layout, Patch, RUN_BYTES};
 use std::alloc::{AllocError, Global};
@@ -55,7 +55,7 @@ fn patch_of_rows(
 fn lay_row(patch: &mut Patch, text: &str) -> Result<(), CaseFault> {
     let (place, count) = halves(text, 'x')?;
     let first = place_in(place)?;
-    for k in 0..number_in(count)? {
+    for k in 0..small_in(count)? {
         let slot = first.at.saturating_add(k);
         if !patch.layout().has_slot(first.archive, slot) {
             return Err(CaseFault::Malformed);

@@ -2,7 +2,7 @@
 ghost use Rattle.std.specs.Prelude.{IfOk};
 ghost use Rattle.ring_format.specs.Cell.{IsVersion};
 
-use case_lines::{Case, CaseFault};
+use case_lines::{Case, CaseFault, small_in};
 use fixed_num::{Milli, narrow};
 use metric_path::MetricPath;
 use point_cache::{Points, Put};
@@ -21,14 +21,6 @@ pub struct Place {
 pub struct Point {
     pub time: u32,
     pub value: Milli,
-}
-
-/// A number in decimal digits.
-pub fn number_in(text: &str) -> Result<u32, CaseFault> {
-    match text.parse::<u32>() {
-        Ok(number) => Ok(number),
-        Err(_) => Err(CaseFault::Malformed),
-    }
 }
 
 /// A value in thousandths.
@@ -74,8 +66,8 @@ pub fn values_in(alloc: Global, text: &str) -> Result<Vec<Milli>, CaseFault> {
 pub fn place_in(text: &str) -> Result<Place, CaseFault> {
     let (archive, at) = halves(text, '/')?;
     Ok(Place {
-        archive: number_in(archive)?,
-        at: number_in(at)?,
+        archive: small_in(archive)?,
+        at: small_in(at)?,
     })
 }
 
@@ -83,7 +75,7 @@ pub fn place_in(text: &str) -> Result<Place, CaseFault> {
 pub fn point_in(text: &str) -> Result<Point, CaseFault> {
     let (time, value) = halves(text, ':')?;
     Ok(Point {
-        time: number_in(time)?,
+        time: small_in(time)?,
         value: value_in(value)?,
     })
 }
@@ -92,8 +84,8 @@ pub fn point_in(text: &str) -> Result<Point, CaseFault> {
 pub fn archive_in(text: &str) -> Result<Archive, CaseFault> {
     let (step, points) = halves(text, 'x')?;
     Ok(Archive {
-        step: number_in(step)?,
-        points: number_in(points)?,
+        step: small_in(step)?,
+        points: small_in(points)?,
     })
 }
 
@@ -193,7 +185,7 @@ pub fn points_in(alloc: Global, text: &str) -> Result<Points, CaseFault> {
 fn put_points(points: &mut Points, text: &str) -> Result<(), CaseFault> {
     let (point, count) = text.split_once('*').unwrap_or((text, "1"));
     let first = point_in(point)?;
-    for minute in 0..number_in(count)? {
+    for minute in 0..small_in(count)? {
         let time = minute.saturating_mul(60).saturating_add(first.time);
         if points.put(time, first.value) == Put::NoMemory {
             return Err(CaseFault::NoMemory);
