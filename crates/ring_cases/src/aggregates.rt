@@ -1,9 +1,9 @@
 //! Rules of aggregation, and what they emit for the points of a link.
 
 use crate::told::tell_blank;
-use crate::words::{Point, halves, number_in, path_in, point_in};
+use crate::words::{Point, halves, path_in, point_in};
 use aggregate_front::{AggCause, AggFault, AggRules, Aggregator, LINK_LIMITS, Limits};
-use case_lines::{Case, CaseFault};
+use case_lines::{Case, CaseFault, small_in, text_in};
 use fixed_num::{legal_moment, wide};
 use metric_line::Datum;
 use metric_path::MetricPath;
@@ -101,10 +101,7 @@ fn feed_words(
 ) -> Result<(), CaseFault> {
     let mut fed = 0;
     for word in words {
-        let Ok(text) = str::from_utf8(word) else {
-            return Err(CaseFault::Malformed);
-        };
-        feed_word(alloc, told, aggregator, &mut fed, text)?;
+        feed_word(alloc, told, aggregator, &mut fed, text_in(word)?)?;
     }
     Ok(())
 }
@@ -119,7 +116,7 @@ fn feed_word(
     let (point, count) = word.split_once('*').unwrap_or((word, "1"));
     let (path, point) = halves(point, '@')?;
     let point = point_in(point)?;
-    for number in 0..number_in(count)? {
+    for number in 0..small_in(count)? {
         let path = numbered(alloc, path, number)?;
         *fed = fed.saturating_add(1);
         feed(told, aggregator, *fed, datum_of(path, point)?)?;
