@@ -1,8 +1,8 @@
 //! The verbs of the cases, by subject.
 
 use crate::{
-    find, frames, globs, http, lines, names, numbers, paths, patterns, samples, targets, times,
-    words,
+    find, frames, globs, http, journals, lines, names, numbers, paths, patterns, samples, targets,
+    times, words,
 };
 use case_lines::{Calls, Case, CaseFault};
 use std::alloc::Global;
@@ -42,6 +42,7 @@ fn tell_service(alloc: Global, told: &mut String, case: &Case) -> Result<bool, C
             || names::tell(alloc, told, case)?
             || find::tell(alloc, told, case)?
             || samples::tell(alloc, told, case)?
+            || journals::tell(alloc, told, case)?
             || words::tell(alloc, told, case)?,
     )
 }

@@ -8,6 +8,7 @@ mod given;
 mod glob_slow;
 mod globs;
 mod http;
+mod journals;
 mod lines;
 mod names;
 mod numbers;
