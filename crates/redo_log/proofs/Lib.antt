@@ -1,0 +1,6 @@
+pub mod BodyLemmas
+pub mod CellLemmas
+pub mod ToldLemmas
+pub mod EntryLaws
+pub mod LayoutLaws
+pub mod BodyLaws

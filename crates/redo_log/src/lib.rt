@@ -1,0 +1,18 @@
+//! The redo log: a patch stands whole in a log before its file is touched, so that a stop at any moment loses
+//! no part of it.
+//!
+//! The log is the file `redo.log`, and the gate is the file `redo.gate`. What the log holds counts where the
+//! gate is open: then a start lays it over the file of its path again.
+#![tactic(auto)]
+
+mod body;
+mod entries;
+mod laws;
+mod layout_reading;
+mod numbers;
+mod piece;
+mod reading;
+
+pub use body::{PIECE_BYTES, body_len};
+pub use laws::a_body_has_one_patch;
+pub use reading::{BodyFault, read_body};
