@@ -4,3 +4,5 @@ pub mod ToldLemmas
 pub mod EntryLaws
 pub mod LayoutLaws
 pub mod BodyLaws
+pub mod StepLemmas
+pub mod LastLemmas

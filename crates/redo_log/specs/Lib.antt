@@ -1,3 +1,5 @@
 pub mod Body
 pub mod Piece
 pub mod Told
+pub mod LastRun
+pub mod Steps

@@ -6,13 +6,19 @@
 #![tactic(auto)]
 
 mod body;
+mod calling;
 mod entries;
+mod last_run;
 mod laws;
+mod log_calls;
 mod layout_reading;
+mod next_step;
 mod numbers;
 mod piece;
 mod reading;
 
 pub use body::{PIECE_BYTES, body_len};
 pub use laws::a_body_has_one_patch;
+pub use log_calls::{GATE_NAME, LOG_NAME};
+pub use next_step::NextStep;
 pub use reading::{BodyFault, read_body};

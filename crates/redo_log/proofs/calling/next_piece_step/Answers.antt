@@ -1,0 +1,36 @@
+use Rattle.std.proofs.Common.{◌≡◌, ◌≤◌, ap, arith, length}
+use Rattle.redo_log.proofs.StepLemmas.{next_piece_leads, next_piece_put, next_piece_torn, next_piece_within, written_low}
+use Rattle.redo_log.proofs.calling.next_piece_step.Goals as goal
+
+pub overflow_mul-at : goal.overflow_mul-at
+overflow_mul-at g c =
+    let low : c.args.written ≤ length c.patch_of-patch.result.now.cells = written_low c.args.shelf.now c.patch_of-patch.result.now c.args.written c.requires.some c.patch_of-patch.ensures c.requires.written in
+    omega (arith, low, c.cells_are_few.ensures.few)
+
+pub overflow_add-at : goal.overflow_add-at
+overflow_add-at g c =
+    let low : c.args.written ≤ length c.patch_of-patch.result.now.cells = written_low c.args.shelf.now c.patch_of-patch.result.now c.args.written c.requires.some c.patch_of-patch.ensures c.requires.written in
+    omega (arith, low, c.cells_are_few.ensures.few, c.leading_len.ensures.low)
+
+pub write_log-requires : goal.write_log-requires
+write_log-requires g c =
+    next_piece_within c.args.shelf.now c.args.name.now c.patch_of-patch.result.now c.args.written _ c.put_next_piece-piece.result.len c.put_next_piece-piece.result.cells c.put_next_piece-piece.new.out _ c.requires.some c.patch_of-patch.ensures
+    c.requires.written (omega (arith, c.leading_len.ensures.value)) c.put_next_piece-piece.ensures c.requires.ready
+
+pub overflow_add-written : goal.overflow_add-written
+overflow_add-written g c = omega (arith, c.put_next_piece-piece.ensures.within, c.cells_are_few.ensures.few)
+
+pub returns-in-Ok-clause-ok : goal.returns-in-Ok-clause-ok
+returns-in-Ok-clause-ok g c =
+    next_piece_put c.args.shelf.now c.args.name.now c.patch_of-patch.result.now c.args.written _ c.put_next_piece-piece.result.len c.put_next_piece-piece.result.cells c.put_next_piece-piece.new.out c.behind_cells.result _ _ c.requires.some
+    c.requires.named c.patch_of-patch.ensures c.requires.written (omega (arith, c.leading_len.ensures.value)) c.put_next_piece-piece.ensures c.behind_cells.ensures c.requires.ready c.in-Ok.ensures.ok
+
+pub returns-in-Ok-clause-order : goal.returns-in-Ok-clause-order
+returns-in-Ok-clause-order g c =
+    next_piece_leads c.args.shelf.now c.patch_of-patch.result.now c.args.written c.put_next_piece-piece.result.len c.put_next_piece-piece.result.cells c.put_next_piece-piece.new.out c.behind_cells.result c.patch_of-patch.ensures c.requires.written
+    c.put_next_piece-piece.ensures c.behind_cells.ensures
+
+pub returns-in-Err-clause-err : goal.returns-in-Err-clause-err
+returns-in-Err-clause-err g c =
+    next_piece_torn c.args.shelf.now c.args.name.now c.patch_of-patch.result.now c.args.written _ c.put_next_piece-piece.result.len c.put_next_piece-piece.result.cells c.put_next_piece-piece.new.out _ _ c.requires.some c.requires.named
+    c.patch_of-patch.ensures c.requires.written (omega (arith, c.leading_len.ensures.value)) c.put_next_piece-piece.ensures c.requires.ready c.in-Err.ensures.err
