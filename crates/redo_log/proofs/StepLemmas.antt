@@ -576,3 +576,57 @@ each_err (Err e) p = p
 pub written_low : (shelf : Option DrainValue) (patch : PatchValue) (written : ℕ) → shelf ≢ None → IfSome shelf (λ drain. patch ≡ drain.patch) → IfSome shelf (λ drain. HasWritten drain.patch (Piece written)) → written ≤ length patch.cells
 written_low None patch written some same fits = absurd (some refl)
 written_low (Some drain) patch written some same fits = omega (arith, fits.0, ap (λ (p : PatchValue). length p.cells) same)
+
+pub create_leads : (shelf : Option DrainValue) → IfSome shelf (λ drain. Leads drain CreateLog (Some FirstPiece))
+create_leads None = tt
+create_leads (Some drain) = (refl, tt)
+
+leads_to : (drain : DrainValue) (now : NextStep) (behind made : Option NextStep) → behind ≡ made → Leads drain now made → Leads drain now behind
+leads_to drain now behind made is leads = subst (Leads drain now) (sym is) leads
+
+sync_leads_plain : (drain : DrainValue) (now : NextStep) (behind : Option NextStep) → IsSyncStep now behind → HasWritten drain.patch now → Leads drain now behind
+sync_leads_plain drain CreateLog behind step fits = absurd step
+sync_leads_plain drain FirstPiece behind step fits = absurd step
+sync_leads_plain drain (Piece written) behind step fits = absurd step
+sync_leads_plain drain SyncBody behind step fits = leads_to drain SyncBody behind (Some OpenGate) step (refl, fits)
+sync_leads_plain drain OpenGate behind step fits = absurd step
+sync_leads_plain drain SyncOpen behind step fits = leads_to drain SyncOpen behind (Some Run) step (refl, fits)
+sync_leads_plain drain Run behind step fits = absurd step
+sync_leads_plain drain SyncRuns behind step fits = leads_to drain SyncRuns behind (Some CloseGate) step (refl, fits)
+sync_leads_plain drain CloseGate behind step fits = absurd step
+sync_leads_plain drain SyncClose behind step fits = leads_to drain SyncClose behind None step (refl, tt)
+
+pub sync_leads : (shelf : Option DrainValue) (now : NextStep) (behind : Option NextStep) → IsSyncStep now behind → IfSome shelf (λ drain. HasWritten drain.patch now) → IfSome shelf (λ drain. Leads drain now behind)
+sync_leads None now behind step fits = tt
+sync_leads (Some drain) now behind step fits = sync_leads_plain drain now behind step fits
+
+gate_leads_plain : (drain : DrainValue) (byte : ℕ) (now : NextStep) (behind : Option NextStep) → IsGateStep byte now behind → HasWritten drain.patch now → Leads drain now behind
+gate_leads_plain drain byte CreateLog behind step fits = absurd step
+gate_leads_plain drain byte FirstPiece behind step fits = absurd step
+gate_leads_plain drain byte (Piece written) behind step fits = absurd step
+gate_leads_plain drain byte SyncBody behind step fits = absurd step
+gate_leads_plain drain byte OpenGate behind step fits = leads_to drain OpenGate behind (Some SyncOpen) step.1 (refl, fits)
+gate_leads_plain drain byte SyncOpen behind step fits = absurd step
+gate_leads_plain drain byte Run behind step fits = absurd step
+gate_leads_plain drain byte SyncRuns behind step fits = absurd step
+gate_leads_plain drain byte CloseGate behind step fits = leads_to drain CloseGate behind (Some SyncClose) step.1 (refl, fits)
+gate_leads_plain drain byte SyncClose behind step fits = absurd step
+
+pub gate_leads : (shelf : Option DrainValue) (byte : ℕ) (now : NextStep) (behind : Option NextStep) → IsGateStep byte now behind → IfSome shelf (λ drain. HasWritten drain.patch now) → IfSome shelf (λ drain. Leads drain now behind)
+gate_leads None byte now behind step fits = tt
+gate_leads (Some drain) byte now behind step fits = gate_leads_plain drain byte now behind step fits
+
+pub first_piece_leads : (shelf : Option DrainValue) (patch : PatchValue) (len count : ℕ) (out : List ℕ) (next : NextStep) → IfSome shelf (λ drain. patch ≡ drain.patch) → IsFirstPiece patch len count out → next ≡ behind_cells patch count
+    → IfSome shelf (λ drain. Leads drain FirstPiece (Some next))
+first_piece_leads None patch len count out next same piece behind = tt
+first_piece_leads (Some drain) patch len count out next same piece behind =
+    let is : IsFirstPiece drain.patch len count out = subst (λ (p : PatchValue). IsFirstPiece p len count out) same piece in
+    let then_is : next ≡ behind_cells drain.patch count = behind ∙ ap (λ (p : PatchValue). behind_cells p count) same in
+    (record { written = count; within = is.within; more = first_more drain.patch count len out is; is = ap (λ (n : NextStep). Some n) then_is },
+    subst (HasWritten drain.patch) (sym then_is) (cells_written (count == length drain.patch.cells) drain.patch count refl is.within is.fit))
+  where
+    first_more : (patch : PatchValue) (count len : ℕ) (out : List ℕ) → IsFirstPiece patch len count out → (0 < count) ⊎ (count ≡ length patch.cells)
+    first_more patch count len out piece = elim (cases_lt 0 (length patch.cells)) [
+      | inl less ↦ inl (piece.some (omega (arith, less)))
+      | inr all ↦ inr (omega (arith, all, piece.within))
+    ]

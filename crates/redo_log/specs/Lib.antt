@@ -3,3 +3,4 @@ pub mod Piece
 pub mod Told
 pub mod LastRun
 pub mod Steps
+pub mod Ends

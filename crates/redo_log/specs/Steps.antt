@@ -1,7 +1,8 @@
 -- A patch on its way through the log to its file, step by step: what each step does to the disk, and what stands there before it.
-use Rattle.std.specs.Prelude.{◌≡◌, ◌≢◌, ◌⊎◌, ℕ, suc, ◌+◌, ◌-◌, ◌*◌, ◌<◌, ◌≤◌, ◌==◌, Bool, true, false, ◌&&◌, ⊤, List, [], ◌∷◌, ◌++◌, length, take, drop, replicate, slice_get, All, Option, None, Some, IfSome, IsSome, IsSomeAnd, if◌then◌else◌, codes}
+use Rattle.std.specs.Prelude.{◌≡◌, ◌≢◌, ◌⊎◌, ℕ, suc, ◌+◌, ◌-◌, ◌*◌, ◌<◌, ◌≤◌, ◌==◌, Bool, true, false, ◌&&◌, ⊤, List, [], ◌∷◌, ◌++◌, length, take, drop, replicate, slice_get, All, Option, None, Some, IfSome, IsSome, IsSomeAnd, Result, Ok, Err, if◌then◌else◌, codes}
 use Rattle.std.specs.Option.{option_map_or}
 use Rattle.outside_io.specs.Image.{Image, ChangesOnly, Creates, SameImage, Tears, WhereKnown, Writes}
+use Rattle.outside_io.specs.declared.disk.DiskFailed.{DiskFailed}
 use Rattle.metric_path.specs.FileName.{file_name_of}
 use Rattle.ring_format.specs.Patch.{PatchValue}
 use Rattle.ring_writer.specs.PartWritten.{Awaits, AwaitsNext, FailsNext, WritesNext}
@@ -247,3 +248,14 @@ pub record Taken (redo : RedoValue) (behind : Option NextStep) (before after : I
 pub record Failed (redo : RedoValue) (before after : Image) : Type 0 where
   pub touches : IfSome redo.drain (λ drain. Touches drain redo.name redo.next before after)
   pub ready : IsReady redo after
+
+-- how a step ends: taken, and the step behind it; or failed
+abbrev pub StepEnds : RedoValue → Result (Option NextStep) DiskFailed → Option Image → Option Image → Type 0
+StepEnds redo (Ok behind) a b = WhereKnown a b (Taken redo behind) × IfSome redo.drain (λ drain. Leads drain redo.next behind)
+StepEnds redo (Err fault) a b = WhereKnown a b (Failed redo)
+
+-- what holds of a patch on its way
+pub record IsOnWay (shelf : Option DrainValue) (name : List ℕ) (next : NextStep) : Type 0 where
+  pub some : shelf ≢ None
+  pub named : IsNamed shelf name
+  pub written : IfSome shelf (λ drain. HasWritten drain.patch next)

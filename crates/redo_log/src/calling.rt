@@ -1,8 +1,7 @@
 //! The call of the disk that each step makes.
-ghost use Rattle.std.specs.Prelude.{◌≡◌, ◌≢◌, IfOk, IfSome, IsErr, None, OnErr, OnOk, Some};
+ghost use Rattle.std.specs.Prelude.{◌≡◌, ◌≢◌, IfSome, IsErr, None};
 ghost use Rattle.outside_io.specs.Frames.{CountsFaults};
-ghost use Rattle.outside_io.specs.Image.{WhereKnown};
-ghost use Rattle.redo_log.specs.Steps.{Failed, HasWritten, IsGateStep, IsNamed, IsReady, IsSyncStep, Leads, Taken, behind_cells, behind_run, on_way};
+ghost use Rattle.redo_log.specs.Steps.{HasWritten, IsGateStep, IsNamed, IsReady, IsSyncStep, StepEnds, behind_cells, behind_run, on_way};
 ghost use Rattle.redo_log.specs.declared.next_step.NextStep.TheVariants.{CreateLog, FirstPiece, Piece, Run};
 
 use crate::body::{ENTRY_BYTES, PIECE_BYTES, cells_are_few, leading_len};
@@ -31,19 +30,20 @@ pub(crate) fn create_step<D: Disk>(
     disk: &mut D,
     shelf: &Shelf,
     name: &str,
-) -> Result<(), DiskFailed>
+) -> Result<Option<NextStep>, DiskFailed>
     requires some { shelf.now ≢ None }
     requires named { IsNamed shelf.now name.now }
     requires ready { IfSome (D.image disk.old)
         (IsReady (on_way shelf.now name.now CreateLog)) }
-    ensures ok { OnOk result (WhereKnown (D.image disk.old) (D.image disk.new)
-        (Taken (on_way shelf.now name.now CreateLog) (Some FirstPiece))) }
-    ensures err { OnErr result (WhereKnown (D.image disk.old) (D.image disk.new)
-        (Failed (on_way shelf.now name.now CreateLog))) }
+    ensures ends { StepEnds (on_way shelf.now name.now CreateLog) result
+        (D.image disk.old) (D.image disk.new) }
     ensures frame { CountsFaults D.Disk disk.old disk.new (IsErr result) }
 {
     let _ = name;
-    create_log(disk, patch_of(shelf))
+    match create_log(disk, patch_of(shelf)) {
+        Ok(()) => Ok(Some(NextStep::FirstPiece)),
+        Err(fault) => Err(fault),
+    }
 }
 
 // The step behind a piece.
@@ -61,17 +61,13 @@ pub(crate) fn first_piece_step<D: Disk>(
     disk: &mut D,
     shelf: &Shelf,
     name: &str,
-) -> Result<NextStep, DiskFailed>
+) -> Result<Option<NextStep>, DiskFailed>
     requires some { shelf.now ≢ None }
     requires named { IsNamed shelf.now name.now }
     requires ready { IfSome (D.image disk.old)
         (IsReady (on_way shelf.now name.now FirstPiece)) }
-    ensures ok { IfOk result (λ next. WhereKnown (D.image disk.old) (D.image disk.new)
-        (Taken (on_way shelf.now name.now FirstPiece) (Some next))) }
-    ensures err { OnErr result (WhereKnown (D.image disk.old) (D.image disk.new)
-        (Failed (on_way shelf.now name.now FirstPiece))) }
-    ensures order { IfOk result
-        (λ next. IfSome shelf.now (λ drain. Leads drain FirstPiece (Some next))) }
+    ensures ends { StepEnds (on_way shelf.now name.now FirstPiece) result
+        (D.image disk.old) (D.image disk.new) }
     ensures frame { CountsFaults D.Disk disk.old disk.new (IsErr result) }
 {
     let _ = name;
@@ -79,7 +75,7 @@ pub(crate) fn first_piece_step<D: Disk>(
     let mut bytes = [0; PIECE_BYTES];
     let piece = put_first_piece(patch, &mut bytes);
     match write_log(disk, 0, &bytes[..piece.len]) {
-        Ok(()) => Ok(behind_cells(patch, piece.cells)),
+        Ok(()) => Ok(Some(behind_cells(patch, piece.cells))),
         Err(fault) => Err(fault),
     }
 }
@@ -90,18 +86,14 @@ pub(crate) fn next_piece_step<D: Disk>(
     shelf: &Shelf,
     name: &str,
     written: usize,
-) -> Result<NextStep, DiskFailed>
+) -> Result<Option<NextStep>, DiskFailed>
     requires some { shelf.now ≢ None }
     requires named { IsNamed shelf.now name.now }
     requires written { IfSome shelf.now (λ drain. HasWritten drain.patch (Piece written)) }
     requires ready { IfSome (D.image disk.old)
         (IsReady (on_way shelf.now name.now (Piece written))) }
-    ensures ok { IfOk result (λ next. WhereKnown (D.image disk.old) (D.image disk.new)
-        (Taken (on_way shelf.now name.now (Piece written)) (Some next))) }
-    ensures err { OnErr result (WhereKnown (D.image disk.old) (D.image disk.new)
-        (Failed (on_way shelf.now name.now (Piece written)))) }
-    ensures order { IfOk result
-        (λ next. IfSome shelf.now (λ drain. Leads drain (Piece written) (Some next))) }
+    ensures ends { StepEnds (on_way shelf.now name.now (Piece written)) result
+        (D.image disk.old) (D.image disk.new) }
     ensures frame { CountsFaults D.Disk disk.old disk.new (IsErr result) }
 {
     let _ = name;
@@ -111,7 +103,7 @@ pub(crate) fn next_piece_step<D: Disk>(
     let at = leading_len(patch) + ENTRY_BYTES * written;
     let piece = put_next_piece(patch, written, &mut bytes);
     match write_log(disk, at as u64, &bytes[..piece.len]) {
-        Ok(()) => Ok(behind_cells(patch, written + piece.cells)),
+        Ok(()) => Ok(Some(behind_cells(patch, written + piece.cells))),
         Err(fault) => Err(fault),
     }
 }
@@ -123,20 +115,21 @@ pub(crate) fn sync_step<D: Disk>(
     name: &str,
     now: NextStep,
     behind: Option<NextStep>,
-) -> Result<(), DiskFailed>
+) -> Result<Option<NextStep>, DiskFailed>
     requires step { IsSyncStep now behind }
+    requires written { IfSome shelf.now (λ drain. HasWritten drain.patch now) }
     requires ready { IfSome (D.image disk.old) (IsReady (on_way shelf.now name.now now)) }
-    ensures ok { OnOk result (WhereKnown (D.image disk.old) (D.image disk.new)
-        (Taken (on_way shelf.now name.now now) behind)) }
-    ensures err { OnErr result (WhereKnown (D.image disk.old) (D.image disk.new)
-        (Failed (on_way shelf.now name.now now))) }
+    ensures ends { StepEnds (on_way shelf.now name.now now) result
+        (D.image disk.old) (D.image disk.new) }
     ensures frame { CountsFaults D.Disk disk.old disk.new (IsErr result) }
 {
     let _ = shelf;
     let _ = name;
     let _ = now;
-    let _ = behind;
-    sync_disk(disk)
+    match sync_disk(disk) {
+        Ok(()) => Ok(behind),
+        Err(fault) => Err(fault),
+    }
 }
 
 // Sets the gate's byte.
@@ -147,22 +140,23 @@ pub(crate) fn gate_step<D: Disk>(
     byte: u8,
     now: NextStep,
     behind: Option<NextStep>,
-) -> Result<(), DiskFailed>
+) -> Result<Option<NextStep>, DiskFailed>
     requires named { IsNamed shelf.now name.now }
     requires some { shelf.now ≢ None }
     requires step { IsGateStep byte now behind }
+    requires written { IfSome shelf.now (λ drain. HasWritten drain.patch now) }
     requires ready { IfSome (D.image disk.old) (IsReady (on_way shelf.now name.now now)) }
-    ensures ok { OnOk result (WhereKnown (D.image disk.old) (D.image disk.new)
-        (Taken (on_way shelf.now name.now now) behind)) }
-    ensures err { OnErr result (WhereKnown (D.image disk.old) (D.image disk.new)
-        (Failed (on_way shelf.now name.now now))) }
+    ensures ends { StepEnds (on_way shelf.now name.now now) result
+        (D.image disk.old) (D.image disk.new) }
     ensures frame { CountsFaults D.Disk disk.old disk.new (IsErr result) }
 {
     let _ = shelf;
     let _ = name;
     let _ = now;
-    let _ = behind;
-    set_gate(disk, byte)
+    match set_gate(disk, byte) {
+        Ok(()) => Ok(behind),
+        Err(fault) => Err(fault),
+    }
 }
 
 // Writes the next run to the file, and answers the step behind it.
@@ -170,22 +164,18 @@ pub(crate) fn run_step<D: Disk>(
     disk: &mut D,
     shelf: &Shelf,
     name: &str,
-) -> Result<NextStep, DiskFailed>
+) -> Result<Option<NextStep>, DiskFailed>
     requires some { shelf.now ≢ None }
     requires named { IsNamed shelf.now name.now }
     requires written { IfSome shelf.now (λ drain. HasWritten drain.patch Run) }
     requires ready { IfSome (D.image disk.old) (IsReady (on_way shelf.now name.now Run)) }
-    ensures ok { IfOk result (λ next. WhereKnown (D.image disk.old) (D.image disk.new)
-        (Taken (on_way shelf.now name.now Run) (Some next))) }
-    ensures err { OnErr result (WhereKnown (D.image disk.old) (D.image disk.new)
-        (Failed (on_way shelf.now name.now Run))) }
-    ensures order { IfOk result
-        (λ next. IfSome shelf.now (λ drain. Leads drain Run (Some next))) }
+    ensures ends { StepEnds (on_way shelf.now name.now Run) result
+        (D.image disk.old) (D.image disk.new) }
     ensures frame { CountsFaults D.Disk disk.old disk.new (IsErr result) }
 {
     let next = behind_run(shelf);
     match write_run(disk, name, shelf) {
-        Ok(()) => Ok(next),
+        Ok(()) => Ok(Some(next)),
         Err(fault) => Err(fault),
     }
 }

@@ -16,9 +16,14 @@ mod next_step;
 mod numbers;
 mod piece;
 mod reading;
+mod redo;
+mod redo_step;
+mod steps;
 
 pub use body::{PIECE_BYTES, body_len};
 pub use laws::a_body_has_one_patch;
 pub use log_calls::{GATE_NAME, LOG_NAME};
 pub use next_step::NextStep;
+pub use redo::Redo;
+pub use redo_step::RedoStep;
 pub use reading::{BodyFault, read_body};
