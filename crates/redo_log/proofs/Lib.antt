@@ -6,3 +6,5 @@ pub mod LayoutLaws
 pub mod BodyLaws
 pub mod StepLemmas
 pub mod LastLemmas
+pub mod CrashRows
+pub mod EndLemmas

@@ -253,12 +253,12 @@ size_is (Some drain) patch is = ap (λ (p : PatchValue). length (body_bytes p)) 
 
 -- ---- a sync
 
-closed_is_gate : (held : Option (List ℕ)) → IsClosed held → IsGate held
+pub closed_is_gate : (held : Option (List ℕ)) → IsClosed held → IsGate held
 closed_is_gate None closed = absurd closed
 closed_is_gate (Some []) closed = absurd closed
 closed_is_gate (Some (x ∷ xs)) closed = omega arith
 
-open_is_gate : (held : Option (List ℕ)) → IsOpen held → IsGate held
+pub open_is_gate : (held : Option (List ℕ)) → IsOpen held → IsGate held
 open_is_gate None open_one = absurd open_one
 open_is_gate (Some []) open_one = absurd cc
 open_is_gate (Some (x ∷ xs)) open_one = omega arith
@@ -337,7 +337,7 @@ gate_put byte None after gate is = absurd gate
 gate_put byte (Some []) after gate is = absurd (omega (arith, gate))
 gate_put byte (Some (x ∷ xs)) after gate is = rw is refl
 
-gate_torn : (held after : Option (List ℕ)) → IsGate held → IfSome held (λ file. IsSomeAnd after (λ torn. IsTorn file torn 0 1)) → IsGate after
+pub gate_torn : (held after : Option (List ℕ)) → IsGate held → IfSome held (λ file. IsSomeAnd after (λ torn. IsTorn file torn 0 1)) → IsGate after
 gate_torn None after gate torn = absurd gate
 gate_torn (Some file) None gate torn = absurd torn
 gate_torn (Some file) (Some now) gate torn = omega (arith, gate, torn.0)

@@ -49,3 +49,10 @@ RedoEnds end (Some old) new a b = SomeEnds end old new a b
 abbrev pub redo_with : PatchValue → List ℕ → List ShelfRun → Option RedoValue
 redo_with patch name [] = None
 redo_with patch name (run ∷ left) = Some (on_way (drain_with patch (run ∷ left)) name CreateLog)
+
+-- what is left behind a step that ended so
+abbrev pub rest_of : RedoStep → RedoValue → Option RedoValue
+rest_of Run redo = Some redo
+rest_of Finished redo = None
+rest_of Nothing redo = Some redo
+rest_of DiskFault redo = Some redo

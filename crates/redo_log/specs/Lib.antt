@@ -4,3 +4,4 @@ pub mod Told
 pub mod LastRun
 pub mod Steps
 pub mod Ends
+pub mod Rows

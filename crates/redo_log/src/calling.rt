@@ -1,6 +1,7 @@
 //! The call of the disk that each step makes.
 ghost use Rattle.std.specs.Prelude.{◌≡◌, ◌≢◌, IfSome, IsErr, None};
 ghost use Rattle.outside_io.specs.Frames.{CountsFaults};
+ghost use Rattle.redo_log.specs.Rows.{KeepsRow};
 ghost use Rattle.redo_log.specs.Steps.{HasWritten, IsGateStep, IsNamed, IsReady, IsSyncStep, StepEnds, behind_cells, behind_run, on_way};
 ghost use Rattle.redo_log.specs.declared.next_step.NextStep.TheVariants.{CreateLog, FirstPiece, Piece, Run};
 
@@ -37,6 +38,8 @@ pub(crate) fn create_step<D: Disk>(
         (IsReady (on_way shelf.now name.now CreateLog)) }
     ensures ends { StepEnds (on_way shelf.now name.now CreateLog) result
         (D.image disk.old) (D.image disk.new) }
+    ensures row { KeepsRow (on_way shelf.now name.now CreateLog) result (D.image disk.old)
+        (D.image disk.new) (D.may_leave disk.old) (D.may_leave disk.new) }
     ensures frame { CountsFaults D.Disk disk.old disk.new (IsErr result) }
 {
     let _ = name;
@@ -68,6 +71,8 @@ pub(crate) fn first_piece_step<D: Disk>(
         (IsReady (on_way shelf.now name.now FirstPiece)) }
     ensures ends { StepEnds (on_way shelf.now name.now FirstPiece) result
         (D.image disk.old) (D.image disk.new) }
+    ensures row { KeepsRow (on_way shelf.now name.now FirstPiece) result (D.image disk.old)
+        (D.image disk.new) (D.may_leave disk.old) (D.may_leave disk.new) }
     ensures frame { CountsFaults D.Disk disk.old disk.new (IsErr result) }
 {
     let _ = name;
@@ -94,6 +99,8 @@ pub(crate) fn next_piece_step<D: Disk>(
         (IsReady (on_way shelf.now name.now (Piece written))) }
     ensures ends { StepEnds (on_way shelf.now name.now (Piece written)) result
         (D.image disk.old) (D.image disk.new) }
+    ensures row { KeepsRow (on_way shelf.now name.now (Piece written)) result (D.image disk.old)
+        (D.image disk.new) (D.may_leave disk.old) (D.may_leave disk.new) }
     ensures frame { CountsFaults D.Disk disk.old disk.new (IsErr result) }
 {
     let _ = name;
@@ -116,11 +123,14 @@ pub(crate) fn sync_step<D: Disk>(
     now: NextStep,
     behind: Option<NextStep>,
 ) -> Result<Option<NextStep>, DiskFailed>
+    requires some { shelf.now ≢ None }
     requires step { IsSyncStep now behind }
     requires written { IfSome shelf.now (λ drain. HasWritten drain.patch now) }
     requires ready { IfSome (D.image disk.old) (IsReady (on_way shelf.now name.now now)) }
     ensures ends { StepEnds (on_way shelf.now name.now now) result
         (D.image disk.old) (D.image disk.new) }
+    ensures row { KeepsRow (on_way shelf.now name.now now) result (D.image disk.old)
+        (D.image disk.new) (D.may_leave disk.old) (D.may_leave disk.new) }
     ensures frame { CountsFaults D.Disk disk.old disk.new (IsErr result) }
 {
     let _ = shelf;
@@ -148,6 +158,8 @@ pub(crate) fn gate_step<D: Disk>(
     requires ready { IfSome (D.image disk.old) (IsReady (on_way shelf.now name.now now)) }
     ensures ends { StepEnds (on_way shelf.now name.now now) result
         (D.image disk.old) (D.image disk.new) }
+    ensures row { KeepsRow (on_way shelf.now name.now now) result (D.image disk.old)
+        (D.image disk.new) (D.may_leave disk.old) (D.may_leave disk.new) }
     ensures frame { CountsFaults D.Disk disk.old disk.new (IsErr result) }
 {
     let _ = shelf;

@@ -1,5 +1,6 @@
 //! The calls of the disk that write the log and the gate.
 ghost use Rattle.std.specs.Prelude.{◌≡◌, ◌∷◌, [], IsErr, OnErr, OnOk, length};
+ghost use Rattle.outside_io.specs.Crash.{Follows, OnlyKnown};
 ghost use Rattle.outside_io.specs.Frames.{CountsFaults};
 ghost use Rattle.outside_io.specs.Image.{ChangesOnly, Creates, IsWithinFile, SameImage, Tears, WhereKnown, Writes};
 ghost use Rattle.redo_log.specs.Body.{body_bytes};
@@ -22,6 +23,8 @@ pub(crate) fn create_log<D: Disk>(disk: &mut D, patch: &Patch) -> Result<(), Dis
         (λ before after. Creates before after log_name (length (body_bytes patch.now)))) }
     ensures err { OnErr result (WhereKnown (D.image disk.old) (D.image disk.new)
         (λ before after. ChangesOnly before after log_name)) }
+    ensures crash { Follows (λ before after. ChangesOnly before after log_name)
+        (D.may_leave disk.old) (D.may_leave disk.new) }
     ensures frame { CountsFaults D.Disk disk.old disk.new (IsErr result) }
 {
     disk.create(LOG_NAME, body_len(patch))
@@ -35,6 +38,8 @@ pub(crate) fn write_log<D: Disk>(disk: &mut D, at: u64, piece: &[u8]) -> Result<
         (λ before after. Writes before after log_name at piece.now)) }
     ensures err { OnErr result (WhereKnown (D.image disk.old) (D.image disk.new)
         (λ before after. Tears before after log_name at (length piece.now))) }
+    ensures crash { Follows (λ before after. Tears before after log_name at (length piece.now))
+        (D.may_leave disk.old) (D.may_leave disk.new) }
     ensures frame { CountsFaults D.Disk disk.old disk.new (IsErr result) }
 {
     disk.write_at(LOG_NAME, at, piece)
@@ -48,6 +53,8 @@ pub(crate) fn set_gate<D: Disk>(disk: &mut D, byte: u8) -> Result<(), DiskFailed
         (λ before after. Writes before after gate_name 0 (byte ∷ []))) }
     ensures err { OnErr result (WhereKnown (D.image disk.old) (D.image disk.new)
         (λ before after. Tears before after gate_name 0 1)) }
+    ensures crash { Follows (λ before after. Tears before after gate_name 0 1)
+        (D.may_leave disk.old) (D.may_leave disk.new) }
     ensures frame { CountsFaults D.Disk disk.old disk.new (IsErr result) }
 {
     disk.write_at(GATE_NAME, 0, &[byte])
@@ -55,7 +62,9 @@ pub(crate) fn set_gate<D: Disk>(disk: &mut D, byte: u8) -> Result<(), DiskFailed
 
 // Brings to the device what was written.
 pub(crate) fn sync_disk<D: Disk>(disk: &mut D) -> Result<(), DiskFailed>
+    ensures durable { OnOk result (OnlyKnown (D.image disk.new) (D.may_leave disk.new)) }
     ensures kept { D.image disk.new ≡ D.image disk.old }
+    ensures crash { Follows SameImage (D.may_leave disk.old) (D.may_leave disk.new) }
     ensures frame { CountsFaults D.Disk disk.old disk.new (IsErr result) }
 {
     disk.sync()

@@ -1,8 +1,9 @@
 //! A patch on its way.
-ghost use Rattle.std.specs.Prelude.{◌≡◌, ◌≢◌, IfSome, IsErr, None, Some, option_map, string_bytes};
+ghost use Rattle.std.specs.Prelude.{◌≡◌, ◌≢◌, false, IfSome, IsErr, None, Some, option_map, string_bytes};
 ghost use Rattle.outside_io.specs.Frames.{CountsFaults};
 ghost use Rattle.redo_log.specs.Steps.{IsNamed, IsReady, Leads, StepEnds, is_run, on_way, with_next};
 ghost use Rattle.redo_log.specs.Ends.{TakeEnds};
+ghost use Rattle.redo_log.specs.Rows.{GoesInRow, KeepsRow};
 ghost use Rattle.redo_log.specs.declared.next_step.NextStep.TheVariants.{CreateLog};
 ghost use Rattle.redo_log.specs.declared.redo_step.RedoStep.TheVariants.{DiskFault};
 
@@ -60,6 +61,8 @@ impl Steps {
     fn call<D: Disk>(&self, disk: &mut D) -> Result<Option<NextStep>, DiskFailed>
         requires ready { IfSome (D.image disk.old) (IsReady self.now) }
         ensures ends { StepEnds self.now result (D.image disk.old) (D.image disk.new) }
+        ensures row { is_run self.now.next ≡ false → KeepsRow self.now result (D.image disk.old)
+            (D.image disk.new) (D.may_leave disk.old) (D.may_leave disk.new) }
         ensures frame { CountsFaults D.Disk disk.old disk.new (IsErr result) }
     {
         let (shelf, name, next) = (&self.shelf, self.name.as_str(), self.next);
@@ -93,6 +96,8 @@ impl Steps {
     pub(crate) fn take<D: Disk>(&mut self, disk: &mut D) -> RedoStep
         requires ready { IfSome (D.image disk.old) (IsReady self.old) }
         ensures ends { TakeEnds result self.old self.new (D.image disk.old) (D.image disk.new) }
+        ensures row { is_run self.old.next ≡ false → GoesInRow result self.old self.new
+            (D.image disk.old) (D.image disk.new) (D.may_leave disk.old) (D.may_leave disk.new) }
         ensures frame { CountsFaults D.Disk disk.old disk.new (result ≡ DiskFault) }
     {
         match self.call(disk) {
