@@ -111,7 +111,7 @@ last_by archive slot n (run ∷ rest) rise runs =
     let first = first_place run (flat_map places_in rest) runs.0 in
     let last : ℕ × ℕ = last_or x places in
     let above : place_cmp x last ≡ Less = subst (λ (ps : List (ℕ × ℕ)). place_cmp x (last_or x ps) ≡ Less) (sym first.2)
-        (last_has (λ q. place_cmp x q ≡ Less) x first.0 first.1 (subst (AllByRecursion (λ q. place_cmp x q ≡ Less)) first.2 rise)) in
+    (last_has (λ q. place_cmp x q ≡ Less) x first.0 first.1 (subst (AllByRecursion (λ q. place_cmp x q ≡ Less)) first.2 rise)) in
     differs last above (last.0 == archive && last.1 + 1 == slot + suc n) refl
   where
     differs : (last : ℕ × ℕ) → place_cmp (archive, slot + n) last ≡ Less → (b : Bool) → (last.0 == archive && last.1 + 1 == slot + suc n) ≡ b → b ≡ (suc (suc (length rest)) == 1)
@@ -128,7 +128,7 @@ last_by archive slot n (run ∷ rest) rise runs =
 -- ---- the runs of a patch
 
 same_last : (xs ys : List Run) (x y : Run) → xs ++ x ∷ [] ≡ ys ++ y ∷ [] → x ≡ y
-same_last xs ys x y e = sym (last_behind x x xs []  ∙ plain x) ∙ ap (last_or x) e ∙ last_behind x y ys [] ∙ plain y
+same_last xs ys x y e = sym (last_behind x x xs [] ∙ plain x) ∙ ap (last_or x) e ∙ last_behind x y ys [] ∙ plain y
   where
     plain : (z : Run) → last_or z [] ≡ z
     plain z = refl

@@ -353,22 +353,26 @@ gate_set_plain drain name byte FirstPiece behind x y names step s p = absurd ste
 gate_set_plain drain name byte (Piece written) behind x y names step s p = absurd step
 gate_set_plain drain name byte SyncBody behind x y names step s p = absurd step
 gate_set_plain drain name byte OpenGate behind x y names step s p =
-    subst (λ (o : Option NextStep). Calls drain name OpenGate o x y × IfSome o (λ next. IsReady (with_next (on_way (Some drain) name OpenGate) next) y)) (sym step.1)
-    (subst (λ (n : ℕ). Writes x y gate_name 0 (n ∷ [])) step.0 p, record {
-      log = p.1 log_name log_is_no_gate ∙ s.log;
-      gate = subst (λ (n : ℕ). IsSomeAnd (y gate_name) (λ file. slice_get file 0 ≡ Some n)) step.0 (gate_put byte (x gate_name) (y gate_name) s.gate p.0);
-      file = subst (λ held. Awaits drain.patch drain.left held) (sym (p.1 name names.no_gate)) s.file;
-    })
+    subst (λ (o : Option NextStep). Calls drain name OpenGate o x y × IfSome o (λ next. IsReady (with_next (on_way (Some drain) name OpenGate) next) y)) (sym step.1) (
+      subst (λ (n : ℕ). Writes x y gate_name 0 (n ∷ [])) step.0 p,
+      record {
+        log = p.1 log_name log_is_no_gate ∙ s.log;
+        gate = subst (λ (n : ℕ). IsSomeAnd (y gate_name) (λ file. slice_get file 0 ≡ Some n)) step.0 (gate_put byte (x gate_name) (y gate_name) s.gate p.0);
+        file = subst (λ held. Awaits drain.patch drain.left held) (sym (p.1 name names.no_gate)) s.file;
+      },
+    )
 gate_set_plain drain name byte SyncOpen behind x y names step s p = absurd step
 gate_set_plain drain name byte Run behind x y names step s p = absurd step
 gate_set_plain drain name byte SyncRuns behind x y names step s p = absurd step
 gate_set_plain drain name byte CloseGate behind x y names step s p =
-    subst (λ (o : Option NextStep). Calls drain name CloseGate o x y × IfSome o (λ next. IsReady (with_next (on_way (Some drain) name CloseGate) next) y)) (sym step.1)
-    (subst (λ (n : ℕ). Writes x y gate_name 0 (n ∷ [])) step.0 p, record {
-      log = p.1 log_name log_is_no_gate ∙ s.log;
-      gate = closed_by (y gate_name) (subst (λ (n : ℕ). IsSomeAnd (y gate_name) (λ file. slice_get file 0 ≡ Some n)) step.0 (gate_put byte (x gate_name) (y gate_name) s.gate p.0));
-      file = subst (λ held. Awaits drain.patch [] held) (sym (p.1 name names.no_gate)) s.file;
-    })
+    subst (λ (o : Option NextStep). Calls drain name CloseGate o x y × IfSome o (λ next. IsReady (with_next (on_way (Some drain) name CloseGate) next) y)) (sym step.1) (
+      subst (λ (n : ℕ). Writes x y gate_name 0 (n ∷ [])) step.0 p,
+      record {
+        log = p.1 log_name log_is_no_gate ∙ s.log;
+        gate = closed_by (y gate_name) (subst (λ (n : ℕ). IsSomeAnd (y gate_name) (λ file. slice_get file 0 ≡ Some n)) step.0 (gate_put byte (x gate_name) (y gate_name) s.gate p.0));
+        file = subst (λ held. Awaits drain.patch [] held) (sym (p.1 name names.no_gate)) s.file;
+      },
+    )
 gate_set_plain drain name byte SyncClose behind x y names step s p = absurd step
 
 gate_torn_plain : (drain : DrainValue) (name : List ℕ) (byte : ℕ) (now : NextStep) (behind : Option NextStep) (x y : Image) → ThreeNames name → IsGateStep byte now behind → Stands drain name now x
@@ -377,19 +381,25 @@ gate_torn_plain drain name byte CreateLog behind x y names step s p = absurd ste
 gate_torn_plain drain name byte FirstPiece behind x y names step s p = absurd step
 gate_torn_plain drain name byte (Piece written) behind x y names step s p = absurd step
 gate_torn_plain drain name byte SyncBody behind x y names step s p = absurd step
-gate_torn_plain drain name byte OpenGate behind x y names step s p = (p, record {
-  log = p.1 log_name log_is_no_gate ∙ s.log;
-  gate = gate_torn (x gate_name) (y gate_name) s.gate p.0;
-  file = subst (λ held. Awaits drain.patch drain.left held) (sym (p.1 name names.no_gate)) s.file;
-})
+gate_torn_plain drain name byte OpenGate behind x y names step s p = (
+  p,
+  record {
+    log = p.1 log_name log_is_no_gate ∙ s.log;
+    gate = gate_torn (x gate_name) (y gate_name) s.gate p.0;
+    file = subst (λ held. Awaits drain.patch drain.left held) (sym (p.1 name names.no_gate)) s.file;
+  },
+)
 gate_torn_plain drain name byte SyncOpen behind x y names step s p = absurd step
 gate_torn_plain drain name byte Run behind x y names step s p = absurd step
 gate_torn_plain drain name byte SyncRuns behind x y names step s p = absurd step
-gate_torn_plain drain name byte CloseGate behind x y names step s p = (p, record {
-  log = p.1 log_name log_is_no_gate ∙ s.log;
-  gate = gate_torn (x gate_name) (y gate_name) s.gate p.0;
-  file = subst (λ held. Awaits drain.patch [] held) (sym (p.1 name names.no_gate)) s.file;
-})
+gate_torn_plain drain name byte CloseGate behind x y names step s p = (
+  p,
+  record {
+    log = p.1 log_name log_is_no_gate ∙ s.log;
+    gate = gate_torn (x gate_name) (y gate_name) s.gate p.0;
+    file = subst (λ held. Awaits drain.patch [] held) (sym (p.1 name names.no_gate)) s.file;
+  },
+)
 gate_torn_plain drain name byte SyncClose behind x y names step s p = absurd step
 
 pub gate_set : (shelf : Option DrainValue) (name : List ℕ) (byte : ℕ) (now : NextStep) (behind : Option NextStep) (a b : Option Image) → IsNamed shelf name → IsGateStep byte now behind → IfSome a (IsReady (on_way shelf name now))
@@ -561,9 +571,10 @@ next_piece_leads None patch written len count out next same fits piece behind = 
 next_piece_leads (Some drain) patch written len count out next same fits piece behind =
     let is : IsNextPiece drain.patch written len count out = subst (λ (p : PatchValue). IsNextPiece p written len count out) same piece in
     let then_is : next ≡ behind_cells drain.patch (written + count) = behind ∙ ap (λ (p : PatchValue). behind_cells p (written + count)) same in
-    let all : All Fits (take (written + count) drain.patch.cells) = subst (λ cells. All Fits cells) (sym (take-add written count drain.patch.cells)) (All-append Fits (take written drain.patch.cells) (take count (drop written drain.patch.cells)) fits.1 is.fit) in
-    (record { written = written + count; within = is.within; more = piece_more drain.patch written count len out fits.0 is; is = ap (λ (n : NextStep). Some n) then_is },
-    subst (HasWritten drain.patch) (sym then_is) (cells_written (written + count == length drain.patch.cells) drain.patch (written + count) refl is.within all))
+    let all : All Fits (take (written + count) drain.patch.cells) = subst (λ cells. All Fits cells) (sym (take-add written count drain.patch.cells)) (All-append Fits (take written drain.patch.cells) (take count (drop written drain.patch.cells)) fits.1 is.fit) in (
+      record { written = written + count; within = is.within; more = piece_more drain.patch written count len out fits.0 is; is = ap (λ (n : NextStep). Some n) then_is },
+      subst (HasWritten drain.patch) (sym then_is) (cells_written (written + count == length drain.patch.cells) drain.patch (written + count) refl is.within all),
+    )
 
 pub each_ok : {T E P : Type 0} (r : Result T E) → P → OnOk r P
 each_ok (Ok x) p = p
@@ -621,9 +632,10 @@ pub first_piece_leads : (shelf : Option DrainValue) (patch : PatchValue) (len co
 first_piece_leads None patch len count out next same piece behind = tt
 first_piece_leads (Some drain) patch len count out next same piece behind =
     let is : IsFirstPiece drain.patch len count out = subst (λ (p : PatchValue). IsFirstPiece p len count out) same piece in
-    let then_is : next ≡ behind_cells drain.patch count = behind ∙ ap (λ (p : PatchValue). behind_cells p count) same in
-    (record { written = count; within = is.within; more = first_more drain.patch count len out is; is = ap (λ (n : NextStep). Some n) then_is },
-    subst (HasWritten drain.patch) (sym then_is) (cells_written (count == length drain.patch.cells) drain.patch count refl is.within is.fit))
+    let then_is : next ≡ behind_cells drain.patch count = behind ∙ ap (λ (p : PatchValue). behind_cells p count) same in (
+      record { written = count; within = is.within; more = first_more drain.patch count len out is; is = ap (λ (n : NextStep). Some n) then_is },
+      subst (HasWritten drain.patch) (sym then_is) (cells_written (count == length drain.patch.cells) drain.patch count refl is.within is.fit),
+    )
   where
     first_more : (patch : PatchValue) (count len : ℕ) (out : List ℕ) → IsFirstPiece patch len count out → (0 < count) ⊎ (count ≡ length patch.cells)
     first_more patch count len out piece = elim (cases_lt 0 (length patch.cells)) [

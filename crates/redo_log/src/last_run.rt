@@ -43,8 +43,7 @@ fn ends_in(patch: &Patch, archive: u32, slot: u32, count: u32) -> bool
 {
     match patch.cells().last() {
         Some(cell) => {
-            cell.0.0 == archive
-                && u64::from(cell.0.1) + 1 == u64::from(slot) + u64::from(count)
+            cell.0.0 == archive && u64::from(cell.0.1) + 1 == u64::from(slot) + u64::from(count)
         }
         None => false,
     }

@@ -10,8 +10,8 @@ mod calling;
 mod entries;
 mod last_run;
 mod laws;
-mod log_calls;
 mod layout_reading;
+mod log_calls;
 mod next_step;
 mod numbers;
 mod piece;
@@ -19,11 +19,13 @@ mod reading;
 mod redo;
 mod redo_step;
 mod steps;
+#[cfg(test)]
+mod tests;
 
 pub use body::{PIECE_BYTES, body_len};
 pub use laws::a_body_has_one_patch;
 pub use log_calls::{GATE_NAME, LOG_NAME};
 pub use next_step::NextStep;
+pub use reading::{BodyFault, read_body};
 pub use redo::Redo;
 pub use redo_step::RedoStep;
-pub use reading::{BodyFault, read_body};

@@ -27,11 +27,12 @@ pub overflow_add-written : goal.overflow_add-written
 overflow_add-written g c = omega (arith, c.put_next_piece-piece.ensures.within, c.cells_are_few.ensures.few)
 
 pub returns-in-Ok-clause-ends : goal.returns-in-Ok-clause-ends
-returns-in-Ok-clause-ends g c =
-    (next_piece_put c.args.shelf.now c.args.name.now c.patch_of-patch.result.now c.args.written _ c.put_next_piece-piece.result.len c.put_next_piece-piece.result.cells c.put_next_piece-piece.new.out c.behind_cells.result _ _ c.requires.some
-    c.requires.named c.patch_of-patch.ensures c.requires.written (omega (arith, c.leading_len.ensures.value)) c.put_next_piece-piece.ensures c.behind_cells.ensures c.requires.ready c.in-Ok.ensures.ok,
-    next_piece_leads c.args.shelf.now c.patch_of-patch.result.now c.args.written c.put_next_piece-piece.result.len c.put_next_piece-piece.result.cells c.put_next_piece-piece.new.out c.behind_cells.result c.patch_of-patch.ensures c.requires.written
-    c.put_next_piece-piece.ensures c.behind_cells.ensures)
+returns-in-Ok-clause-ends g c = (
+  next_piece_put c.args.shelf.now c.args.name.now c.patch_of-patch.result.now c.args.written _ c.put_next_piece-piece.result.len c.put_next_piece-piece.result.cells c.put_next_piece-piece.new.out c.behind_cells.result _ _ c.requires.some
+      c.requires.named c.patch_of-patch.ensures c.requires.written (omega (arith, c.leading_len.ensures.value)) c.put_next_piece-piece.ensures c.behind_cells.ensures c.requires.ready c.in-Ok.ensures.ok,
+  next_piece_leads c.args.shelf.now c.patch_of-patch.result.now c.args.written c.put_next_piece-piece.result.len c.put_next_piece-piece.result.cells c.put_next_piece-piece.new.out c.behind_cells.result c.patch_of-patch.ensures c.requires.written
+      c.put_next_piece-piece.ensures c.behind_cells.ensures,
+)
 
 pub returns-in-Err-clause-ends : goal.returns-in-Err-clause-ends
 returns-in-Err-clause-ends g c =
