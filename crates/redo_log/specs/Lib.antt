@@ -5,3 +5,4 @@ pub mod LastRun
 pub mod Steps
 pub mod Ends
 pub mod Rows
+pub mod Arm

@@ -5,6 +5,7 @@
 //! gate is open: then a start lays it over the file of its path again.
 #![tactic(auto)]
 
+mod arming;
 mod body;
 mod calling;
 mod entries;
@@ -22,6 +23,7 @@ mod steps;
 #[cfg(test)]
 mod tests;
 
+pub use arming::arm;
 pub use body::{PIECE_BYTES, body_len};
 pub use laws::a_body_has_one_patch;
 pub use log_calls::{GATE_NAME, LOG_NAME};
