@@ -1,12 +1,12 @@
 -- Every body is told by its bytes, and bytes that are no body tell none.
-use Rattle.std.proofs.Common.{◌≡◌, ◌∙◌, ℕ, zero, suc, ℤ, ◌+◌, ◌-◌, ◌*◌, ◌/◌, ◌%◌, ◌<◌, ◌≤◌, ◌^◌, Bool, true, false, cond, ◌&&◌, ◌==◌, eqb, ltb, List, [], ◌∷◌, ◌++◌, length, take, drop, get_or, slice_get, Option, None, Some, option_map, inl, inr, refl, sym, ap, ap₂, subst, arith, append_assoc, length-append, length-take, length-drop, take-append-drop}
-use Rattle.std.specs.Prelude.{option_and_then, replicate, is_some, if◌then◌else◌, IfSome}
+use Rattle.std.proofs.Common.{◌≡◌, ◌∙◌, ℕ, ◌+◌, ◌*◌, ◌/◌, ◌%◌, ◌<◌, ◌≤◌, ◌^◌, Bool, true, false, cond, ◌&&◌, ◌==◌, eqb, ltb, List, [], ◌∷◌, ◌++◌, length, take, drop, get_or, slice_get, Option, None, Some, option_map, refl, sym, ap, ap₂, subst, arith, append_assoc, length-append, length-take, length-drop, take-append-drop}
+use Rattle.std.specs.Prelude.{option_and_then, replicate, is_some, if◌then◌else◌}
 use Rattle.std.specs.Int.{w64, to_be_bytes, from_be_bytes}
 use Rattle.std.specs.List.{list_all}
 use Rattle.std.proofs.Math.Seq.{take-add}
 use Rattle.std.proofs.lemmas.Bool.{and_parts, cond-true, cond-false, eq-eqb, eqb-true, ltb-false, ne_eqb}
 use Rattle.std.proofs.lemmas.Bool.Decides.{nat_tests}
-use Rattle.std.proofs.lemmas.List.{drop-drop, drop_at, take_at, length-replicate}
+use Rattle.std.proofs.lemmas.List.{drop-drop, drop_at, take_at}
 use Rattle.std.proofs.lemmas.Nat.{be_bytes_8, from_be_bytes-to_be_bytes_8}
 use Rattle.std.proofs.lemmas.Option.{slice_get-get_or}
 use Rattle.metric_path.specs.declared.path.PathFault.{PathFault}
@@ -16,14 +16,14 @@ use Rattle.ring_format.specs.declared.archive.Archive.{Archive}
 use Rattle.ring_format.specs.Head.{head_bytes, is_zero, number_at, number_bytes}
 use Rattle.ring_format.specs.Layout.{LayoutValue, layout_fault}
 use Rattle.ring_format.specs.LayoutFile.{head_size}
-use Rattle.ring_format.specs.Patch.{Cells as Laid, IsPlace, PatchValue}
+use Rattle.ring_format.specs.Patch.{Cells as Laid, PatchValue}
 use Rattle.ring_format.proofs.CellOrder.{no_cells as none_stand}
 use Rattle.ring_format.proofs.LawfulLayouts.{archive_bounds, lawful_count}
 use Rattle.ring_format.proofs.NumberLemmas.{IsBytes, length-number_bytes, number_at-written, number_bytes-read}
 use Rattle.redo_log.specs.Body.{AreCells, IsBody, IsSound, body_bytes, count_bytes, entries_bytes, entry_size, leading_bytes, numbers_bytes, numbers_size}
 use Rattle.redo_log.specs.Told.{body_told, cells_told, count_at, entries_told, fresh_told, is_nothing, layout_told, numbers_told, parts_told, patch_told, path_told}
 use Rattle.redo_log.specs.declared.numbers.Numbers.{Numbers}
-use Rattle.redo_log.proofs.BodyLemmas.{length-body, length-count_bytes, length-entries, length-head, length-leading, length-numbers}
+use Rattle.redo_log.proofs.BodyLemmas.{length-body, length-entries, length-head, length-leading, length-numbers}
 use Rattle.redo_log.proofs.CellLemmas.{cells_few}
 use Rattle.redo_log.proofs.EntryLaws.{IsLow, bytes_behind, bytes_front, cells_are_told, told_are_cells}
 use Rattle.redo_log.proofs.LayoutLaws.{layout_is_told, told_is_layout}

@@ -1,17 +1,12 @@
 -- How long the parts of a body are.
-use Rattle.std.proofs.Common.{◌≡◌, ◌∙◌, ℕ, zero, suc, ℤ, ◌+◌, ◌*◌, ◌<◌, ◌≤◌, ◌^◌, List, [], ◌∷◌, ◌++◌, length, take, drop, map, flat_map, refl, sym, ap, arith, All, append_assoc, Bool, length-append}
+use Rattle.std.proofs.Common.{◌≡◌, ◌∙◌, ℕ, ℤ, ◌+◌, ◌*◌, List, [], ◌∷◌, ◌++◌, length, refl, ap, arith, append_assoc, Bool, length-append}
 use Rattle.std.specs.Prelude.{if◌then◌else◌}
-use Rattle.std.specs.List.Sorted.{IsStrictlySortedBy}
-use Rattle.std.specs.Map.{keys_of}
-use Rattle.std.proofs.lemmas.List.{length-map}
 use Rattle.std.proofs.lemmas.List.Concat.{flat_map-cons}
-use Rattle.std.proofs.lemmas.List.Elements.{All-head, All-tail}
 use Rattle.std.proofs.lemmas.Grind.{flat_map-append}
 use Rattle.ring_format.specs.Head.{front_bytes, head_bytes, number_bytes, rows_bytes, rows_of}
-use Rattle.ring_format.specs.Layout.{LayoutValue, point_count}
+use Rattle.ring_format.specs.Layout.{LayoutValue}
 use Rattle.ring_format.specs.LayoutFile.{head_size}
-use Rattle.ring_format.specs.Patch.{Cells as Laid, IsPlace, PatchValue, place_cmp}
-use Rattle.ring_format.proofs.NumberLemmas.{length-number_bytes}
+use Rattle.ring_format.specs.Patch.{Cells as Laid, PatchValue}
 use Rattle.ring_format.proofs.RowLemmas.{length-rows_of}
 use Rattle.ring_format.proofs.WrittenHeads.{length-front_bytes, length-rows_bytes}
 use Rattle.redo_log.specs.Body.{body_bytes, count_bytes, entries_bytes, entry_bytes, entry_size, leading_bytes, numbers_bytes}

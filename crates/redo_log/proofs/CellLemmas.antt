@@ -1,6 +1,6 @@
 -- The cells of a body: how many there are, and how they are written and laid.
-use Rattle.std.proofs.Common.{◌≡◌, ◌≢◌, ◌∙◌, ℕ, zero, suc, ℤ, ◌+◌, ◌-◌, ◌*◌, ◌/◌, min, ◌<◌, ◌≤◌, ◌^◌, Bool, true, false, List, [], ◌∷◌, ◌++◌, length, take, drop, get_or, insert, slice_get, Option, None, Some, refl, sym, ap, subst, arith, All, append_assoc, length-append, length-take, is_gt, is_lt, Ordering, Less, Equal, Greater, nat_cmp, inl, inr}
-use Rattle.std.specs.List.{flat_map, range_with_len}
+use Rattle.std.proofs.Common.{◌≡◌, ◌∙◌, ℕ, suc, ℤ, ◌+◌, ◌-◌, ◌*◌, ◌/◌, min, ◌<◌, ◌≤◌, ◌^◌, true, List, [], ◌∷◌, ◌++◌, length, take, get_or, insert, slice_get, Option, Some, refl, sym, ap, subst, arith, All, append_assoc, length-append, length-take, is_gt, is_lt, Ordering, Less, Equal, Greater, inl, inr}
+use Rattle.std.specs.List.{flat_map}
 use Rattle.std.specs.Option.{option_map_or}
 use Rattle.std.specs.List.Sorted.{IsStrictlySortedBy}
 use Rattle.std.specs.Map.{keys_of}
@@ -15,9 +15,9 @@ use Rattle.std.proofs.lemmas.Option.{slice_get-get_or}
 use Rattle.ring_format.specs.Cell.{cell_bytes}
 use Rattle.ring_format.specs.Head.{number_bytes}
 use Rattle.ring_format.specs.Layout.{point_count}
-use Rattle.ring_format.specs.Patch.{Cells as Laid, IsPlace, PatchValue, PutsAt, cells_before, place_cmp, with_cell}
+use Rattle.ring_format.specs.Patch.{Cells as Laid, IsPlace, PatchValue, cells_before, place_cmp, with_cell}
 use Rattle.ring_format.proofs.CellOrder.{all_before, place_total, puts_at, same_default}
-use Rattle.write_shelf.specs.AreRuns.{AreRuns, IsCellRun, neighbours, places_in}
+use Rattle.write_shelf.specs.AreRuns.{AreRuns, IsCellRun, places_in}
 use Rattle.write_shelf.specs.Runs.{first_runs, last_runs, runs_of}
 use Rattle.write_shelf.specs.declared.run.Run.{Run}
 use Rattle.write_shelf.specs.declared.run.Run.TheVariants.{Create, Cells, Head}

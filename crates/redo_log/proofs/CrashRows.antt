@@ -1,13 +1,11 @@
 -- Each call of the disk but that of a run keeps to the row of its step.
-use Rattle.std.proofs.Common.{◌≡◌, ◌≢◌, ◌∙◌, ℕ, ◌<◌, Bool, true, false, cond, ◌==◌, List, [], ◌∷◌, length, Option, None, Some, IfSome, IsSomeAnd, refl, sym, ap, subst, arith}
-use Rattle.std.specs.Prelude.{⊤}
-use Rattle.outside_io.specs.Crash.{Follows, Only, OnlyKnown}
-use Rattle.outside_io.specs.Image.{Image, ChangesOnly, Creates, IsTorn, SameImage, Tears, WhereKnown, Writes}
+use Rattle.std.proofs.Common.{◌≡◌, ◌≢◌, ◌∙◌, ℕ, Bool, true, false, cond, ◌==◌, List, length, Option, None, Some, IfSome, refl, sym, subst}
+use Rattle.outside_io.specs.Crash.{Follows, OnlyKnown}
+use Rattle.outside_io.specs.Image.{Image, ChangesOnly, SameImage, Tears, WhereKnown}
 use Rattle.ring_format.specs.Patch.{PatchValue}
-use Rattle.write_shelf.specs.Shelf.{DrainValue, marked}
-use Rattle.redo_log.specs.Body.{body_bytes}
-use Rattle.redo_log.specs.Rows.{InRow, KeepsRings, LeavesBy, LeavesClosed, LeavesEither, LeavesOpen, MayLeave, goes_on}
-use Rattle.redo_log.specs.Steps.{IsClosed, IsGate, IsGateStep, IsOpen, IsReady, IsSyncStep, RedoValue, Stands, behind_cells, gate_name, is_run, log_name, on_way, with_next}
+use Rattle.write_shelf.specs.Shelf.{DrainValue}
+use Rattle.redo_log.specs.Rows.{InRow, KeepsRings, LeavesBy, LeavesClosed, LeavesEither, MayLeave, goes_on}
+use Rattle.redo_log.specs.Steps.{IsClosed, IsGate, IsGateStep, IsOpen, IsReady, IsSyncStep, Stands, behind_cells, gate_name, is_run, log_name, on_way, with_next}
 use Rattle.redo_log.specs.declared.next_step.NextStep.{NextStep}
 use Rattle.redo_log.specs.declared.next_step.NextStep.TheVariants.{CreateLog, FirstPiece, Piece, SyncBody, OpenGate, SyncOpen, Run, SyncRuns, CloseGate, SyncClose}
 use Rattle.redo_log.proofs.StepLemmas.{closed_is_gate, gate_is_no_log, gate_torn, log_is_no_gate, open_is_gate}

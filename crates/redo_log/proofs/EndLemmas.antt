@@ -1,5 +1,5 @@
 -- How a step of a redo ends, by how that of its patch did.
-use Rattle.std.proofs.Common.{◌≡◌, false, Option, None, Some, IfSome, refl, sym, subst}
+use Rattle.std.proofs.Common.{◌≡◌, false, Option, Some, IfSome, refl, sym, subst}
 use Rattle.outside_io.specs.Image.{Image}
 use Rattle.redo_log.specs.Ends.{RedoEnds, TakeEnds, rest_of}
 use Rattle.redo_log.specs.Rows.{GoesInRow, InRow}

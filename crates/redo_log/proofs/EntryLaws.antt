@@ -1,12 +1,11 @@
 -- The cells of a body are told by their bytes, and no others are.
-use Rattle.std.proofs.Common.{◌≡◌, ◌∙◌, ℕ, zero, suc, ℤ, ◌+◌, ◌-◌, ◌*◌, ◌<◌, ◌≤◌, ◌^◌, Bool, true, false, cond, ◌&&◌, nat_lt, List, [], ◌∷◌, ◌++◌, length, take, drop, get_or, slice_get, Option, None, Some, IfSome, option_map, refl, sym, ap, ap₂, subst, arith, All, append_assoc, length-append, length-take, length-drop, take-append-drop, is_lt, inl, inr, Ordering, Less, Equal, Greater}
+use Rattle.std.proofs.Common.{◌≡◌, ◌∙◌, ℕ, zero, suc, ℤ, ◌+◌, ◌-◌, ◌*◌, ◌<◌, ◌≤◌, ◌^◌, Bool, true, false, cond, ◌&&◌, nat_lt, List, [], ◌∷◌, ◌++◌, length, take, drop, get_or, slice_get, Option, None, Some, IfSome, option_map, refl, sym, ap, ap₂, subst, arith, All, append_assoc, length-append, length-take, length-drop, take-append-drop, is_lt, inl, inr, Less}
 use Rattle.std.specs.Prelude.{option_and_then}
 use Rattle.std.specs.Int.{w32, w128, from_be_bytes, cast_signed}
 use Rattle.std.specs.Option.{option_map_or}
 use Rattle.std.specs.List.Sorted.{IsStrictlySortedBy}
 use Rattle.std.specs.Map.{keys_of}
-use Rattle.std.proofs.Math.Seq.{take-add}
-use Rattle.std.proofs.lemmas.Bool.{and_parts, cases_Bool, cases_lt, cond-true, lt-ltb, ltb-true}
+use Rattle.std.proofs.lemmas.Bool.{and_parts, cases_lt, cond-true, lt-ltb, ltb-true}
 use Rattle.std.proofs.lemmas.List.Elements.{All-append}
 use Rattle.std.proofs.lemmas.List.{drop-drop, drop_at, take_at, get_or-drop, get_or-take, get_or_past, append-nil}
 use Rattle.std.proofs.lemmas.Map.Keys.{sorted_head, sorted_tail}
@@ -25,7 +24,7 @@ use Rattle.ring_format.proofs.NumberLemmas.{IsBytes, length-number_bytes, number
 use Rattle.ring_format.proofs.PatchLemmas.{keeps_places}
 use Rattle.redo_log.specs.Body.{AreCells, Fits, entries_bytes, entry_bytes, entry_size}
 use Rattle.redo_log.specs.Told.{cell_told, cells_and, cells_told, cells_with, comes_behind, has_place, place_told}
-use Rattle.redo_log.proofs.BodyLemmas.{entries_both, entries_first, entries_none, length-entries, length-entry_bytes}
+use Rattle.redo_log.proofs.BodyLemmas.{entries_first, entries_none, length-entry_bytes}
 use Rattle.redo_log.proofs.CellLemmas.{laid_last}
 
 pub bytes_behind : (n : ℕ) (bytes : List ℕ) → IsBytes bytes → IsBytes (drop n bytes)

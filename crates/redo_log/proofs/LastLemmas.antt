@@ -1,5 +1,5 @@
 -- Which run of a patch is its last one.
-use Rattle.std.proofs.Common.{◌≡◌, ◌≢◌, ◌∙◌, ℕ, zero, suc, ℤ, ◌+◌, ◌-◌, ◌<◌, ◌≤◌, Bool, true, false, not, ◌&&◌, ◌==◌, List, [], ◌∷◌, ◌++◌, length, map, get_or, slice_get, Option, None, Some, IfSome, inl, inr, refl, sym, ap, ap₂, subst, arith, All, append_assoc, append-nil, length-append, Ordering, Less, Equal, Greater}
+use Rattle.std.proofs.Common.{◌≡◌, ◌∙◌, ℕ, zero, suc, ℤ, ◌+◌, ◌-◌, ◌≤◌, Bool, true, false, not, ◌&&◌, ◌==◌, List, [], ◌∷◌, ◌++◌, length, map, get_or, slice_get, Option, None, Some, IfSome, refl, sym, ap, ap₂, subst, arith, All, append_assoc, append-nil, length-append, Less, Equal}
 use Rattle.std.specs.Prelude.{if◌then◌else◌}
 use Rattle.std.specs.List.{AllByRecursion, flat_map, range_with_len}
 use Rattle.std.specs.List.Sorted.{IsStrictlySortedBy}
@@ -14,7 +14,7 @@ use Rattle.std.proofs.lemmas.Option.{slice_get-get_or}
 use Rattle.ring_format.specs.LayoutFile.{file_size_of}
 use Rattle.ring_format.specs.Patch.{Cells as Laid, PatchValue, place_cmp}
 use Rattle.ring_format.proofs.CellOrder.{place_total}
-use Rattle.write_shelf.specs.AreRuns.{AreRuns, IsCellRun, neighbours, places_in}
+use Rattle.write_shelf.specs.AreRuns.{IsCellRun, neighbours, places_in}
 use Rattle.write_shelf.specs.Runs.{first_runs, last_runs, runs_in, runs_of}
 use Rattle.write_shelf.specs.Shelf.{ComesInTurn, DrainValue, IsBegun, IsRunOf, OfNext, next_run}
 use Rattle.write_shelf.specs.declared.run.Run.{Run}

@@ -1,9 +1,9 @@
 -- The layout of a body is told by its head, and no other is.
-use Rattle.std.proofs.Common.{◌≡◌, ◌∙◌, ℕ, zero, suc, ◌+◌, ◌-◌, ◌*◌, ◌<◌, ◌≤◌, ◌^◌, Bool, true, false, cond, not, ◌&&◌, eqb, leb, ltb, min, List, [], ◌∷◌, ◌++◌, length, take, drop, get_or, Option, None, Some, Result, Ok, Err, inl, inr, refl, sym, ap, ap₂, subst, arith, append_assoc, length-append, length-take, length-drop, take-append-drop, take_all}
-use Rattle.std.specs.Prelude.{replicate, nat_lt, nat_le}
-use Rattle.std.proofs.lemmas.Bool.{and_parts, cases_lt, cond-true, cond-false, eqb-true, le-leb, leb-true}
+use Rattle.std.proofs.Common.{◌≡◌, ◌∙◌, ℕ, zero, suc, ◌+◌, ◌-◌, ◌*◌, ◌<◌, ◌≤◌, ◌^◌, Bool, true, false, cond, not, ◌&&◌, eqb, leb, ltb, min, List, [], ◌∷◌, ◌++◌, length, take, drop, get_or, Option, None, Some, Result, Ok, Err, inr, refl, sym, ap, ap₂, subst, arith, append_assoc, length-append, length-take, length-drop, take_all}
+use Rattle.std.specs.Prelude.{replicate}
+use Rattle.std.proofs.lemmas.Bool.{and_parts, cond-true, cond-false, eqb-true, le-leb, leb-true}
 use Rattle.std.proofs.lemmas.Bool.Decides.{nat_tests}
-use Rattle.std.proofs.lemmas.List.{drop_at, take_at, take-take, take-append-le, length-replicate}
+use Rattle.std.proofs.lemmas.List.{take_at, take-take, take-append-le, length-replicate}
 use Rattle.ring_format.specs.declared.archive.Archive.{Archive}
 use Rattle.ring_format.specs.declared.fault.HeadFault.{HeadFault}
 use Rattle.ring_format.specs.Head.{count_in, first_word, front_bytes, head_bytes, head_result, last_retention, number_at, number_bytes, row_bytes, rows_bytes, rows_of}

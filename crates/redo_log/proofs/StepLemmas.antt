@@ -1,21 +1,21 @@
 -- What a call of the disk makes of what a redo needs of it.
-use Rattle.std.proofs.Common.{◌≡◌, ◌≢◌, ◌∙◌, ◌⊎◌, ℕ, zero, suc, ◌+◌, ◌-◌, ◌*◌, ◌<◌, ◌≤◌, Bool, true, false, cond, ◌&&◌, ◌==◌, eqb, List, [], ◌∷◌, ◌++◌, length, take, drop, map, get_or, slice_get, All, Option, None, Some, IfSome, IsSomeAnd, Result, Ok, Err, inl, inr, refl, sym, ap, ap₂, subst, arith, append_assoc, length-append, length-take, take-append-drop, take_all}
-use Rattle.std.specs.Prelude.{⊤, option_map, replicate, codes, OnOk, OnErr}
+use Rattle.std.proofs.Common.{◌≡◌, ◌≢◌, ◌∙◌, ◌⊎◌, ℕ, ◌+◌, ◌*◌, ◌<◌, ◌≤◌, Bool, true, false, cond, ◌&&◌, ◌==◌, List, [], ◌∷◌, ◌++◌, length, take, drop, map, get_or, slice_get, All, Option, None, Some, IfSome, IsSomeAnd, Result, Ok, Err, inl, inr, refl, sym, ap, subst, arith, append_assoc, length-append, length-take, take_all}
+use Rattle.std.specs.Prelude.{⊤, option_map, codes, OnOk, OnErr}
 use Rattle.std.proofs.Math.Seq.{take-add}
 use Rattle.std.proofs.lemmas.Bool.{cases_lt, eqb-true}
 use Rattle.std.proofs.lemmas.List.Elements.{All-append}
-use Rattle.std.proofs.lemmas.List.{drop_at, take_at, take-append-le, length-map, length-replicate, append-nil}
-use Rattle.outside_io.specs.Image.{Image, ChangesOnly, Creates, IsTorn, IsWithinFile, SameImage, Tears, WhereKnown, Writes, put_over}
+use Rattle.std.proofs.lemmas.List.{drop_at, take_at, length-map, length-replicate}
+use Rattle.outside_io.specs.Image.{Image, ChangesOnly, Creates, IsTorn, IsWithinFile, Tears, WhereKnown, Writes, put_over}
 use Rattle.outside_io.proofs.Ranges.{length-put_over}
 use Rattle.metric_path.specs.FileName.{file_name_of, slash_for_dot}
 use Rattle.ring_format.specs.Patch.{PatchValue}
-use Rattle.ring_writer.specs.PartWritten.{Awaits, AwaitsNext, ComesTo, FailsNext, RunTorn, RunWritten, WritesNext}
+use Rattle.ring_writer.specs.PartWritten.{Awaits, AwaitsNext, FailsNext, RunWritten, WritesNext}
 use Rattle.ring_writer.proofs.KnownLemmas.{known_more}
 use Rattle.write_shelf.specs.Shelf.{DrainValue, drain_with, marked}
 use Rattle.write_shelf.specs.declared.run.Run.{Run as ShelfRun}
 use Rattle.redo_log.specs.Body.{Fits, body_bytes, entries_bytes, entry_size, leading_bytes}
 use Rattle.redo_log.specs.Piece.{IsFirstPiece, IsNextPiece}
-use Rattle.redo_log.specs.Steps.{BeginsWith, Calls, Failed, HasFile, HasGate, HasLog, HasWritten, IsClosed, IsGate, IsGateStep, IsNamed, IsOpen, IsPieceOn, IsReady, IsSyncStep, Leads, PutsPiece, RedoValue, Stands, Taken, TearsPiece, Touches, behind_cells, behind_run, body_front, gate_name, is_run, log_name, on_way, with_next}
+use Rattle.redo_log.specs.Steps.{BeginsWith, Calls, Failed, HasWritten, IsClosed, IsGate, IsGateStep, IsNamed, IsOpen, IsReady, IsSyncStep, Leads, Stands, Taken, Touches, behind_cells, behind_run, body_front, gate_name, is_run, log_name, on_way, with_next}
 use Rattle.redo_log.specs.declared.next_step.NextStep.{NextStep}
 use Rattle.redo_log.specs.declared.next_step.NextStep.TheVariants.{CreateLog, FirstPiece, Piece, SyncBody, OpenGate, SyncOpen, Run, SyncRuns, CloseGate, SyncClose}
 use Rattle.redo_log.proofs.BodyLemmas.{entries_both, length-body, length-entries}

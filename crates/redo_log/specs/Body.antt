@@ -1,6 +1,6 @@
 -- The body of a patch: its bytes in the log, all numbers big-endian. The length of the path stands first, in four bytes, then 1 where the
 -- patch is fresh and else 0, in four, and the number of its cells, in eight; then the path, the head of a file of the layout, and the cells.
-use Rattle.std.specs.Prelude.{◌≡◌, ℕ, ◌+◌, ◌*◌, ◌<◌, ◌^◌, ℤ, None, List, ◌++◌, length, replicate, All, Option, Some, if◌then◌else◌}
+use Rattle.std.specs.Prelude.{◌≡◌, ℕ, ◌<◌, ◌^◌, ℤ, None, List, ◌++◌, length, replicate, All, Option, Some, if◌then◌else◌}
 use Rattle.std.specs.Int.{w64, to_be_bytes}
 use Rattle.std.specs.List.{flat_map}
 use Rattle.std.specs.List.Sorted.{IsStrictlySortedBy}

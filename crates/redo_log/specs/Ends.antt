@@ -2,7 +2,7 @@
 use Rattle.std.specs.Prelude.{◌≡◌, ℕ, List, [], ◌∷◌, Option, None, Some, IfSome}
 use Rattle.outside_io.specs.Image.{Image, WhereKnown}
 use Rattle.ring_format.specs.Patch.{PatchValue}
-use Rattle.redo_log.specs.Steps.{Failed, IsReady, Leads, RedoValue, Taken, on_way, with_next}
+use Rattle.redo_log.specs.Steps.{Failed, Leads, RedoValue, Taken, on_way, with_next}
 use Rattle.redo_log.specs.declared.next_step.NextStep.{NextStep}
 use Rattle.redo_log.specs.declared.next_step.NextStep.TheVariants.{CreateLog}
 use Rattle.redo_log.specs.declared.redo_step.RedoStep.{RedoStep}

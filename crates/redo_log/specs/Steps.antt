@@ -1,13 +1,12 @@
 -- A patch on its way through the log to its file, step by step: what each step does to the disk, and what stands there before it.
-use Rattle.std.specs.Prelude.{◌≡◌, ◌≢◌, ◌⊎◌, ℕ, suc, ◌+◌, ◌-◌, ◌*◌, ◌<◌, ◌≤◌, ◌==◌, Bool, true, false, ◌&&◌, ⊤, List, [], ◌∷◌, ◌++◌, length, take, drop, replicate, slice_get, All, Option, None, Some, IfSome, IsSome, IsSomeAnd, Result, Ok, Err, if◌then◌else◌, codes}
-use Rattle.std.specs.Option.{option_map_or}
+use Rattle.std.specs.Prelude.{◌≡◌, ◌≢◌, ◌⊎◌, ℕ, ◌<◌, ◌≤◌, ◌==◌, Bool, true, false, ◌&&◌, ⊤, List, [], ◌∷◌, ◌++◌, length, take, slice_get, All, Option, None, Some, IfSome, IsSomeAnd, Result, Ok, Err, if◌then◌else◌, codes}
 use Rattle.outside_io.specs.Image.{Image, ChangesOnly, Creates, SameImage, Tears, WhereKnown, Writes}
 use Rattle.outside_io.specs.declared.disk.DiskFailed.{DiskFailed}
 use Rattle.metric_path.specs.FileName.{file_name_of}
 use Rattle.ring_format.specs.Patch.{PatchValue}
-use Rattle.ring_writer.specs.PartWritten.{Awaits, AwaitsNext, FailsNext, WritesNext}
+use Rattle.ring_writer.specs.PartWritten.{Awaits, FailsNext, WritesNext}
 use Rattle.write_shelf.specs.Shelf.{DrainValue, marked}
-use Rattle.redo_log.specs.Body.{Fits, body_bytes, entries_bytes, entry_size, leading_bytes}
+use Rattle.redo_log.specs.Body.{Fits, body_bytes, entries_bytes, leading_bytes}
 use Rattle.redo_log.specs.declared.next_step.NextStep.{NextStep}
 use Rattle.redo_log.specs.declared.next_step.NextStep.TheVariants.{CreateLog, FirstPiece, Piece, SyncBody, OpenGate, SyncOpen, Run, SyncRuns, CloseGate, SyncClose}
 

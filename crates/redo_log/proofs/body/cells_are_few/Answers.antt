@@ -1,5 +1,4 @@
-use Rattle.std.proofs.Common.{◌≡◌, None, rules, arith, length, subst, List, ℕ, ap, ◌∙◌}
-use Rattle.metric_path.specs.Path.{path_fault}
+use Rattle.std.proofs.Common.{rules, arith, length, ap, ◌∙◌}
 use Rattle.metric_path.proofs.PathLemmas.{length_of_legal}
 use Rattle.redo_log.proofs.CellLemmas.{cells_few}
 use Rattle.redo_log.proofs.body.cells_are_few.Goals as goal

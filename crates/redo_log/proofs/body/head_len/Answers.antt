@@ -1,4 +1,4 @@
-use Rattle.std.proofs.Common.{◌∙◌, sym, rules, arith}
+use Rattle.std.proofs.Common.{arith}
 use Rattle.redo_log.proofs.BodyLemmas.{length-head}
 use Rattle.redo_log.proofs.body.head_len.Goals as goal
 

@@ -1,4 +1,4 @@
-use Rattle.std.proofs.Common.{◌≡◌, ◌∙◌, ℕ, length, ap, arith}
+use Rattle.std.proofs.Common.{◌∙◌, length, ap, arith}
 use Rattle.ring_format.specs.Layout.{LayoutValue}
 use Rattle.ring_format.specs.LayoutFile.{head_size}
 use Rattle.redo_log.proofs.BodyLemmas.{length-leading}

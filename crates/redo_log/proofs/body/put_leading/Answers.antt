@@ -1,4 +1,4 @@
-use Rattle.std.proofs.Common.{◌≡◌, ◌∙◌, List, ℕ, ◌++◌, take, length, ap, arith, rules}
+use Rattle.std.proofs.Common.{◌∙◌, List, ℕ, ◌++◌, take, length, ap, arith}
 use Rattle.ring_format.specs.Head.{head_bytes}
 use Rattle.ring_format.specs.Layout.{LayoutValue}
 use Rattle.redo_log.proofs.BodyLemmas.{leading_written, length-head, length-leading, numbers_are}

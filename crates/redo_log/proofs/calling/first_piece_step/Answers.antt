@@ -3,7 +3,7 @@ use Rattle.std.proofs.Common.{refl, subst, sym, Some, length, take}
 use Rattle.redo_log.specs.Rows.{InRow}
 use Rattle.redo_log.specs.Steps.{on_way, with_next}
 use Rattle.redo_log.specs.declared.next_step.NextStep.{NextStep}
-use Rattle.redo_log.specs.declared.next_step.NextStep.TheVariants.{FirstPiece, Piece}
+use Rattle.redo_log.specs.declared.next_step.NextStep.TheVariants.{FirstPiece}
 use Rattle.redo_log.proofs.CrashRows.{closed_first, first_closed, piece_row}
 use Rattle.redo_log.proofs.calling.first_piece_step.Goals as goal
 

@@ -1,10 +1,10 @@
-use Rattle.std.proofs.Common.{◌≡◌, ◌≤◌, ap, arith, length}
+use Rattle.std.proofs.Common.{◌≤◌, arith, length}
 use Rattle.redo_log.proofs.StepLemmas.{next_piece_leads, next_piece_put, next_piece_torn, next_piece_within, written_low}
 use Rattle.std.proofs.Common.{refl, subst, sym, Some, ◌+◌, ◌*◌, take}
 use Rattle.redo_log.specs.Rows.{InRow}
 use Rattle.redo_log.specs.Steps.{on_way, with_next}
 use Rattle.redo_log.specs.declared.next_step.NextStep.{NextStep}
-use Rattle.redo_log.specs.declared.next_step.NextStep.TheVariants.{FirstPiece, Piece}
+use Rattle.redo_log.specs.declared.next_step.NextStep.TheVariants.{Piece}
 use Rattle.redo_log.proofs.CrashRows.{closed_next, next_closed, piece_row}
 use Rattle.redo_log.proofs.calling.next_piece_step.Goals as goal
 

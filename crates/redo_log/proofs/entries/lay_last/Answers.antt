@@ -1,5 +1,4 @@
-use Rattle.std.proofs.Common.{◌≡◌, ◌∙◌, ap}
-use Rattle.ring_format.specs.Patch.{PatchValue}
+use Rattle.std.proofs.Common.{◌∙◌, ap}
 use Rattle.redo_log.proofs.CellLemmas.{laid_last}
 use Rattle.redo_log.proofs.entries.lay_last.Goals as goal
 

@@ -1,4 +1,4 @@
-use Rattle.std.proofs.Common.{◌≡◌, ◌∙◌, ◌+◌, ◌-◌, ◌*◌, drop, sym, ap, arith}
+use Rattle.std.proofs.Common.{◌∙◌, ◌+◌, ◌-◌, ◌*◌, drop, sym, ap, arith}
 use Rattle.ring_format.specs.Layout.{LayoutValue}
 use Rattle.ring_format.specs.Patch.{PatchValue}
 use Rattle.redo_log.specs.Body.{entry_size}

@@ -1,4 +1,3 @@
-use Rattle.std.proofs.Common.{◌∙◌, sym}
 use Rattle.redo_log.proofs.LastLemmas.{shelf_last}
 use Rattle.redo_log.proofs.last_run.is_last.Goals as goal
 

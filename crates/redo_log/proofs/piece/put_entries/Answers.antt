@@ -1,4 +1,4 @@
-use Rattle.std.proofs.Common.{◌≡◌, ◌∙◌, ◌+◌, ℕ, List, ◌++◌, take, length, refl, sym, ap, arith, append-nil, subst}
+use Rattle.std.proofs.Common.{◌≡◌, ◌∙◌, ◌+◌, ℕ, List, ◌++◌, take, sym, ap, arith, append-nil, subst}
 use Rattle.redo_log.specs.Body.{Fits}
 use Rattle.redo_log.proofs.BodyLemmas.{entries_none}
 use Rattle.redo_log.proofs.CellLemmas.{filled_all, filled_more, fit_more, fit_none}

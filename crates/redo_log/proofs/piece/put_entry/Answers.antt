@@ -1,4 +1,4 @@
-use Rattle.std.proofs.Common.{◌≡◌, ◌∙◌, ◌+◌, ℕ, ap, take, rules, arith}
+use Rattle.std.proofs.Common.{◌≡◌, ◌∙◌, ◌+◌, ℕ, ap, take, arith}
 use Rattle.redo_log.specs.Body.{entry_size}
 use Rattle.redo_log.proofs.CellLemmas.{entry_written}
 use Rattle.redo_log.proofs.piece.put_entry.Goals as goal

@@ -1,4 +1,4 @@
-use Rattle.std.proofs.Common.{◌∙◌, arith, sym}
+use Rattle.std.proofs.Common.{arith}
 use Rattle.std.proofs.lemmas.Result.{IfOk-weaker}
 use Rattle.redo_log.specs.Body.{IsBody}
 use Rattle.redo_log.proofs.BodyLaws.{body_is_told, told_is_body}
