@@ -8,3 +8,4 @@ pub mod StepLemmas
 pub mod LastLemmas
 pub mod CrashRows
 pub mod EndLemmas
+pub mod ReadyLemmas

@@ -25,7 +25,7 @@ mod tests;
 
 pub use arming::arm;
 pub use body::{PIECE_BYTES, body_len};
-pub use laws::a_body_has_one_patch;
+pub use laws::{a_body_has_one_patch, a_patch_that_was_put_is_ready};
 pub use log_calls::{GATE_NAME, LOG_NAME};
 pub use next_step::NextStep;
 pub use reading::{BodyFault, read_body};

@@ -70,6 +70,7 @@ impl Redo {
     pub fn step<D: Disk>(&mut self, disk: &mut D) -> RedoStep
         requires ready { IfSome self.old (λ redo. IfSome (D.image disk.old) (IsReady redo)) }
         ensures ends { RedoEnds result self.old self.new (D.image disk.old) (D.image disk.new) }
+        ensures ready { IfSome self.new (λ redo. IfSome (D.image disk.new) (IsReady redo)) }
         ensures row { IfSome self.old (λ redo. is_run redo.next ≡ false
             → InRow self.old (D.image disk.old) (D.may_leave disk.old)
             → InRow self.new (D.image disk.new) (D.may_leave disk.new)) }
