@@ -1,9 +1,18 @@
-//! A small body, worked out by hand.
+//! A small body and its way, worked out by hand.
+ghost use Rattle.std.specs.Prelude.{IfOk, IfSome};
+ghost use Rattle.outside_io.specs.Image.{Image};
+ghost use Rattle.redo_log.specs.Steps.{IsClosed, IsReady, gate_name};
 
+use crate::arming::arm;
 use crate::body::PIECE_BYTES;
+use crate::laws::a_patch_that_was_put_is_ready;
 use crate::piece::put_first_piece;
 use crate::reading::{BodyFault, read_body};
+use crate::redo::Redo;
+use crate::redo_step::RedoStep;
+use outside_io::{Disk, MemDisk};
 use ring_format::Patch;
+use ring_writer::every_drain_may_begin;
 use std::alloc::Global;
 use std::process::Abort;
 use std::test::Fail;
@@ -101,5 +110,73 @@ fn a_field_out_of_form_is_damaged(rt: HostRuntime) -> Result<(), Fail> {
 fn sixteen_zeros_are_the_body_of_nothing(rt: HostRuntime) -> Result<(), Fail> {
     assert!(rt; matches!(read_body(rt.alloc(), &ZEROS[..16]), Ok(None)));
     assert!(rt; is_damaged(rt.alloc(), &ZEROS[..15]) && is_damaged(rt.alloc(), &ZEROS));
+    Ok(())
+}
+
+// What a step does, and then the calls so far: creates, writes and syncs.
+const STEPS: [(RedoStep, [u64; 3]); 13] = [
+    // the log, the body, both on the device; the gate, on the device
+    (RedoStep::Run, [3, 0, 2]),
+    (RedoStep::Run, [3, 1, 2]),
+    (RedoStep::Run, [3, 1, 3]),
+    (RedoStep::Run, [3, 2, 3]),
+    (RedoStep::Run, [3, 2, 4]),
+    // the file, its cells, which are no neighbours, and its head
+    (RedoStep::Run, [4, 2, 4]),
+    (RedoStep::Run, [4, 3, 4]),
+    (RedoStep::Run, [4, 4, 4]),
+    (RedoStep::Run, [4, 5, 4]),
+    (RedoStep::Run, [4, 5, 5]),
+    // the gate
+    (RedoStep::Run, [4, 6, 5]),
+    (RedoStep::Finished, [4, 6, 6]),
+    (RedoStep::Nothing, [4, 6, 6]),
+];
+
+// The redo of the body's patch, if it is read.
+fn redo_by_hand(alloc: Global) -> Result<Redo, BodyFault>
+    ensures { IfOk result (λ redo. (image : Image) → IsClosed (image gate_name)
+        → IfSome redo (λ held. IsReady held image)) }
+{
+    let mut redo = Redo::empty();
+    let Some(patch) = read_body(alloc, &BODY)? else {
+        return Ok(redo);
+    };
+    if !patch.fresh() {
+        return Ok(redo);
+    }
+    let name = patch.path().file_name()?;
+    redo.put(patch, name);
+    a_patch_that_was_put_is_ready();
+    every_drain_may_begin();
+    Ok(redo)
+}
+
+// Takes the steps one after the other.
+fn assert_steps(rt: &impl Abort, mut redo: Redo, disk: &mut MemDisk)
+    requires { IfSome redo (λ held. IfSome (⟦<MemDisk as Disk>⟧.image disk.old) (IsReady held)) }
+{
+    for (end, [creates, writes, syncs]) in STEPS {
+        let done = redo.step(disk);
+        let calls = disk.calls();
+        assert!(rt;
+            done == end
+                && calls.creates == creates
+                && calls.writes == writes
+                && calls.syncs == syncs
+        );
+    }
+}
+
+#[test]
+fn a_patch_takes_one_call_a_step(rt: HostRuntime) -> Result<(), Fail> {
+    let mut disk = MemDisk::new(rt.alloc(), 1000);
+    let Ok(redo) = redo_by_hand(rt.alloc()) else {
+        return Ok(());
+    };
+    match arm(&mut disk) {
+        Ok(()) => assert_steps(&rt, redo, &mut disk),
+        Err(_) => assert!(rt; false, "it is not armed"),
+    }
     Ok(())
 }
