@@ -1,0 +1,96 @@
+//! The redo.
+ghost use Rattle.std.specs.Prelude.{◌≡◌, ◌<◌, false, IfSome, None, length, option_and_then, option_map, string_bytes};
+ghost use Rattle.metric_path.specs.FileName.{file_name_of};
+ghost use Rattle.outside_io.specs.Frames.{CountsFaults};
+ghost use Rattle.write_shelf.specs.Runs.{runs_of};
+ghost use Rattle.redo_log.specs.Ends.{RedoEnds, redo_with, rest_of};
+ghost use Rattle.redo_log.specs.Steps.{IsReady, is_run};
+ghost use Rattle.redo_log.specs.Rows.{InRow};
+ghost use Rattle.redo_log.specs.declared.redo_step.RedoStep.TheVariants.{DiskFault};
+
+use crate::redo_step::RedoStep;
+use crate::steps::Steps;
+use outside_io::Disk;
+use ring_format::Patch;
+use std::marker::Model;
+use write_shelf::Shelf;
+
+/// A patch on its way through the log to its file, one call of the disk a step: the log is created, the body is
+/// written, and both are brought to the device; then the gate is opened, the runs are written, and the gate is
+/// closed, each brought to the device before the next.
+#[derive(Drop)]
+pub struct Redo {
+    steps: Option<Steps>,
+}
+
+impl Model for Redo {
+    ghost use Rattle.std.specs.Prelude.{Option};
+    ghost use Rattle.redo_log.specs.Steps.{RedoValue};
+
+    ghost Value = { Option RedoValue };
+
+    ghost view = { λ a. a.steps };
+}
+
+impl Redo {
+    /// A redo without a patch.
+    pub fn empty() -> Redo
+        ensures { result ≡ None }
+    {
+        Redo { steps: None }
+    }
+
+    /// Puts a patch, with the name of its file, into an empty redo. A patch without runs leaves it empty.
+    pub fn put(&mut self, patch: Patch, name: String)
+        requires empty { self.old ≡ None }
+        requires named { string_bytes name ≡ file_name_of patch.path }
+        ensures value { self.new ≡ redo_with patch (string_bytes name) (runs_of patch) }
+        ensures few { length (runs_of patch) < 5000000 }
+    {
+        let mut shelf = Shelf::empty();
+        shelf.put(patch);
+        if shelf.patch().is_some() {
+            self.steps = Some(Steps::of(shelf, name));
+        }
+    }
+
+    /// The patch, or `None` where the redo is empty.
+    pub fn patch(&self) -> Option<&Patch>
+        ensures { option_map (λ patch. patch.now) result
+            ≡ option_and_then (λ redo. option_map (λ drain. drain.patch) redo.drain) self.now }
+    {
+        match &self.steps {
+            Some(steps) => Some(steps.patch()),
+            None => None,
+        }
+    }
+
+    /// Takes the next step, with one call of the disk. No memory is taken. After a failed call the redo is as it
+    /// was, and the step may be taken again.
+    pub fn step<D: Disk>(&mut self, disk: &mut D) -> RedoStep
+        requires ready { IfSome self.old (λ redo. IfSome (D.image disk.old) (IsReady redo)) }
+        ensures ends { RedoEnds result self.old self.new (D.image disk.old) (D.image disk.new) }
+        ensures ready { IfSome self.new (λ redo. IfSome (D.image disk.new) (IsReady redo)) }
+        ensures row { IfSome self.old (λ redo. is_run redo.next ≡ false
+            → InRow self.old (D.image disk.old) (D.may_leave disk.old)
+            → InRow self.new (D.image disk.new) (D.may_leave disk.new)) }
+        ensures frame { CountsFaults D.Disk disk.old disk.new (result ≡ DiskFault) }
+    {
+        let Some(mut steps) = self.steps.take() else {
+            return RedoStep::Nothing;
+        };
+        let end = steps.take(disk);
+        self.steps = rest_of(steps, end);
+        end
+    }
+}
+
+// What is left behind a step that ended so.
+fn rest_of(steps: Steps, end: RedoStep) -> Option<Steps>
+    ensures { result ≡ rest_of end steps }
+{
+    match end {
+        RedoStep::Finished => None,
+        RedoStep::Run | RedoStep::Nothing | RedoStep::DiskFault => Some(steps),
+    }
+}
