@@ -27,6 +27,8 @@ enum Sign {
     Right,
     // waited for by no one
     Unheard,
+    // one for each class, down at the start
+    Class(u32),
 }
 
 // A call that puts one flag up as it begins, and waits for another.
@@ -34,6 +36,14 @@ enum Sign {
 struct Meeting {
     tells: Sign,
     waits_for: Sign,
+}
+
+// One that waits for a flag.
+fn behind(waits_for: Sign) -> Meeting {
+    Meeting {
+        tells: Sign::Unheard,
+        waits_for,
+    }
 }
 
 // Two calls that meet: each goes on once the other has come so far.
@@ -70,6 +80,8 @@ enum LinkWaits {
     Never,
     // its first read
     Read(Meeting),
+    // the same, until a flag is up
+    Behind(Sign),
     // its first write
     Write(Meeting),
     // its first write, and the flag goes up once the reply was written
@@ -84,12 +96,13 @@ struct LinkCase {
     reply: &'static [u8],
 }
 
-// Which call of the disk of class 12 waits: its first write, or, over disks that a server left which drained a point of that class, the read behind
-// that of its file's head.
+// Which calls of the disks wait: the first writes of these classes; those of all classes, where each puts up the flag of its class, and that of class
+// 12 waits for that of class 15; or, over disks that a server left which drained a point of class 12, the read of that class behind that of its file's
+// head.
 #[derive(Clone, Copy)]
 enum DiskWaits {
-    Never,
-    Write(Meeting),
+    Writes(&'static [(u32, Meeting)]),
+    WritesInTurn,
     Read(Meeting),
 }
 
@@ -142,12 +155,23 @@ const NOT_FOUND: &[u8] = b"HTTP/1.1 404 Not Found\r\nContent-Length: 0\r\n\r\n";
 
 // ---- a run
 
+fn sixteen_flags(alloc: Global) -> Result<Vec<Flag>, AllocError> {
+    let mut flags = Vec::new(alloc);
+    for class in 0..16u32 {
+        let _ = class;
+        flags.push(Flag::new(alloc)?)?;
+    }
+    Ok(flags)
+}
+
 #[derive(Drop)]
 struct Flags {
     open: Flag,
     left: Flag,
     right: Flag,
     unheard: Flag,
+    // those of the classes
+    classes: Vec<Flag>,
 }
 
 impl Flags {
@@ -159,7 +183,15 @@ impl Flags {
             left: Flag::new(alloc)?,
             right: Flag::new(alloc)?,
             unheard: Flag::new(alloc)?,
+            classes: sixteen_flags(alloc)?,
         })
+    }
+
+    fn share_of(&self, class: u32) -> Result<Flag, AllocError> {
+        match self.classes.get(class as usize) {
+            Some(flag) => flag.share(),
+            None => self.unheard.share(),
+        }
     }
 
     fn share(&self, sign: Sign) -> Result<Flag, AllocError> {
@@ -168,6 +200,7 @@ impl Flags {
             Sign::Left => self.left.share(),
             Sign::Right => self.right.share(),
             Sign::Unheard => self.unheard.share(),
+            Sign::Class(class) => self.share_of(class),
         }
     }
 
@@ -210,6 +243,7 @@ fn link_of<R: Wait + Clock + Copy + Drop>(
     match case.waits {
         LinkWaits::Never => Ok(link),
         LinkWaits::Read(meeting) => Ok(link.reading_at(flags.gate(rt, meeting)?)),
+        LinkWaits::Behind(sign) => Ok(link.reading_at(flags.gate(rt, behind(sign))?)),
         LinkWaits::Write(meeting) => Ok(link.writing_at(flags.gate(rt, meeting)?)),
         LinkWaits::Replying(meeting, sign) => {
             let link = link.marking(case.reply.len(), flags.share(sign)?);
@@ -355,18 +389,58 @@ fn reading_disks<R: Clock + Drop>(
     disks
 }
 
-// The same with a write that waits.
-fn writing_disks<R: Clock + Drop>(
+// How the first write of a class waits, where it does.
+fn write_of(waits: DiskWaits, class: u32) -> Option<Meeting> {
+    match waits {
+        DiskWaits::Writes(writes) => writes
+            .iter()
+            .find(|(own, _)| *own == class)
+            .map(|(_, meeting)| *meeting),
+        DiskWaits::WritesInTurn => Some(in_turn(class)),
+        DiskWaits::Read(_) => None,
+    }
+}
+
+fn in_turn(class: u32) -> Meeting {
+    let waits_for = if class == 12 {
+        Sign::Class(15)
+    } else {
+        Sign::Open
+    };
+    Meeting {
+        tells: Sign::Class(class),
+        waits_for,
+    }
+}
+
+// The disk of a class, without files, whose first write may wait.
+fn disk_of<R: Clock + Copy + Drop>(
+    rt: R,
     alloc: Global,
-    mut disks: Vec<GateDisk<R>>,
-    gate: Gate<R>,
-) -> Vec<GateDisk<R>>
-    requires { vec_len disks ≡ 16 }
-    ensures { vec_len result ≡ 16 }
+    flags: &Flags,
+    class: u32,
+    waits: DiskWaits,
+) -> Result<GateDisk<R>, AllocError> {
+    let disk = GateDisk::new(MemDisk::new(alloc, 10_000_000));
+    match write_of(waits, class) {
+        Some(meeting) => Ok(disk.writing_at(flags.gate(rt, meeting)?)),
+        None => Ok(disk),
+    }
+}
+
+fn writing_disks<R: Clock + Copy + Drop>(
+    rt: R,
+    alloc: Global,
+    flags: &Flags,
+    waits: DiskWaits,
+) -> Result<Vec<GateDisk<R>>, AllocError>
+    ensures { IfOk result (λ disks. vec_len disks ≡ 16) }
 {
-    let disk = mem::replace(&mut disks[12], GateDisk::new(MemDisk::new(alloc, 0)));
-    disks[12] = disk.writing_at(gate);
-    disks
+    let mut disks = Vec::with_capacity(alloc, 16)?;
+    for class in 0..16u32 {
+        disks.push(disk_of(rt, alloc, flags, class, waits)?)?;
+    }
+    Ok(disks)
 }
 
 fn disks_of<R: Threads + Wait + Clock + Copy + Send + Sync + Drop>(
@@ -378,15 +452,11 @@ fn disks_of<R: Threads + Wait + Clock + Copy + Send + Sync + Drop>(
     ensures { IfOk result (λ disks. vec_len disks ≡ 16) }
 {
     match waits {
-        DiskWaits::Never => sixteen_disks(alloc),
-        DiskWaits::Write(meeting) => {
-            let gate = flags.gate(rt, meeting)?;
-            Ok(writing_disks(alloc, sixteen_disks(alloc)?, gate))
-        }
         DiskWaits::Read(meeting) => {
             let gate = flags.gate(rt, meeting)?;
             Ok(reading_disks(alloc, drained_disks(rt, alloc)?, gate))
         }
+        writes => writing_disks(rt, alloc, flags, writes),
     }
 }
 
@@ -457,7 +527,7 @@ fn assert_served<R: Threads + Wait + Abort + Clock + Copy + Send + Sync + Drop>(
 
 const ONE_LINE: ServerCase = ServerCase {
     words: "serve",
-    disk: DiskWaits::Never,
+    disk: DiskWaits::Writes(&[]),
     lines: &[LINE],
     http: &[],
     ports: PORTS,
@@ -471,7 +541,7 @@ fn one_line_is_served_and_drained(rt: HostRuntime) -> Result<(), Fail> {
 
 const NO_PORTS: ServerCase = ServerCase {
     words: "serve --receivers=1",
-    disk: DiskWaits::Never,
+    disk: DiskWaits::Writes(&[]),
     lines: &[],
     http: &[],
     ports: None,
@@ -486,7 +556,7 @@ fn a_server_without_ports_tells_so(rt: HostRuntime) -> Result<(), Fail> {
 const NO_LINKS: [ServerCase; 2] = [
     ServerCase {
         words: "serve",
-        disk: DiskWaits::Never,
+        disk: DiskWaits::Writes(&[]),
         lines: &[],
         http: &[],
         ports: PORTS,
@@ -494,7 +564,7 @@ const NO_LINKS: [ServerCase; 2] = [
     },
     ServerCase {
         words: "serve --line-port 1 --http-port=2 --links 3",
-        disk: DiskWaits::Never,
+        disk: DiskWaits::Writes(&[]),
         lines: &[],
         http: &[],
         ports: Some(Bound {
@@ -518,7 +588,7 @@ fn the_words_say_which_ports_are_opened_and_for_how_many_links(
 
 const ONE_WORKER: ServerCase = ServerCase {
     words: "serve --receivers 1 --renderers 1",
-    disk: DiskWaits::Never,
+    disk: DiskWaits::Writes(&[]),
     lines: &[
         LinkCase {
             brings: b"a.b 1 1700000000\n",
@@ -548,7 +618,7 @@ fn one_worker_of_each_kind_serves_all_links(rt: HostRuntime) -> Result<(), Fail>
 
 const TWO_RECEIVERS: ServerCase = ServerCase {
     words: "serve --receivers 2 --renderers 1",
-    disk: DiskWaits::Never,
+    disk: DiskWaits::Writes(&[]),
     lines: &[
         LinkCase {
             brings: b"a.b 1 1700000000\n",
@@ -573,7 +643,7 @@ fn two_receivers_read_at_once(rt: HostRuntime) -> Result<(), Fail> {
 
 const TWO_RENDERERS: ServerCase = ServerCase {
     words: "serve --receivers 1 --renderers 2",
-    disk: DiskWaits::Never,
+    disk: DiskWaits::Writes(&[]),
     lines: &[],
     http: &[
         LinkCase {
@@ -599,7 +669,7 @@ fn two_renderers_write_at_once(rt: HostRuntime) -> Result<(), Fail> {
 // The disk's first write goes on once the reply is written, which is written once that write has begun.
 const DRAINED_MEANWHILE: ServerCase = ServerCase {
     words: "serve",
-    disk: DiskWaits::Write(LEFT_MEETS),
+    disk: DiskWaits::Writes(&[(12, LEFT_MEETS)]),
     lines: &[LINE],
     http: &[LinkCase {
         brings: GET_NO_ROUTE,
@@ -615,9 +685,140 @@ fn the_drainer_writes_while_links_are_served(rt: HostRuntime) -> Result<(), Fail
     assert_served(&rt, rt.alloc(), &DRAINED_MEANWHILE)
 }
 
+// ---- two drainers
+
+// The link that brings nothing is there until the right flag is up.
+const OPEN_UNTIL_RIGHT: LinkCase = LinkCase {
+    brings: b"",
+    waits: LinkWaits::Behind(Sign::Right),
+    reply: b"",
+};
+
+// The first write of class 12 goes on once that of class 3 has begun. That is the third step of a drain that begins once the write of class 12 waits:
+// between two of them a drainer comes to class 12.
+const PASSED_OVER: ServerCase = ServerCase {
+    words: "serve --receivers 1 --drainers 2",
+    disk: DiskWaits::Writes(&[(12, LEFT_MEETS), (3, TELLS_RIGHT)]),
+    lines: &[LINE, LATE_LINE, OPEN_UNTIL_RIGHT],
+    http: &[],
+    ports: PORTS,
+    text: b"stored 2 replaced 0 full 0 drains 2\n",
+};
+
+#[test]
+fn a_drainer_passes_over_the_class_at_which_another_one_is(rt: HostRuntime) -> Result<(), Fail> {
+    assert_served(&rt, rt.alloc(), &PASSED_OVER)
+}
+
+// A line of class 12, and one of each other class, each once the write of the one before has begun. The last link is there until that of class 15
+// has.
+const LINES_IN_TURN: [LinkCase; 17] = [
+    LINE,
+    LinkCase {
+        brings: b"p.c 1 1700000000\n",
+        waits: LinkWaits::Behind(Sign::Class(12)),
+        reply: b"",
+    },
+    LinkCase {
+        brings: b"p.h 1 1700000000\n",
+        waits: LinkWaits::Behind(Sign::Class(0)),
+        reply: b"",
+    },
+    LinkCase {
+        brings: b"p.e 1 1700000000\n",
+        waits: LinkWaits::Behind(Sign::Class(1)),
+        reply: b"",
+    },
+    LinkCase {
+        brings: b"p.b 1 1700000000\n",
+        waits: LinkWaits::Behind(Sign::Class(2)),
+        reply: b"",
+    },
+    LinkCase {
+        brings: b"p.o 1 1700000000\n",
+        waits: LinkWaits::Behind(Sign::Class(3)),
+        reply: b"",
+    },
+    LinkCase {
+        brings: b"p.d 1 1700000000\n",
+        waits: LinkWaits::Behind(Sign::Class(4)),
+        reply: b"",
+    },
+    LinkCase {
+        brings: b"p.a 1 1700000000\n",
+        waits: LinkWaits::Behind(Sign::Class(5)),
+        reply: b"",
+    },
+    LinkCase {
+        brings: b"p.n 1 1700000000\n",
+        waits: LinkWaits::Behind(Sign::Class(6)),
+        reply: b"",
+    },
+    LinkCase {
+        brings: b"p.k 1 1700000000\n",
+        waits: LinkWaits::Behind(Sign::Class(7)),
+        reply: b"",
+    },
+    LinkCase {
+        brings: b"p.p 1 1700000000\n",
+        waits: LinkWaits::Behind(Sign::Class(8)),
+        reply: b"",
+    },
+    LinkCase {
+        brings: b"p.m 1 1700000000\n",
+        waits: LinkWaits::Behind(Sign::Class(9)),
+        reply: b"",
+    },
+    LinkCase {
+        brings: b"p.j 1 1700000000\n",
+        waits: LinkWaits::Behind(Sign::Class(10)),
+        reply: b"",
+    },
+    LinkCase {
+        brings: b"p.l 1 1700000000\n",
+        waits: LinkWaits::Behind(Sign::Class(11)),
+        reply: b"",
+    },
+    LinkCase {
+        brings: b"p.i 1 1700000000\n",
+        waits: LinkWaits::Behind(Sign::Class(13)),
+        reply: b"",
+    },
+    LinkCase {
+        brings: b"p.f 1 1700000000\n",
+        waits: LinkWaits::Behind(Sign::Class(14)),
+        reply: b"",
+    },
+    LinkCase {
+        brings: b"",
+        waits: LinkWaits::Behind(Sign::Class(15)),
+        reply: b"",
+    },
+];
+
+// The first write of class 12 goes on once that of class 15 has begun; by then the drains of the other classes have ended. Each link has a receiver:
+// where a drainer stands still all of them wait at once.
+const OTHERS_DRAINED: ServerCase = ServerCase {
+    words: "serve --receivers 17 --drainers 2",
+    disk: DiskWaits::WritesInTurn,
+    lines: &LINES_IN_TURN,
+    http: &[],
+    ports: PORTS,
+    text: b"stored 16 replaced 0 full 0 drains 16\n",
+};
+
+#[test]
+fn one_drainer_drains_all_other_classes_while_another_waits_for_a_disk(
+    rt: HostRuntime,
+) -> Result<(), Fail> {
+    assert_served(&rt, rt.alloc(), &OTHERS_DRAINED)
+}
+
+// ---- puts beside a disk that waits
+
 const PUT_BESIDE_A_WRITE: ServerCase = ServerCase {
     words: "serve --receivers 1",
-    disk: DiskWaits::Write(LEFT_MEETS),
+    disk: DiskWaits::Writes(&[(12, LEFT_MEETS)]),
     lines: &[LINE, LATE_LINE, BEHIND_LATE],
     http: &[],
     ports: PORTS,
@@ -657,7 +858,7 @@ const BROWSED_REPLIES: &[u8] =
 // A link whose requests are read once the one line of another link is being drained.
 const BROWSED_LINK: ServerCase = ServerCase {
     words: "serve",
-    disk: DiskWaits::Write(TELLS_LEFT),
+    disk: DiskWaits::Writes(&[(12, TELLS_LEFT)]),
     lines: &[LINE],
     http: &[LinkCase {
         brings: BROWSED,
