@@ -11,6 +11,7 @@ over it, again and again. Its answers a second are counted while there is no hos
   bodies     POSTs whose body never comes, on half of the renderers
   silent     10,000 connections that say nothing, on all other renderers and in the port's queue
 
+A connection that the daemon closes while nothing is asked over it, since others wait, is opened anew by the well-behaved client, as clients do.
 A hostile client that works is stopped and let go on by turns, half a second each, and the well-behaved one's answers are counted in each: so what else
 runs on the machine meets both alike. Where the hostile one only waits, its connections are opened and closed by turns. Printed are the mean of the
 turns and how much of the answers' speed is left, and for how long the daemon, the hostile client and the other one had a processor, for each second of
@@ -62,19 +63,28 @@ def seconds(pid):
 
 
 class Calm:
-    """The well-behaved client."""
+    """The well-behaved client. A connection that the daemon closed between two answers it opens anew, as clients do."""
 
     def __init__(self, port, daemon):
         self.link = http.client.HTTPConnection("127.0.0.1", port, timeout=60)
         self.daemon = daemon
+        self.reopened = 0
         self.ask()
 
     def ask(self):
-        self.link.request("GET", "/render?target=calm.n7&from=-60min&format=raw")
-        reply = self.link.getresponse()
-        body = reply.read()
+        try:
+            reply, body = self.asked()
+        except (http.client.RemoteDisconnected, ConnectionError):
+            self.link.close()
+            self.reopened += 1
+            reply, body = self.asked()
         if reply.status != 200 or not body.startswith(b"calm.n7,"):
             sys.exit("another answer: %d %r" % (reply.status, body[:200]))
+
+    def asked(self):
+        self.link.request("GET", "/render?target=calm.n7&from=-60min&format=raw")
+        reply = self.link.getresponse()
+        return reply, reply.read()
 
     def turn(self, length=TURN):
         """Answers a second for so long."""
@@ -221,7 +231,7 @@ def main():
         by_turns("long heads", calm, port, long_heads, max(requests // 100, 2_000))
         while_open("bodies", calm, port, bodies, RENDERERS // 2, 10, 0.5)
         while_open("silent", calm, port, silent, 10_000, 5, 2)
-        print("most memory held: %.0f MiB" % held(process.pid, "VmHWM"))
+        print("most memory held: %.0f MiB; the well-behaved client opened its connection anew %d times" % (held(process.pid, "VmHWM"), calm.reopened))
         begun = time.time()
         for k in range(METRICS):
             link = http.client.HTTPConnection("127.0.0.1", port, timeout=100)
