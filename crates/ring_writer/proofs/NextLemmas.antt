@@ -1,19 +1,21 @@
 -- The next run of a shelf over the file of a name.
 use Rattle.std.proofs.Common.{◌≡◌, ◌≢◌, ◌∙◌, ℕ, ◌*◌, Bool, true, false, List, [], ◌∷◌, ◌++◌, length, take, drop, Option, None, Some, IfSome, IsSomeAnd, slice_get, refl, sym, ap, subst, arith}
 use Rattle.std.specs.Prelude.{⊤, option_map, replicate, Result, Ok, Err, OnErr, IsErr}
+use Rattle.outside_io.specs.Crash.{Crashes}
 use Rattle.outside_io.specs.Image.{Image, ChangesOnly, Creates, IsTorn, Tears, WhereKnown, Writes, put_over}
 use Rattle.ring_format.specs.Layout.{layout_fault}
 use Rattle.ring_format.specs.Patch.{PatchValue}
 use Rattle.ring_format.specs.Cell.{cell_size}
-use Rattle.ring_archive.specs.Ring.{IsRingFile, OnFile, ReadsAs, UnderPatch}
+use Rattle.ring_archive.specs.Ring.{IsRingFile, OnFile, ReadsAs, Rings, UnderPatch, cell_offset}
+use Rattle.ring_archive.proofs.AlikeLemmas.{aside_alike}
 use Rattle.write_shelf.specs.Runs.{runs_of}
-use Rattle.write_shelf.specs.Shelf.{ComesInTurn, DrainValue, IsBegun, IsFilled, IsRunOf, OfNext, StandsAt, drain_with, marked, next_run, run_bytes}
+use Rattle.write_shelf.specs.Shelf.{AreLaid, ComesInTurn, DrainValue, IsBegun, IsFilled, IsRunOf, OfNext, StandsAt, drain_with, marked, next_run, run_bytes}
 use Rattle.write_shelf.specs.declared.run.Run.{Run}
 use Rattle.write_shelf.specs.declared.run.Run.TheVariants.{Create, Cells, Head}
 use Rattle.write_shelf.proofs.BytesLemmas.{length-cells_bytes}
-use Rattle.ring_writer.specs.PartWritten.{Awaits, AwaitsNext, ComesTo, FailsNext, IsPartWritten, PutsRun, RunTorn, RunWritten, TearsRun, WritesNext}
+use Rattle.ring_writer.specs.PartWritten.{Awaits, AwaitsNext, ComesTo, CrashesNext, FailsNext, IsPartWritten, PutsRun, RunTorn, RunWritten, StaysRing, TearsRun, WritesNext}
 use Rattle.ring_writer.proofs.KnownLemmas.{known_more, known_then}
-use Rattle.ring_writer.proofs.PartLemmas.{FollowsOn, cells_failed, cells_written, file_made, head_failed, head_written, reads_on, ring_file_begun}
+use Rattle.ring_writer.proofs.PartLemmas.{FollowsOn, cells_agree, cells_failed, cells_written, file_made, head_failed, head_still, head_written, not_both, reads_on, ring_file_begun}
 
 -- what follows from an error, where there is one
 pub on_err_then : {T E : Type 0} {P : Type 0} (r : Result T E) → OnErr r P → IsErr r → P
@@ -269,6 +271,58 @@ next_not_created (Some drain) size name a b tells awaits only =
       exact = subst (λ (found : Option Run). IsSomeAnd found (TearsRun drain.patch name x y)) tells.is others;
       comes = create_fails drain drain.left size name x y (first_of drain (Create size) tells) (sym tells.is) others;
     }) a b awaits only
+
+-- ---- what a crash may leave of a call for the next run
+
+crashes_by : {D : Type 0} (may_leave : D → Image → Type 0) (moment : D → ℕ) (left_since : D → ℕ → Image → Type 0) (P Q : Image → Image → Type 0) (old new : D) → ((x y : Image) → P x y → Q x y)
+    → Crashes may_leave moment left_since P old new → Crashes may_leave moment left_since Q old new
+crashes_by may_leave moment left_since P Q old new more crash = record {
+  follows = λ left now. let step = crash.follows left now in (step.0, step.1, more step.0 left step.2);
+  time = crash.time;
+}
+
+-- of a ring file, with any bytes where those of a run of cells stand
+abbrev Stays : PatchValue → List ℕ → List ℕ → Type 0
+Stays patch old new = IsRingFile patch.layout new × ((rings : Rings) → ReadsAs patch old rings → ReadsAs patch new rings)
+
+cells_stay : (patch : PatchValue) (archive slot count : ℕ) (old new : List ℕ) → layout_fault patch.layout.archives patch.layout.factor ≡ None → AreLaid patch archive slot count → IsRingFile patch.layout old
+    → IsTorn old new (cell_offset 2 patch.layout.archives (archive, slot)) (length (run_bytes patch (Cells archive slot count))) → Stays patch old new
+cells_stay patch archive slot count old new lawful laid whole torn =
+    let long : length (run_bytes patch (Cells archive slot count)) ≡ cell_size * count = length-cells_bytes patch.cells archive slot count laid.laid in (
+      head_still patch archive slot count (length (run_bytes patch (Cells archive slot count))) old new laid torn whole,
+      λ rings reads. aside_alike patch old new rings lawful (cells_agree patch archive slot count (length (run_bytes patch (Cells archive slot count))) old new laid long torn whole) reads,
+    )
+
+stays_ring : (drain : DrainValue) (left : List Run) (name : List ℕ) (x y : Image) → IsFirst drain left → IsSomeAnd (slice_get left 0) (TearsRun drain.patch name x y) → drain.patch.fresh ≡ false
+    → IsSomeAnd (x name) (IsRingFile drain.patch.layout) → StaysRing drain.patch name x y
+stays_ring drain [] name x y first torn over whole = absurd (some_left drain first)
+stays_ring drain (Create size ∷ left) name x y first torn over whole = absurd (not_both first.sound.0 over)
+stays_ring drain (Cells archive slot count ∷ left) name x y first torn over whole =
+    let both = both_of (IsRingFile drain.patch.layout) (λ o n. IsTorn o n (cell_offset 2 drain.patch.layout.archives (archive, slot)) (length (run_bytes drain.patch (Cells archive slot count)))) (Stays drain.patch)
+    (λ o n p t. cells_stay drain.patch archive slot count o n first.lawful first.sound p t) (x name) (y name) whole torn.0 in
+    record {
+      whole = second (Stays drain.patch) (IsRingFile drain.patch.layout) (λ o n s. s.0) (x name) (y name) both;
+      reads = λ rings. moved (λ file. ReadsAs drain.patch file rings) (Stays drain.patch) (λ o n s. s.1 rings) (x name) (y name) both;
+    }
+stays_ring drain (Head ∷ left) name x y first torn over whole = absurd (not_both first.sound over)
+
+pub next_crashes : {D : Type 0} (may_leave : D → Image → Type 0) (moment : D → ℕ) (left_since : D → ℕ → Image → Type 0) (shelf : Option DrainValue) (run : Run) (n at : ℕ) (bytes name : List ℕ) (old new : D) → TellsNext shelf run → IsNoCreation run
+    → OfNext shelf (IsFilled n bytes) → OfNext shelf (StandsAt at) → Crashes may_leave moment left_since (λ x y. Tears x y name at (length (take n bytes))) old new → Crashes may_leave moment left_since (CrashesNext shelf name) old new
+next_crashes may_leave moment left_since None run n at bytes name old new tells other filled stands crash = absurd (tells.some refl)
+next_crashes may_leave moment left_since (Some drain) run n at bytes name old new tells other filled stands crash =
+    crashes_by may_leave moment left_since (λ x y. Tears x y name at (length (take n bytes))) (CrashesNext (Some drain) name) old new
+    (λ x y t.
+    let exact = first_torn drain.patch (slice_get drain.left 0) run n at bytes name x y tells.is (none_created run (slice_get drain.left 0) tells.is other) filled stands t in
+    record { exact = exact; stays = stays_ring drain drain.left name x y (first_of drain run tells) exact }) crash
+
+pub create_crashes : {D : Type 0} (may_leave : D → Image → Type 0) (moment : D → ℕ) (left_since : D → ℕ → Image → Type 0) (shelf : Option DrainValue) (size : ℕ) (name : List ℕ) (old new : D) → TellsNext shelf (Create size)
+    → Crashes may_leave moment left_since (λ x y. ChangesOnly x y name) old new → Crashes may_leave moment left_since (CrashesNext shelf name) old new
+create_crashes may_leave moment left_since None size name old new tells crash = absurd (tells.some refl)
+create_crashes may_leave moment left_since (Some drain) size name old new tells crash =
+    crashes_by may_leave moment left_since (λ x y. ChangesOnly x y name) (CrashesNext (Some drain) name) old new
+    (λ x y only.
+    let exact = subst (λ (found : Option Run). IsSomeAnd found (TearsRun drain.patch name x y)) tells.is only in
+    record { exact = exact; stays = stays_ring drain drain.left name x y (first_of drain (Create size) tells) exact }) crash
 
 -- ---- over several runs
 

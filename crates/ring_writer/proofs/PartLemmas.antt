@@ -28,7 +28,7 @@ use Rattle.ring_writer.proofs.ReadLemmas.{reads_same}
 use Rattle.ring_writer.proofs.RunLemmas.{aside_of, each_place, left_aside, none_laid, other_last, which}
 use Rattle.ring_writer.proofs.TornLemmas.{cell_there, cells_torn_aside, head_torn_aside, not_in_run, put_torn, run_bounds}
 
-not_both : {b : Bool} → b ≡ true → b ≡ false → ⊥
+pub not_both : {b : Bool} → b ≡ true → b ≡ false → ⊥
 not_both is other = true≢false (sym is ∙ other)
 
 -- the file with these runs left, and one that was there differs from the old one only where the patch
@@ -69,12 +69,12 @@ reads_on patch left old new rings lawful follows reads = reads_by _ patch old ne
 
 -- ---- a run of cells
 
-head_still : (patch : PatchValue) (archive slot count n : ℕ) (old new : List ℕ) → AreLaid patch archive slot count → IsTorn old new (cell_offset 2 patch.layout.archives (archive, slot)) n
+pub head_still : (patch : PatchValue) (archive slot count n : ℕ) (old new : List ℕ) → AreLaid patch archive slot count → IsTorn old new (cell_offset 2 patch.layout.archives (archive, slot)) n
     → IsRingFile patch.layout old → IsRingFile patch.layout new
 head_still patch archive slot count n old new laid torn whole =
     framed_ring patch.layout old new whole (torn_framed patch.layout old new (cell_offset 2 patch.layout.archives (archive, slot)) n (run_bounds patch archive slot count laid).0 torn)
 
-cells_agree : (patch : PatchValue) (archive slot count n : ℕ) (old new : List ℕ) → AreLaid patch archive slot count → n ≡ cell_size * count
+pub cells_agree : (patch : PatchValue) (archive slot count n : ℕ) (old new : List ℕ) → AreLaid patch archive slot count → n ≡ cell_size * count
     → IsTorn old new (cell_offset 2 patch.layout.archives (archive, slot)) n → IsRingFile patch.layout old → AgreeAside patch old new
 cells_agree patch archive slot count n old new laid long torn whole = λ place is none.
     stored_two patch.layout new place (head_still patch archive slot count n old new laid torn whole)

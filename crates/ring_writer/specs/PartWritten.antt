@@ -83,3 +83,23 @@ WritesNext shelf name before after = IfSome shelf (λ drain. RunWritten drain na
 
 abbrev pub FailsNext : Option DrainValue → List ℕ → Image → Image → Type 0
 FailsNext shelf name before after = IfSome shelf (λ drain. RunTorn drain name before after)
+
+-- ---- what a crash leaves
+
+-- the file stays a ring file of the patch's layout, and reads under the patch as it did
+pub record StaysRing (patch : PatchValue) (name : List ℕ) (before after : Image) : Type 0 where
+  pub whole : IsSomeAnd (after name) (IsRingFile patch.layout)
+  pub reads : (rings : Rings) → IsSomeAnd (before name) (λ file. ReadsAs patch file rings)
+      → IsSomeAnd (after name) (λ file. ReadsAs patch file rings)
+
+-- What a crash at any moment of a call for the next run leaves of what one before it might have
+-- left: any bytes where the run's were to be written, or anything or nothing under the name where
+-- the file was to be created, and nothing else changed. So a ring file that was there stays one.
+pub record RunCrashed (drain : DrainValue) (name : List ℕ) (before after : Image) : Type 0 where
+  pub exact : IsSomeAnd (slice_get drain.left 0) (TearsRun drain.patch name before after)
+  pub stays : drain.patch.fresh ≡ false → IsSomeAnd (before name) (IsRingFile drain.patch.layout)
+      → StaysRing drain.patch name before after
+
+-- the same of the drain on a shelf
+abbrev pub CrashesNext : Option DrainValue → List ℕ → Image → Image → Type 0
+CrashesNext shelf name before after = IfSome shelf (λ drain. RunCrashed drain name before after)

@@ -1,9 +1,10 @@
 //! Writing the runs of a shelf.
 ghost use Rattle.std.specs.Prelude.{◌≡◌, ◌≢◌, None, IfSome, IsErr, OnErr, OnOk};
+ghost use Rattle.outside_io.specs.Crash.{Crashes};
 ghost use Rattle.outside_io.specs.Frames.{CountsFaults};
 ghost use Rattle.outside_io.specs.Image.{WhereKnown};
 ghost use Rattle.ring_format.specs.Layout.{layout_fault};
-ghost use Rattle.ring_writer.specs.PartWritten.{AwaitsNext, FailsNext, WritesNext};
+ghost use Rattle.ring_writer.specs.PartWritten.{AwaitsNext, CrashesNext, FailsNext, WritesNext};
 
 use outside_io::{Disk, DiskFailed};
 use ring_format::RUN_BYTES;
@@ -20,6 +21,8 @@ pub fn write_run<D: Disk>(disk: &mut D, name: &str, shelf: &Shelf) -> Result<(),
         (WritesNext shelf.now name.now)) }
     ensures err { OnErr result (WhereKnown (D.image disk.old) (D.image disk.new)
         (FailsNext shelf.now name.now)) }
+    ensures crash { Crashes D.may_leave D.moment D.left_since (CrashesNext shelf.now name.now)
+        disk.old disk.new }
     ensures frame { CountsFaults D.Disk disk.old disk.new (IsErr result) }
 {
     patch_is_lawful(shelf);
