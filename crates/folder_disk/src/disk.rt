@@ -24,9 +24,10 @@ use std::time::Clock;
 /// zero bytes alone, as one that was being made when its process ended; and for a ring file of version 1 which was there, as it is, when
 /// `names` was called last, since a drain reads such a file and then makes it anew.
 ///
-/// The file of the last call stays open, so that calls for one file in a row open it once. Each call looks whether the name still leads to
-/// that file (it may do so through an inner folder that became a link meanwhile): where it was removed, renamed or replaced meanwhile the call fails, and so does a write behind the end of a file that was cut.
-/// The next call looks into the folder anew.
+/// The file of the last call stays open, so that calls for one file in a row open it once. Each write looks whether the name still leads to
+/// that file (it may do so through an inner folder that became a link meanwhile), and so does a read where the last look is a tenth of a
+/// second old: where it was removed, renamed or replaced meanwhile the call fails, and so does a read or a write behind the end of a file
+/// that was cut. The next call looks into the folder anew.
 ///
 /// `sync` brings to the device what this disk wrote and made since the last one, and the names of what it made with the folders on their way,
 /// from its own folder on. Where that is more than four files it goes over the whole folder. A file that was removed or replaced meanwhile

@@ -32,13 +32,6 @@ pub(crate) struct FolderFiles<R> {
     has_forgotten: bool,
 }
 
-// An open file, and how long it is.
-#[derive(Drop)]
-struct Taken {
-    file: OpenedFile,
-    length: u64,
-}
-
 impl<R: Clock> FolderFiles<R> {
     // The names are listed from now on.
     pub(crate) fn begin_list(&mut self) {
@@ -68,7 +61,9 @@ impl<R: Files<File = File> + AllocGlobal> FolderFiles<R> {
     pub(crate) fn path_of(&self, name: &str) -> Result<String, AllocError> {
         joined(&self.rt, self.folder.as_str(), name)
     }
+}
 
+impl<R: Files<File = File> + AllocGlobal + Clock> FolderFiles<R> {
     pub(crate) fn length(&self, name: &str) -> Result<Option<u64>, FileFault> {
         self.look_at_way(name)?;
         match self
@@ -86,28 +81,28 @@ impl<R: Files<File = File> + AllocGlobal> FolderFiles<R> {
     }
 
     pub(crate) fn read(&mut self, name: &str, at: u64, buf: &mut [u8]) -> Result<(), FileFault> {
-        let Taken { file, length: _ } = self.take(name, Access::Reading)?;
+        let mut file = self.take(name, Access::Reading)?;
+        file.look_again(&self.rt, self.links)?;
         file.read(at, buf)?;
         self.kept = Some(file);
         Ok(())
     }
 
     pub(crate) fn write(&mut self, name: &str, at: u64, piece: &[u8]) -> Result<(), FileFault> {
-        let Taken { file, length } = self.take(name, Access::Writing)?;
+        let mut file = self.take(name, Access::Writing)?;
+        let length = file.look(&self.rt, self.links)?;
         self.unsynced.note(&file, false);
         file.write(length, at, piece)?;
         self.kept = Some(file);
         Ok(())
     }
 
-    // The file that is open, where it serves; else this one, opened. Its name leads to it now. It is kept no more.
-    fn take(&mut self, name: &str, wanted: Access) -> Result<Taken, FileFault> {
-        let file = match self.kept.take() {
-            Some(file) if file.serves(name, wanted) => file,
-            _ => self.open(name, wanted)?,
-        };
-        let length = file.length_under_name(&self.rt, self.links)?;
-        Ok(Taken { file, length })
+    // The file that is open, where it serves; else this one, opened. It is kept no more.
+    fn take(&mut self, name: &str, wanted: Access) -> Result<OpenedFile, FileFault> {
+        match self.kept.take() {
+            Some(file) if file.serves(name, wanted) => Ok(file),
+            _ => self.open(name, wanted),
+        }
     }
 
     fn open(&self, name: &str, wanted: Access) -> Result<OpenedFile, FileFault> {

@@ -6,6 +6,10 @@ use std::io;
 use std::io::ErrorKind;
 use std::os::unix::fs::{FileExt, MetadataExt};
 use std::rt::Files;
+use std::time::{Clock, Duration, Instant};
+
+// For so long a look at the name of an open file serves the reads behind it.
+const LOOK_MILLIS: u64 = 100;
 
 // What an open file may be used for.
 #[derive(Clone, Copy, PartialEq, Eq)]
@@ -66,45 +70,51 @@ pub(crate) struct OpenedFile {
     access: Access,
     place: Place,
     file: File,
+    // when its name was looked at last, and led to it
+    looked: Option<Instant>,
 }
 
 impl OpenedFile {
     // Opens the plain file of this path, for reading and writing where the system lets it, else for what is wanted alone. What is no plain
-    // file is not opened: the open of a pipe would wait for its other end. Whether what was opened stands under the name itself, and not
-    // behind a link, `length_under_name` says.
-    pub(crate) fn open<R: Files<File = File>>(
+    // file is not opened: the open of a pipe would wait for its other end. What was opened has to be the file that stood under the name
+    // itself right before, and not one behind a link that came meanwhile.
+    pub(crate) fn open<R: Files<File = File> + Clock>(
         rt: &R,
         name: String,
         path: String,
         links: Links,
         wanted: Access,
     ) -> Result<OpenedFile, FileFault> {
-        let _plain = Place::of(&links.metadata_of(rt, path.as_str())?)?;
-        let mut options = OpenOptions::new();
-        options.read(true).write(true);
-        if let Ok(file) = options.open(rt, path.as_str()) {
-            return OpenedFile::of(name, path, Access::Both, file);
+        let looked = Instant::now(rt).ok();
+        let place = Place::of(&links.metadata_of(rt, path.as_str())?)?;
+        let (access, file) = opened_for(rt, path.as_str(), wanted)?;
+        let opened = OpenedFile::of(name, path, access, file, looked)?;
+        if opened.place != place {
+            return Err(FileFault::Replaced);
         }
-        options
-            .read(wanted == Access::Reading)
-            .write(wanted == Access::Writing);
-        let file = options.open(rt, path.as_str())?;
-        OpenedFile::of(name, path, wanted, file)
+        Ok(opened)
     }
 
     // Makes the file of this path, where nothing has the name.
-    pub(crate) fn create<R: Files<File = File>>(
+    pub(crate) fn create<R: Files<File = File> + Clock>(
         rt: &R,
         name: String,
         path: String,
     ) -> Result<OpenedFile, FileFault> {
         let mut options = OpenOptions::new();
         options.read(true).write(true).create_new(true);
+        let looked = Instant::now(rt).ok();
         let file = options.open(rt, path.as_str())?;
-        OpenedFile::of(name, path, Access::Both, file)
+        OpenedFile::of(name, path, Access::Both, file, looked)
     }
 
-    fn of(name: String, path: String, access: Access, file: File) -> Result<Self, FileFault> {
+    fn of(
+        name: String,
+        path: String,
+        access: Access,
+        file: File,
+        looked: Option<Instant>,
+    ) -> Result<Self, FileFault> {
         let place = Place::of(&file.metadata()?)?;
         Ok(OpenedFile {
             name,
@@ -112,6 +122,7 @@ impl OpenedFile {
             access,
             place,
             file,
+            looked,
         })
     }
 
@@ -131,6 +142,40 @@ impl OpenedFile {
 
     pub(crate) fn serves(&self, name: &str, wanted: Access) -> bool {
         self.name.as_str() == name && self.access.allows(wanted)
+    }
+
+    // Looks at the name, which has to lead to this file, where no look serves any more.
+    pub(crate) fn look_again(
+        &mut self,
+        rt: &(impl Files + Clock),
+        links: Links,
+    ) -> Result<(), FileFault> {
+        if self.is_looked_at(rt) {
+            return Ok(());
+        }
+        let _length = self.look(rt, links)?;
+        Ok(())
+    }
+
+    // Looks at the name, which has to lead to this file, and says how long that is now.
+    pub(crate) fn look(
+        &mut self,
+        rt: &(impl Files + Clock),
+        links: Links,
+    ) -> Result<u64, FileFault> {
+        self.looked = Instant::now(rt).ok();
+        self.length_under_name(rt, links)
+    }
+
+    // Whether the last look at the name serves a read.
+    fn is_looked_at(&self, rt: &impl Clock) -> bool {
+        let Some(looked) = self.looked else {
+            return false;
+        };
+        match looked.elapsed(rt) {
+            Ok(since) => since < Duration::from_millis(LOOK_MILLIS),
+            Err(_) => false,
+        }
     }
 
     // How long the file is now that stands under the name, which has to be this one.
@@ -206,6 +251,23 @@ pub(crate) fn sync_file<R: Files<File = File>>(
         return Err(FileFault::Replaced);
     }
     synced(&file)
+}
+
+// The file of a path, opened for reading and writing where the system lets it, else for what is wanted alone.
+fn opened_for<R: Files<File = File>>(
+    rt: &R,
+    path: &str,
+    wanted: Access,
+) -> io::Result<(Access, File)> {
+    let mut options = OpenOptions::new();
+    options.read(true).write(true);
+    if let Ok(file) = options.open(rt, path) {
+        return Ok((Access::Both, file));
+    }
+    options
+        .read(wanted == Access::Reading)
+        .write(wanted == Access::Writing);
+    Ok((wanted, options.open(rt, path)?))
 }
 
 // A plain file, opened as the system lets it.

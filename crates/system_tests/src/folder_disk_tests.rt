@@ -50,7 +50,7 @@ struct Story {
     told: &'static str,
 }
 
-const STORIES: [Story; 21] = [
+const STORIES: [Story; 22] = [
     Story {
         title: "no folder has no names",
         steps: &[Step::Names, Step::Length("c")],
@@ -257,10 +257,27 @@ const STORIES: [Story; 21] = [
             Step::Create("c", 4),
             Step::Put("d", "text"),
             Step::Rename("d", "c"),
+            Step::Wait(120),
             Step::Read("c", 0),
+            Step::Read("c", 0),
+            Step::Put("d", "more"),
+            Step::Rename("d", "c"),
+            Step::Write("c", 0, "xy"),
             Step::Read("c", 0),
         ],
-        told: "ok failed te ",
+        told: "ok failed te failed mo ",
+    },
+    Story {
+        title: "a file that is moved away while it is open is read no more a moment later",
+        steps: &[
+            Step::Create("c", 4),
+            Step::Rename("c", "d"),
+            Step::Wait(120),
+            Step::Read("c", 0),
+            Step::Read("c", 0),
+            Step::Read("d", 0),
+        ],
+        told: "ok failed failed \\0\\0 ",
     },
     Story {
         title: "a file that is moved away while it is open takes no more",
