@@ -40,6 +40,13 @@ impl LayoutList {
         }
     }
 
+    /// How many layouts there are.
+    pub(crate) fn len(&self) -> usize
+        ensures { result ≡ length self.now }
+    {
+        self.items.len()
+    }
+
     /// The layout with a number.
     pub(crate) fn get(&self, number: u32) -> &Layout
         requires { number < length self.now }

@@ -16,6 +16,3 @@ pub use found_metric::FoundMetric;
 pub use known::Known;
 pub use metric_index::{SearchedNames, Verdicts};
 pub use table::MetricTable;
-
-#[cfg(test)]
-mod tests;

@@ -153,6 +153,11 @@ impl MetricTable {
         self.index.width(alloc, glob, most)
     }
 
+    /// How many layouts are kept: one that several metrics have once, as long as few others came between.
+    pub fn layout_count(&self) -> usize {
+        self.layouts.len()
+    }
+
     /// The paths of all known metrics, in byte order.
     pub fn names(&self, alloc: Global) -> Result<Vec<MetricPath>, AllocError>
         ensures { IfOk result (λ names. names.items ≡ paths_of self.now) }

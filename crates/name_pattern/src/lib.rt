@@ -6,8 +6,6 @@ mod pattern;
 mod pattern_text;
 mod plain;
 mod substitution;
-#[cfg(test)]
-mod tests;
 
 pub use name_test::NameTest;
 pub use pattern::{Pattern, Search};

@@ -29,8 +29,6 @@ mod places;
 mod positions;
 mod states;
 mod tables;
-#[cfg(test)]
-mod tests;
 mod work;
 
 pub use fault::GlobFault;

@@ -1,4 +1,5 @@
-use super::*;
+// What is made ready of the patterns of questions.
+use name_pattern::PatternText;
 use std::alloc::Global;
 use std::process::Abort;
 use std::test::Fail;
@@ -6,8 +7,8 @@ use std::test::Fail;
 // Whether a pattern of a question is made ready.
 fn is_ready(alloc: Global, text: &str) -> Result<bool, Fail> {
     match PatternText::new(alloc, text)? {
-        Some(text) => return Ok(text.pattern(alloc).is_ok()),
-        None => return Ok(false),
+        Some(text) => Ok(text.pattern(alloc).is_ok()),
+        None => Ok(false),
     }
 }
 

@@ -1,5 +1,6 @@
-use super::*;
+// Searches with little work, and searches with long globs.
 use metric_path::MetricPath;
+use path_glob::*;
 use std::alloc::Global;
 use std::process::Abort;
 use std::test::Fail;
@@ -10,57 +11,71 @@ const LONG: &[u8] = b"{aaaaaaaaaa,bbbbbbbbbb,cccccccccc,*d}";
 // A node with long braces, whose six values are made ready as states of one word.
 const LONGER: &[u8] = b"{*aaaaaaaaaa,bbbbbbbbbb*,ccccc*ccccc,ddddd?ddddd,eeeeeeeeee[0-9],*d}";
 
-// How many of three questions for one path are answered so before the work is spent.
-fn answered(alloc: Global, glob: &[u8], work: u64, path: &[u8], fits: bool) -> Result<u32, Fail> {
-    let glob = Glob::new(alloc, glob)?;
-    let path = MetricPath::new(alloc, path)?;
-    let mut search = GlobSearch::new(alloc, &glob)?;
+// A glob, the work of a search, a path, whether the glob fits it, and how many of three questions for it are answered so
+// before the work is spent.
+type Row = (&'static [u8], u64, &'static [u8], bool, u32);
+
+const ROWS: [Row; 16] = [
+    (b"servers.*.cpu", 23, b"servers.web.cpu", true, 0),
+    (b"servers.*.cpu", 24, b"servers.web.cpu", true, 1),
+    (b"servers.*.cpu", 72, b"servers.web.cpu", true, 3),
+    (b"servers.*.cpu", 0, b"hosts.web.cpu", false, 3),
+    (b"servers.*.cpu", 51, b"servers.web", false, 3),
+    (b"web[0-9]", 22, b"web1", true, 0),
+    (b"web[0-9]", 23, b"web1", true, 1),
+    (LONG, 111, b"xd", true, 0),
+    (LONG, 112, b"xd", true, 1),
+    (LONG, 148, b"xd", true, 2),
+    (LONG, 184, b"xd", true, 3),
+    (LONG, 184, b"xe", false, 3),
+    (LONGER, 9925, b"xd", true, 0),
+    (LONGER, 9926, b"xd", true, 1),
+    (LONGER, 9938, b"xd", true, 3),
+    (LONGER, 9938, b"xe", false, 3),
+];
+
+fn count_answered(search: &mut GlobSearch<'_>, work: u64, path: &MetricPath, fits: bool) -> u32 {
     let mut work = Work::new(work);
     let mut answered = 0u32;
     for _ in 0..3 {
-        if search.matches(&mut work, &path).ok() == Some(fits) {
+        if search.matches(&mut work, path).ok() == Some(fits) {
             answered = answered.saturating_add(1);
         }
     }
-    Ok(answered)
+    answered
+}
+
+fn answered(alloc: Global, row: &Row) -> Result<u32, Fail> {
+    let glob = Glob::new(alloc, row.0)?;
+    let path = MetricPath::new(alloc, row.2)?;
+    let mut search = GlobSearch::new(alloc, &glob)?;
+    Ok(count_answered(&mut search, row.1, &path, row.3))
 }
 
 #[test]
 fn a_search_answers_while_its_work_lasts(rt: HostRuntime) -> Result<(), Fail> {
-    let rows: [(&[u8], u64, &[u8], bool, u32); 16] = [
-        (b"servers.*.cpu", 23, b"servers.web.cpu", true, 0),
-        (b"servers.*.cpu", 24, b"servers.web.cpu", true, 1),
-        (b"servers.*.cpu", 72, b"servers.web.cpu", true, 3),
-        (b"servers.*.cpu", 0, b"hosts.web.cpu", false, 3),
-        (b"servers.*.cpu", 51, b"servers.web", false, 3),
-        (b"web[0-9]", 22, b"web1", true, 0),
-        (b"web[0-9]", 23, b"web1", true, 1),
-        (LONG, 111, b"xd", true, 0),
-        (LONG, 112, b"xd", true, 1),
-        (LONG, 148, b"xd", true, 2),
-        (LONG, 184, b"xd", true, 3),
-        (LONG, 184, b"xe", false, 3),
-        (LONGER, 9925, b"xd", true, 0),
-        (LONGER, 9926, b"xd", true, 1),
-        (LONGER, 9938, b"xd", true, 3),
-        (LONGER, 9938, b"xe", false, 3),
-    ];
-    for (glob, work, path, fits, wanted) in rows {
-        assert_eq!(rt; answered(rt.alloc(), glob, work, path, fits)?, wanted);
+    for (at, row) in ROWS.iter().enumerate() {
+        assert!(rt; answered(rt.alloc(), row)? == row.4, "row {at}");
     }
     Ok(())
+}
+
+// Whether a search is refused with 111 of work, of which nothing is left then, and answers with 112.
+fn goes_on(search: &mut GlobSearch<'_>, path: &MetricPath) -> [bool; 3] {
+    let mut work = Work::new(111);
+    let is_refused = search.matches(&mut work, path).is_err();
+    let is_spent = work.left() == 0;
+    work = Work::new(112);
+    let fits = search.matches(&mut work, path).ok() == Some(true);
+    [is_refused, is_spent, fits]
 }
 
 #[test]
 fn a_search_goes_on_with_more_work(rt: HostRuntime) -> Result<(), Fail> {
     let glob = Glob::new(rt.alloc(), LONG)?;
     let path = MetricPath::new(rt.alloc(), b"xd")?;
-    let mut search = GlobSearch::new(rt.alloc(), &glob)?;
-    let mut work = Work::new(111);
-    assert!(rt; search.matches(&mut work, &path).is_err());
-    assert!(rt; work.left() == 0);
-    work = Work::new(112);
-    assert!(rt; search.matches(&mut work, &path).ok() == Some(true));
+    let found = goes_on(&mut GlobSearch::new(rt.alloc(), &glob)?, &path);
+    assert!(rt; found == [true; 3], "{found:?}");
     Ok(())
 }
 
@@ -97,12 +112,21 @@ fn agrees(alloc: Global, glob: &[u8], path: &[u8]) -> Result<bool, Fail> {
     Ok(search.matches(&mut work, &path).ok() == Some(glob.matches(&path)))
 }
 
+// How many of these paths are answered otherwise.
+fn count_others(alloc: Global, glob: &[u8], paths: &[&[u8]]) -> Result<u32, Fail> {
+    let mut others = 0u32;
+    for path in paths {
+        if !agrees(alloc, glob, path)? {
+            others = others.saturating_add(1);
+        }
+    }
+    Ok(others)
+}
+
 #[test]
 fn a_search_answers_as_its_glob_does(rt: HostRuntime) -> Result<(), Fail> {
-    for glob in LONG_GLOBS {
-        for path in NODES {
-            assert!(rt; agrees(rt.alloc(), glob, path)?);
-        }
+    for (at, glob) in LONG_GLOBS.iter().enumerate() {
+        assert!(rt; count_others(rt.alloc(), glob, &NODES)? == 0, "glob {at}");
     }
     Ok(())
 }
@@ -120,8 +144,7 @@ fn longest_glob(alloc: Global) -> Result<Vec<u8>, Fail> {
 #[test]
 fn the_longest_glob_is_held_against_the_longest_node(rt: HostRuntime) -> Result<(), Fail> {
     let glob = longest_glob(rt.alloc())?;
-    let node = vec![in rt.alloc(); b'a'; 240]?;
-    assert!(rt; agrees(rt.alloc(), &glob, &node)?);
-    assert!(rt; agrees(rt.alloc(), &glob, b"aw")?);
+    let node = [b'a'; 240];
+    assert!(rt; count_others(rt.alloc(), &glob, &[&node, b"aw"])? == 0);
     Ok(())
 }
