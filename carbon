@@ -1,12 +1,10 @@
-#!/usr/bin/env bash
-# Runs carbon with these words, on the caller's streams and in the caller's folder. `carbon build` proves the program and builds it. Where
-# that is not done, or a source has changed since, `carbon serve` does it first, and all else is answered from the sources with nothing
-# proved. What this script says itself stands on standard error.
-here=$(cd "$(dirname "$0")" && pwd) || exit 1
-out=$here/crates/carbon/out
-program=$out/carbon
-# stands there from the begin of a build to its end, and has the time of the begin
-begun=$out/begun
+#!/bin/bash
+# Runs carbon with these words, on the caller's streams and in the caller's folder: the program that is built, wherever this script was copied
+# or linked to. `carbon build` proves the program and builds it, and nothing else does. Where sources are newer than the program, standard error
+# says so, and the program is run as it was built. Where none is built `serve` is refused, and all else is answered from the sources with
+# nothing proved. What this script says itself stands on standard error, but for the help and the version. What runs a built program needs
+# nothing but bash, and readlink where this script is called by a link to it.
+VERSION=1.0
 
 # how many bytes of standard input `rt try` passes on, and how many seconds the program gets there
 TRY_BYTES=67108864
@@ -18,16 +16,83 @@ PACE=26
 BELOW=12
 # for how many seconds at most what listens for a line `stop` goes on behind the script
 LISTENS_FOR=2
+# where the program is not to be had
+NO_PROGRAM=127
 
 say() {
     echo "carbon: $*" >&2
 }
 
+# Finds the folder of this script, behind all links, and the program: the one that the caller names, that of the sources beside this script,
+# or that of an installation.
+find_program() {
+    local script=${BASH_SOURCE[0]} target
+    while [ -L "$script" ] && target=$(readlink "$script"); do
+        case $target in
+        /*) script=$target ;;
+        *) script=$(folder_of "$script")/$target ;;
+        esac
+    done
+    here=$(cd -P "$(folder_of "$script")" && pwd -P) || exit "$NO_PROGRAM"
+    out=$here/crates/carbon/out
+    # stands there from the begin of a build to its end, and has the time of the begin
+    begun=$out/begun
+    # the program that was there at that begin
+    before=$out/before
+    program=$CARBON_PROGRAM
+    [ -n "$program" ] && return
+    program=$out/carbon
+    [ -e "$begun" ] && [ -x "$before" ] && program=$before
+    [ -d "$here/crates" ] || program=${here%/*}/lib/carbon/carbon
+}
+
+folder_of() {
+    case $1 in
+    */*) printf '%s\n' "${1%/*}/" ;;
+    *) printf '.\n' ;;
+    esac
+}
+
+is_built() {
+    [ -f "$program" ] && [ -x "$program" ]
+}
+
+has_sources() {
+    [ -f "$here/crates.txt" ] && [ -d "$here/crates/carbon/src" ]
+}
+
+# Finds the sources that are newer than the program. A program from elsewhere is not compared with them.
+find_newer() {
+    newer=()
+    case $program in
+    "$out"/*) ;;
+    *) return ;;
+    esac
+    local file
+    shopt -s globstar nullglob
+    for file in "$here"/crates.txt "$here"/crates/*/{src,specs,proofs}/**/*.{rt,antt}; do
+        [ "$file" -nt "$program" ] && newer+=("${file#"$here"/}")
+    done
+    shopt -u globstar nullglob
+}
+
+# Whether a build has something to do.
 is_stale() {
-    { [ ! -x "$program" ] || [ -e "$begun" ]; } && return 0
-    newer=$(find "$here/crates.txt" "$here/crates" -name out -prune -o -type f -newer "$program" \
-        \( -name '*.rt' -o -name '*.antt' -o -name crates.txt \) -print | head -n 1)
-    [ -n "$newer" ]
+    is_built || return 0
+    [ -e "$begun" ] && return 0
+    find_newer
+    [ ${#newer[@]} -gt 0 ]
+}
+
+# Says what the program is not built from, and that it is run as it is.
+tell_newer() {
+    find_newer
+    case ${#newer[@]} in
+    0) ;;
+    1) say "newer than the program, which runs as it was built: ${newer[0]}; \`carbon build\` builds it anew" ;;
+    *) say "newer than the program, which runs as it was built: ${newer[0]} and $((${#newer[@]} - 1)) more; \`carbon build\` builds it anew" ;;
+    esac
+    [ "$program" != "$before" ] || say "a build was begun and has not ended: the program before it runs"
 }
 
 # Serves until it is told to stop. The server ends at a line `stop` on its standard input, and at its end, which comes when this script ends
@@ -240,7 +305,12 @@ build() {
     if ! flock -n 8; then
         say "another build is under way here; waiting for it"
         flock 8
+        find_program
         is_stale || return 0
+    fi
+    # what serves meanwhile
+    if [ -x "$out/carbon" ] && [ ! -e "$begun" ]; then
+        cp -p "$out/carbon" "$before" || return
     fi
     : >"$begun"
     : >"$out/build.log"
@@ -252,7 +322,7 @@ build() {
     status=$?
     trap - INT TERM HUP
     # a source that was changed meanwhile is newer than the begin
-    [ "$status" = 0 ] && touch -r "$begun" "$program" && rm "$begun"
+    [ "$status" = 0 ] && touch -r "$begun" "$out/carbon" && rm -f "$begun" "$before"
     exec 6<&- 7>&- 8>&-
     [ "$status" = 0 ] || show_failure || return
     say "built, in $(((SECONDS - started + 30) / 60)) minutes"
@@ -266,10 +336,14 @@ show_failure() {
     return 1
 }
 
-want_rt() {
+want_sources() {
+    if ! has_sources; then
+        say "there are no sources beside this script, in $here"
+        exit "$NO_PROGRAM"
+    fi
     if ! command -v rt >/dev/null 2>&1; then
-        say "the program is not built, and rt, the command of the Rattle kit, is not on PATH"
-        exit 127
+        say "rt, the command of the Rattle kit, is not on PATH"
+        exit "$NO_PROGRAM"
     fi
 }
 
@@ -322,14 +396,14 @@ end_try() {
 
 # Answers from the sources, with nothing proved.
 answer_unproved() {
+    want_sources
     now=-$READING ended=""
     read -r _ minutes _ < <(forecast)
-    why="nothing is built yet"
-    [ -x "$program" ] && why="the program is not built from the sources as they are now"
-    say "$why, so this answer is not from proved code: it takes about two minutes, in which rt compiles the sources with checks"
+    say "$1, so this answer is not from proved code: it takes about two minutes, in which rt compiles the sources with checks"
     say "\`$0 build\` proves and builds the program, from nothing in about $minutes minutes, and then answers come at once"
-    make_room || build_and_answer "main.rt does not name the program's folders as this script expects" "$@"
-    take_input "$@" || build_and_answer "the input is longer than the $TRY_BYTES bytes that rt takes" "$@"
+    shift
+    make_room || give_up "main.rt does not name the program's folders as this script expects"
+    take_input "$@" || give_up "the input is longer than the $TRY_BYTES bytes that rt takes"
     try_program "$@"
     status=$?
     if [ "$status" = 0 ] || grep -q '^run=ended ' "$room/said"; then
@@ -338,40 +412,224 @@ answer_unproved() {
         exit "$status"
     fi
     sed 's/^\(rt: \)*/carbon: rt: /' "$room/said" >&2
-    [ "$status" = 2 ] && build_and_answer "rt could not run the sources" "$@"
+    [ "$status" = 2 ] && give_up "rt could not run the sources"
     say "there is no answer; what was drained until then is in the files"
     exit 1
 }
 
-# Builds and answers on the input that was taken, and on what follows it.
-build_and_answer() {
-    say "$1: the program is built first"
-    shift
-    build || exit 1
-    if [ "$1" = script ]; then cat "$room/input" -; fi | "$program" "$@"
-    exit "${PIPESTATUS[1]}"
+give_up() {
+    say "$1; \`$0 build\` builds the program, which can answer this"
+    exit 1
+}
+
+# Answers from the sources as they are, whatever is built.
+try_sources() {
+    case $1 in
+    serve | "") give_up "from the sources alone nothing is served" ;;
+    *) answer_unproved "the sources are tried as they are" "$@" ;;
+    esac
 }
 
 build_alone() {
-    if [ $# -gt 1 ]; then
+    if [ $# -gt 0 ]; then
         say "build takes no more words"
         exit 2
     fi
+    CARBON_PROGRAM=
+    find_program
+    want_sources
     if ! is_stale; then
         say "the program is built, and no source has changed since"
         exit 0
     fi
-    want_rt
     build
     exit
 }
 
-[ "$1" = build ] && build_alone "$@"
-if is_stale; then
-    want_rt
-    [ "$1" = serve ] || answer_unproved "$@"
-    say "a daemon wants the built program, which is not there or not from the sources as they are now: it is built first"
-    build || exit 1
-fi
-[ "$1" = serve ] && serve "$@"
-exec "$program" "$@"
+# Runs the program that is built, as it is.
+run_program() {
+    tell_newer
+    [ "$1" = serve ] && serve "$@"
+    exec "$program" "$@"
+}
+
+refuse_to_serve() {
+    say "a daemon wants a built program, and $program is not there, or may not be run"
+    has_sources && say "\`$0 build\` proves the sources here and builds it; then start the daemon again"
+    exit "$NO_PROGRAM"
+}
+
+# What --help prints. The man page is made of these texts (packaging/man.py), in whose form they stand: a title, the usage, and then paragraphs and
+# lists, whose terms have two blanks before them and two or more behind.
+HELP='carbon - storage daemon and render API of Graphite, in one program
+
+Usage: carbon COMMAND [WORDS]
+       carbon help [COMMAND]
+
+carbon takes metric lines such as `servers.web01.load 0.42 1700000000`, keeps
+them in ring files, and draws series from them for dashboards. It runs in the
+folder in which it is started, and no second carbon runs there meanwhile.
+
+Commands:
+  serve [OPTIONS]     Take metric lines and answer HTTP until told to stop.
+  script [OPTIONS]    Run metric lines, questions and drains from standard
+                      input.
+  sample START COUNT  Run a script of COUNT metric lines, made from START.
+  build               Prove the sources, and build the program of them.
+  try COMMAND         Answer `script` or `sample` from the sources as they are,
+                      with nothing proved.
+  help [COMMAND]      Show this text, or that of a command. So does --help.
+  --version           Show the version, and where the program is.
+
+Files:
+  conf/storage-schemas.conf
+                      The archives of new metrics. Read at the start.
+  conf/storage-aggregation.conf
+                      Their methods and factors. Read at the start.
+  data                The ring files, data/CLASS/NAME.ring.
+
+Environment:
+  CARBON_PROGRAM      The program to run, in place of the one that is found:
+                      crates/carbon/out/carbon beside the launcher of a
+                      repository, ../lib/carbon/carbon beside any other.
+
+Exit status:
+  0                   All went well: all points are in the ring files.
+  1                   `build` or `try` failed.
+  2                   The words are no command.
+  3                   A rule file is refused.
+  4                   A ring file is damaged.
+  5                   A disk failed, at the start or in the drain at the end.
+  6                   Standard input could not be read.
+  7                   Something could not be written.
+  8                   Memory ran out.
+  9                   A port could not be had.
+  10                  What a run may take is spent.
+  12                  Another carbon runs in this folder, or over its data.
+  13                  There are too few file descriptors or threads.
+  127                 There is no program to run.'
+
+SERVE_HELP='carbon serve - take metric lines and answer HTTP until told to stop
+
+Usage: carbon serve [OPTIONS]
+
+Metric lines come over TCP in the plaintext protocol of Graphite; /render and
+the /metrics of its API are answered over HTTP. SIGTERM, SIGINT, SIGHUP or a
+line `stop` on standard input ends it: it takes what is still coming, drains
+all that is pending, and prints `stored S replaced R full F drains D`. SIGKILL
+to the program loses what is pending.
+
+Options:
+  --line-port P       The port of metric lines: 0 to 65535, 0 for any free one.
+                      [2003]
+  --http-port P       The port of HTTP, likewise. [8080]
+  --receivers N       Connections of metric lines at once: 1 to 256. [16]
+  --renderers N       Connections of HTTP at once: 1 to 256. [16]
+  --limit N           Pending points of each of sixteen classes: 1 to 10000000.
+                      [262144]
+  --order O           Which metric is drained next: sorted, naive, max or
+                      timesorted. [sorted]
+  --line-patience S   Seconds after which a silent connection of metric lines
+                      is closed: 0 to 86400, 0 for never. [900]
+  --links N           Connections after which each port closes: 0 to
+                      1000000000, 0 for never. For trials. [0]
+  --answer-bytes N    Bytes that one question may take: 1048576 to
+                      1099511627776. [268435456]
+  --drainers N        Threads that drain: 1 to 16. [1]
+  --pace N            Drains a second of each drainer: 0 to 1000000, 0 for as
+                      many as it can. [0]
+  --creates N         New ring files a second of each drainer: 0 to 1000000, 0
+                      for as many as it can. [0]'
+
+SCRIPT_HELP='carbon script - run metric lines, questions and drains from standard input
+
+Usage: carbon script [OPTIONS]
+
+A line that begins with `!` is a command, any other a metric line. `!clock N`
+sets the clock, `!ask QUERY` asks as /render does, `!drain` writes all that is
+pending. At the end of the input all is drained and a summary is printed. Until
+a program is built, the answer comes from the sources, with nothing proved.
+
+Options:
+  --limit N           Pending points of each of sixteen classes: 1 to 10000000.
+                      [262144]
+  --order O           Which metric is drained next: sorted, naive, max or
+                      timesorted. [sorted]'
+
+SAMPLE_HELP='carbon sample - run a script that is made from a number
+
+Usage: carbon sample START COUNT [OPTIONS]
+
+The script has COUNT metric lines of 100 metrics, 1 to 1000000, which are made
+from the number START, 0 to 9999999999. What its one question shows is printed,
+and the summary.
+
+Options:
+  --limit N           As of `script`.
+  --order O           As of `script`.'
+
+BUILD_HELP='carbon build - prove the sources, and build the program of them
+
+Usage: carbon build
+
+Wants the sources beside the launcher, and rt of the Rattle kit on PATH. From
+nothing it takes long, and says how long; what is proved is kept when it is
+broken off. The program that was built before serves meanwhile.'
+
+TRY_HELP='carbon try - answer from the sources as they are, with nothing proved
+
+Usage: carbon try script [OPTIONS]
+       carbon try sample START COUNT [OPTIONS]
+
+Wants the sources beside the launcher, and rt of the Rattle kit on PATH. It
+takes about two minutes, in which rt compiles the sources with checks.'
+
+help_on() {
+    case $1 in
+    "" | help | --help) printf '%s\n' "$HELP" ;;
+    serve) printf '%s\n' "$SERVE_HELP" ;;
+    script) printf '%s\n' "$SCRIPT_HELP" ;;
+    sample) printf '%s\n' "$SAMPLE_HELP" ;;
+    build) printf '%s\n' "$BUILD_HELP" ;;
+    try) printf '%s\n' "$TRY_HELP" ;;
+    *)
+        say "there is no command $1; \`carbon help\` names those that there are"
+        exit 2
+        ;;
+    esac || exit 7
+    exit 0
+}
+
+# Whether one of the words behind a command asks for help.
+wants_help() {
+    local word
+    for word in "$@"; do
+        [ "$word" = -- ] && return 1
+        [ "$word" = --help ] && return 0
+    done
+    return 1
+}
+
+tell_version() {
+    local found="no program is built"
+    is_built && found="program $program"
+    printf 'carbon %s\n%s\n' "$VERSION" "$found" || exit 7
+    is_built && tell_newer
+    exit 0
+}
+
+find_program
+# the help of a command stands where any of its words asks for it
+[ $# -gt 1 ] && wants_help "${@:2}" && help_on "$1"
+case $1 in
+--help | -h) help_on ;;
+help) help_on "$2" ;;
+--version) tell_version ;;
+build) build_alone "${@:2}" ;;
+try) try_sources "${@:2}" ;;
+*)
+    is_built && run_program "$@"
+    { [ "$1" = serve ] || ! has_sources; } && refuse_to_serve
+    answer_unproved "nothing is built yet" "$@"
+    ;;
+esac

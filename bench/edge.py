@@ -750,8 +750,6 @@ def lines_that_were_sent_before_the_stop_are_taken():
 
 @case
 def the_end_of_the_launcher_is_a_stop():
-    if is_stale():
-        raise Passed("the launcher would build the program first")
     for how in signal.SIGTERM, signal.SIGHUP, signal.SIGKILL:
         with serving(launched=True) as daemon:
             daemon.send(point("a.b", 7))
@@ -779,17 +777,6 @@ def is_there(pid):
     with contextlib.suppress(OSError), open("/proc/%d/stat" % pid) as file:
         return file.read().rpartition(")")[2].split()[0] != "Z"
     return False
-
-
-def is_stale():
-    """Whether a source is newer than the program, or a build of it was begun."""
-    top = os.path.dirname(LAUNCHER)
-    newest = os.path.getmtime(PROGRAM)
-    sources = [os.path.join(top, "crates.txt")]
-    for root, folders, files in os.walk(os.path.join(top, "crates")):
-        folders[:] = [name for name in folders if name != "out"]
-        sources += [os.path.join(root, name) for name in files if name.endswith((".rt", ".antt"))]
-    return os.path.exists(os.path.join(os.path.dirname(PROGRAM), "begun")) or any(os.path.getmtime(file) > newest for file in sources)
 
 
 def refuses(port):
