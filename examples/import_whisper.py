@@ -12,7 +12,8 @@ PREFIX, such as servers.web01, leaves out all metrics that do not begin with the
 makes a ring file of each Whisper file as it is, with its archives, its method, its factor and every value that Whisper finds in it, below
 FOLDER/data. FOLDER is the one in which carbon runs; carbon has to be stopped, and reads the files at its next start. The rule files have no say
 in these metrics, neither now nor later. A ring file that is there already is left as it is. Where root runs this the files belong to the owner
-of FOLDER/data, or else of FOLDER.
+of FOLDER/data, or else of FOLDER. It takes some 4 microseconds a point, so a large tree is best taken over by parts, several prefixes side by
+side.
 
     import_whisper.py --script --conf /var/lib/carbon/conf /var/lib/graphite/whisper | (cd /var/lib/carbon && carbon script)
 
@@ -154,9 +155,14 @@ def unlawful(layout):
 
 def thousandths(value):
     """A value in whole thousandths, rounded down, and whether that is exact; none where carbon has no such value."""
-    nearest = round(value * 1000) if abs(value) < 1e11 else None
-    if nearest is not None and nearest / 1000 == value:
-        return nearest, True
+    if -1e9 < value < 1e9:
+        product = value * 1000
+        below = math.floor(product)
+        # the product is off by less than a thousandth
+        if 0.001 < product - below < 0.999:
+            return below, False
+        if round(product) / 1000 == value:
+            return round(product), True
     if not math.isfinite(value):
         return None
     exact = decimal.Decimal(repr(value)) * 1000
@@ -457,7 +463,8 @@ class RingImporter(Importer):
         held = [folder] + [self.data] * os.path.isdir(self.data)
         self.locks = [os.open(place, os.O_RDONLY) for place in held]
         for lock in self.locks:
-            fcntl.flock(lock, fcntl.LOCK_EX | fcntl.LOCK_NB)
+            # carbon wants it for itself alone; imports go side by side
+            fcntl.flock(lock, fcntl.LOCK_SH | fcntl.LOCK_NB)
         self.owner = os.fstat(self.locks[-1])
 
     def take(self, path, data):
@@ -494,7 +501,10 @@ class RingImporter(Importer):
             missing.append(place)
             place = os.path.dirname(place)
         for place in reversed(missing):
-            os.mkdir(place)
+            try:
+                os.mkdir(place)
+            except FileExistsError:
+                continue  # another import made it
             self.give(place)
         # carbon follows no links below the folder of a class
         if os.path.realpath(folder) != os.path.join(os.path.realpath(top), os.path.relpath(folder, top)).removesuffix("/."):
