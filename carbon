@@ -33,7 +33,7 @@ find_program() {
         *) script=$(folder_of "$script")/$target ;;
         esac
     done
-    here=$(cd -P "$(folder_of "$script")" && pwd -P) || exit "$NO_PROGRAM"
+    here=$(CDPATH='' cd -P "$(folder_of "$script")" && pwd -P) || exit "$NO_PROGRAM"
     out=$here/crates/carbon/out
     # stands there from the begin of a build to its end, and has the time of the begin
     begun=$out/begun

@@ -73,11 +73,11 @@ class Tree:
         self.calls = os.path.join(place, "rt-calls")
         write(os.path.join(self.tools, "rt"), CALLED % self.calls, mode=0o755)
 
-    def run(self, *words, launcher=None, path=None, **more):
+    def run(self, *words, launcher=None, path=None, cwd="/", **more):
         """What comes of these words, and of a line `stop`: the status, and both streams."""
         environment = {"PATH": path if path is not None else self.tools + ":" + os.environ["PATH"], **more}
         command = [launcher or self.launcher, *words]
-        told = subprocess.run(command, input="stop\n", capture_output=True, text=True, env=environment, cwd="/", timeout=20)
+        told = subprocess.run(command, input="stop\n", capture_output=True, text=True, env=environment, cwd=cwd, timeout=20)
         return told.returncode, told.stdout, told.stderr
 
     def is_rt_called(self):
@@ -115,6 +115,10 @@ def links_of_every_kind_lead_to_the_program(tree):
         want(tree.run("script", launcher=os.path.join(links, name)), (3, "ran script\nheap none\n", ""), name)
     told = tree.run("script", launcher="whole", path=links + ":" + os.environ["PATH"])
     want(told, (3, "ran script\nheap none\n", ""), "found on PATH")
+    told = tree.run("script", launcher="bin/whole", cwd=tree.place, CDPATH=links)
+    want(told, (3, "ran script\nheap none\n", ""), "from the folder above, with a CDPATH")
+    told = tree.run("script", launcher="crates/../carbon", cwd=tree.place, CDPATH=tree.place)
+    want(told, (3, "ran script\nheap none\n", ""), "by a path from the folder, with a CDPATH")
 
 
 @in_tree()
