@@ -92,10 +92,16 @@ def check_content(package):
     print("content: %d files" % len(files))
 
 
-def setting(root, name):
-    """What the installed unit says."""
+def settings(root, name):
+    """What the installed unit says under this name."""
     with open(os.path.join(root, "usr/lib/systemd/system/carbon.service")) as file:
-        return re.search("^%s=(.*)$" % name, file.read(), re.MULTILINE)[1]
+        return re.findall("^%s=(.*)$" % name, file.read(), re.MULTILINE)
+
+
+def setting(root, name):
+    found = settings(root, name)
+    need(len(found) == 1, "the unit has %s once" % name)
+    return found[0]
 
 
 class Service:
@@ -104,12 +110,12 @@ class Service:
     def __init__(self, root, is_installed):
         begin, folder, user = setting(root, "ExecStart"), setting(root, "WorkingDirectory"), setting(root, "User")
         need(folder == "/var/lib/" + setting(root, "StateDirectory"), folder)
-        environment = [line.split("=", 1)[1] for line in open(os.path.join(root, "usr/lib/systemd/system/carbon.service")) if line.startswith("Environment=")]
+        environment = " ".join(["PATH=/usr/bin:/bin"] + settings(root, "Environment"))
         if is_installed:
             step = 'mount -t proc proc "$0/proc" && exec chroot --userspec=%s "$0" env -i %s /bin/bash -c "cd %s && exec %s"'
-            step %= user, " ".join(environment).replace("\n", ""), folder, begin
+            step %= user, environment, folder, begin
         else:
-            step = 'cd "$0%s" && exec env -i PATH="$PATH" "$0"%s' % (folder, begin)
+            step = 'cd "$0%s" && exec env -i %s "$0"%s' % (folder, environment, begin)
         command = ["unshare", "--net", "--mount", "sh", "-c", "ip link set lo up && " + step, root]
         self.process = subprocess.Popen(command, stdin=subprocess.DEVNULL, stdout=subprocess.PIPE, stderr=subprocess.PIPE, text=True)
 
@@ -120,7 +126,7 @@ class Service:
         return ran("nsenter", "--net=/proc/%d/ns/net" % self.process.pid, *words)
 
     def stop(self):
-        self.process.send_signal(getattr(signal, "SIGTERM"))
+        self.process.send_signal(signal.SIGTERM)
         out, told = self.process.communicate(timeout=60)
         return self.process.returncode, out, told
 
