@@ -1,8 +1,7 @@
 #!/bin/bash
 # Runs carbon with these words, on the caller's streams and in the caller's folder: the program that is built, wherever this script was copied
-# or linked to. `carbon build` proves the program and builds it, and nothing else does. Where sources are newer than the program, standard error
-# says so, and the program is run as it was built. Where none is built `serve` is refused, and all else is answered from the sources with
-# nothing proved. What this script says itself stands on standard error, but for the help and the version. What runs a built program needs
+# or linked to. `carbon build` proves the program and builds it. Where sources are newer than the program, standard error says so, and the
+# program is run as it was built. Where none is built `serve` builds it first, and all else is answered from the sources with nothing proved. What this script says itself stands on standard error, but for the help and the version. What runs a built program needs
 # nothing but bash, and readlink where this script is called by a link to it.
 VERSION=1.0
 
@@ -453,6 +452,19 @@ run_program() {
     exec "$program" "$@"
 }
 
+# Whether the launcher may build a program where there is none: not for a service's start, which would be away for as long as the proofs take.
+may_build() {
+    [ "$CARBON_BUILD" != never ] && [ -z "$CARBON_PROGRAM" ] && has_sources && [ ! -e "$program" ] && command -v rt >/dev/null 2>&1
+}
+
+# Builds the program where there is none, and serves.
+build_and_serve() {
+    say "a daemon wants a built program, and none is built: it is built first, which takes long"
+    build || exit 1
+    find_program
+    run_program "$@"
+}
+
 refuse_to_serve() {
     say "a daemon wants a built program, and $program is not there, or may not be run"
     has_sources && say "\`$0 build\` proves the sources here and builds it; then start the daemon again"
@@ -489,6 +501,7 @@ Files:
   data                The ring files, data/CLASS/NAME.ring.
 
 Environment:
+  CARBON_BUILD        `never`: `serve` builds no program where none is built.
   CARBON_PROGRAM      The program to run, in place of the one that is found:
                       crates/carbon/out/carbon beside the launcher of a
                       repository, ../lib/carbon/carbon beside any other.
@@ -629,6 +642,7 @@ build) build_alone "${@:2}" ;;
 try) try_sources "${@:2}" ;;
 *)
     is_built && run_program "$@"
+    [ "$1" = serve ] && may_build && build_and_serve "$@"
     { [ "$1" = serve ] || ! has_sources; } && refuse_to_serve
     answer_unproved "nothing is built yet" "$@"
     ;;

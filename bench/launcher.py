@@ -198,11 +198,19 @@ def a_build_that_fails_leaves_the_program_that_serves(tree):
 
 @in_tree(is_built=False)
 def a_start_of_the_service_builds_nothing(tree):
-    status, said, told = tree.run("serve")
+    status, said, told = tree.run("serve", CARBON_BUILD="never")
     want((status, said), (127, ""), "the answer")
     want_in("a daemon wants a built program", told, "why")
     want_in("carbon build` proves the sources here and builds it", told, "what to do")
     want(tree.is_rt_called(), False, "a call of rt")
+
+
+@in_tree(is_built=False)
+def a_daemon_where_nothing_is_built_is_built_first(tree):
+    status, said, told = tree.run("serve")
+    want((status, said), (1, ""), "the answer where the build fails")
+    want_in("a daemon wants a built program, and none is built: it is built first", told, "what is said")
+    want(tree.is_rt_called(), True, "a call of rt")
 
 
 @in_tree()
