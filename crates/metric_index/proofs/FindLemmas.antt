@@ -136,13 +136,13 @@ all_by : {V : Type 0} (P : List ℕ → Type 0) (test : List ℕ → Bool) (e : 
 all_by P test e es true is given others = All-cons P e.0 (paths_of (filter (λ x. test x.0) es)) (given e.0 is) others
 all_by P test e es false is given others = others
 
-all_in_range : {V : Type 0} (P : List ℕ → Type 0) (test : List ℕ → Bool) (es : List (List ℕ × V)) → ((path : List ℕ) → test path ≡ true → P path) → All P (paths_of (filter (λ x. test x.0) es))
+pub all_in_range : {V : Type 0} (P : List ℕ → Type 0) (test : List ℕ → Bool) (es : List (List ℕ × V)) → ((path : List ℕ) → test path ≡ true → P path) → All P (paths_of (filter (λ x. test x.0) es))
 all_in_range P test [] given = All-nil P
 all_in_range P test (e ∷ es) given = all_by P test e es (test e.0) refl given (all_in_range P test es given)
 
 -- ---- ranges from the least path on
 
-first_part : (t s : Bool) → (t && s) ≡ true → t ≡ true
+pub first_part : (t s : Bool) → (t && s) ≡ true → t ≡ true
 first_part true s both = refl
 first_part false s both = absurd cc
 

@@ -2,6 +2,7 @@ pub mod FindLemmas
 mod FrontLemmas
 pub mod IndexLemmas
 mod LiteralLemmas
+mod PieceLemmas
 mod WalkLemmas
 mod VerdictLemmas
-mod SearchedLemmas
+pub mod SearchedLemmas

@@ -151,7 +151,7 @@ paths_count : {V : Type 0} (es : List (List ℕ × V)) → length (paths_of es) 
 paths_count [] = refl
 paths_count (e ∷ es) = ap suc (paths_count es)
 
-known_all : {V : Type 0} (es : List (List ℕ × V)) (names : List (List ℕ)) → IsStrictlySortedBy order names → IsStrictlySortedBy order (paths_of es) → AreKnown es names → length es ≡ length names → names ≡ paths_of es
+pub known_all : {V : Type 0} (es : List (List ℕ × V)) (names : List (List ℕ)) → IsStrictlySortedBy order names → IsStrictlySortedBy order (paths_of es) → AreKnown es names → length es ≡ length names → names ≡ paths_of es
 known_all es names rising rising' known many =
     (within names (paths_of es) rising rising' (λ p c. of_known es p (All-contains (λ (name : List ℕ). IsSome (entry_of es name)) names p known c))).all (sym many ∙ sym (paths_count es))
 

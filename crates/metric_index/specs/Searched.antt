@@ -1,8 +1,9 @@
 -- Names that a glob was held against.
-use Rattle.std.specs.Prelude.{◌≡◌, ◌↔◌, ◌⊎◌, ℕ, List, [], ◌∷◌, All, Contains, IsSome, Some}
+use Rattle.std.specs.Prelude.{◌≡◌, ◌≢◌, ◌↔◌, ◌⊎◌, ℕ, List, [], ◌∷◌, All, Contains, IsSome, Some}
 use Rattle.std.specs.Cmp.Lexicographic.{slice_cmp}
 use Rattle.std.specs.List.Sorted.{IsStrictlySortedBy}
 use Rattle.std.specs.Ordering.{nat_cmp}
+use Rattle.std.specs.declared.cmp.Ordering.TheVariants.{Less}
 use Rattle.path_glob.specs.Faults.{Said}
 use Rattle.metric_index.specs.Found.{IsFitted}
 use Rattle.metric_index.specs.Index.{entry_of, paths_of}
@@ -33,3 +34,9 @@ AreKnown index names = All (λ name. IsSome (entry_of index name)) names
 pub record AreHits {V : Type 0} (index : List (List ℕ × V)) (paths : List (List ℕ)) (hits : List (List ℕ × V)) : Type 0 where
   pub same : paths_of hits ≡ paths
   pub entries : All (λ hit. entry_of index hit.0 ≡ Some hit.1) hits
+
+-- Known paths in byte order, from a path on.
+pub record IsPieceFrom {V : Type 0} (index : List (List ℕ × V)) (least : List ℕ) (paths : List (List ℕ)) : Type 0 where
+  pub known : AreKnown index paths
+  pub rising : IsStrictlySortedBy (slice_cmp nat_cmp) paths
+  pub behind : All (λ path. slice_cmp nat_cmp path least ≢ Less) paths

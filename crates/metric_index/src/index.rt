@@ -1,6 +1,7 @@
 //! The type of an index.
 ghost use Rattle.std.specs.Prelude.{◌≡◌};
 
+use crate::copying::first_of;
 use crate::finding::fitted;
 use crate::front::{is_literal, least_path};
 use crate::hit::Hit;
@@ -39,7 +40,7 @@ impl<V: Drop> Index<V> {
     ghost use Rattle.metric_path.specs.Path.{path_fault};
     ghost use Rattle.metric_index.specs.Index.{Sets, entry_of, paths_of};
     ghost use Rattle.metric_index.specs.Found.{Finds, IsFitted, seen};
-    ghost use Rattle.metric_index.specs.Searched.{AreHits, AreKnown};
+    ghost use Rattle.metric_index.specs.Searched.{AreHits, AreKnown, IsPieceFrom};
 
     /// An index without a path.
     pub fn new(alloc: Global) -> Index<V>
@@ -105,6 +106,18 @@ impl<V: Drop> Index<V> {
         Ok(paths)
     }
 
+    /// Known paths in byte order, `most` at most: those from this one on.
+    pub fn paths_from(
+        &self,
+        alloc: Global,
+        least: &MetricPath,
+        most: usize,
+    ) -> Result<Vec<MetricPath>, AllocError>
+        ensures { IfOk result (λ paths. IsPieceFrom self.now least.now paths.items) }
+    {
+        first_of(alloc, self.entries.range(least..), most)
+    }
+
     /// The known paths that a glob fits, in byte order, each once and with its entry. Only paths that begin
     /// with the glob's literal front are looked at, and a glob without a wildcard is one look-up.
     pub fn find(&self, alloc: Global, glob: &Verdicts<'_>) -> Result<Vec<Hit<'_, V>>, AllocError>
@@ -114,7 +127,7 @@ impl<V: Drop> Index<V> {
     }
 
     /// The same of a glob that was held against names, all of which are known still. Where no more are known only those
-    /// that it fits are looked up.
+    /// that it fits are looked up; where it fits many of them all are walked, which is faster then.
     pub fn find_again<'a>(
         &'a self,
         alloc: Global,
@@ -124,7 +137,7 @@ impl<V: Drop> Index<V> {
         ensures { IfOk result (λ hits. Finds self.now (IsFitted searched.now.glob)
             (map seen hits.items)) }
     {
-        if self.len() != searched.count() {
+        if self.len() != searched.count() || searched.fits_many() {
             return self.find(alloc, searched.verdicts());
         }
         self.hits_of(alloc, searched.fitting())

@@ -1,6 +1,7 @@
 #![tactic(auto)]
 //! The metrics that are known, by path, and those of them that a glob finds.
 
+mod copying;
 mod finding;
 mod front;
 mod hit;

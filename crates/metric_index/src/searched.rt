@@ -9,6 +9,9 @@ use path_glob::{Glob, GlobSearch, Work};
 use std::alloc::{AllocError, Global};
 use std::marker::Model;
 
+// How many names are walked in the time that it takes to look one up.
+const WALKED_FOR_ONE: usize = 8;
+
 /// A glob that was held against all names that were known, and those of them that it fits. Where as many are known later they are
 /// the same ones, since none is forgotten, and a search looks up these alone.
 #[derive(Drop)]
@@ -86,6 +89,11 @@ impl<'a> SearchedNames<'a> {
         ensures { result ≡ length self.now.names }
     {
         self.names.len()
+    }
+
+    /// Whether the glob fits so many of the names that to walk all takes less time than to look these up.
+    pub(crate) fn fits_many(&self) -> bool {
+        self.fitting.len() > self.names.len() / WALKED_FOR_ONE
     }
 
     /// Those of the names that the glob fits, in byte order.

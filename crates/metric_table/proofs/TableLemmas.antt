@@ -125,6 +125,11 @@ known_before layouts index table names is known = λ k d less.
     let path : List ℕ = get_or names k d in
     some_before layouts (entry_of index path) (subst (λ (o : Option Known). IsSome o) (shown_entry layouts index table path (entry_of index path) is refl) (known k d less))
 
+pub known_shown : (layouts : List LayoutValue) (index : List (List ℕ × Entry)) (table : List (List ℕ × Known)) (names : List (List ℕ)) → known_by_all layouts index ≡ table → AreKnown index names → AreKnown table names
+known_shown layouts index table names is known = λ k d less.
+    let path : List ℕ = get_or names k d in
+    subst (λ (o : Option Known). IsSome o) (sym (shown_entry layouts index table path (entry_of index path) is refl)) (some_shown layouts (entry_of index path) (known k d less))
+
 pub finds_shown : (layouts : List LayoutValue) (index hits : List (List ℕ × Entry)) (table found : List (List ℕ × Known)) (fits : List ℕ → Type 0) → known_by_all layouts index ≡ table → Finds index fits hits
     → found ≡ known_by_all layouts hits → Finds table fits found
 finds_shown layouts index hits table found fits is finds same =

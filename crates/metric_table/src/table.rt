@@ -40,7 +40,7 @@ impl MetricTable {
     ghost use Rattle.metric_path.specs.Path.{path_fault};
     ghost use Rattle.metric_index.specs.Found.{Finds, IsFitted};
     ghost use Rattle.metric_index.specs.Index.{Sets, entry_of, paths_of};
-    ghost use Rattle.metric_index.specs.Searched.{AreKnown};
+    ghost use Rattle.metric_index.specs.Searched.{AreKnown, IsPieceFrom};
     ghost use Rattle.metric_table.specs.Numbered.{known_by};
     ghost use Rattle.metric_table.specs.Table.{IsLawful, drained, seen, undrained};
 
@@ -163,5 +163,17 @@ impl MetricTable {
         ensures { IfOk result (λ names. names.items ≡ paths_of self.now) }
     {
         self.index.paths(alloc)
+    }
+
+    /// The paths of known metrics in byte order, `most` at most: those from this one on.
+    pub fn names_from(
+        &self,
+        alloc: Global,
+        least: &MetricPath,
+        most: usize,
+    ) -> Result<Vec<MetricPath>, AllocError>
+        ensures { IfOk result (λ names. IsPieceFrom self.now least.now names.items) }
+    {
+        self.index.paths_from(alloc, least, most)
     }
 }
