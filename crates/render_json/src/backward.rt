@@ -1,5 +1,5 @@
 //! Texts that are written from their end to their front, as the length of a number shows last.
-ghost use Rattle.std.specs.Prelude.{◌≡◌, ◌+◌, ◌/◌, ◌%◌, ◌^◌, ◌<◌, ◌≤◌, ◌∷◌, ◌++◌, length, take, drop, decimal};
+ghost use Rattle.std.specs.Prelude.{◌≡◌, ◌+◌, ◌/◌, ◌%◌, ◌^◌, ◌<◌, ◌≤◌, ◌∷◌, ◌++◌, length, take, drop, decimal, pos, IfSome};
 ghost use Rattle.fixed_num.specs.Print.{milli_text, unsigned_milli_text, decimals_text};
 
 use fixed_num::{Milli, wide};
@@ -32,6 +32,9 @@ pub(crate) fn put_value(text: &mut [u8], end: usize, value: Milli) -> usize
     ensures written { drop result text.new ≡ milli_text value ++ drop end text.old }
 {
     let number = wide(value);
+    if let Some(few) = few_bits(number) {
+        return put_few(text, end, few);
+    }
     let start = put_unsigned(text, end, number.unsigned_abs());
     if number < 0 {
         return put(text, start, b"-");
@@ -39,8 +42,15 @@ pub(crate) fn put_value(text: &mut [u8], end: usize, value: Milli) -> usize
     start
 }
 
-// Writes the text of a number of thousandths without a sign.
+// The same number, where it has no sign and 64 bits hold it, as they do those of most values.
 #[inline(always)]
+pub(crate) fn few_bits(number: i128) -> Option<u64>
+    ensures { IfSome result (λ few. number ≡ pos few) }
+{
+    u64::try_from(number).ok()
+}
+
+// Writes the text of a number of thousandths without a sign.
 #[tactic(auto, unfolding(fixed_num::specs::Print::unsigned_milli_text), using(fixed_num::proofs::PrintLemmas::whole_short, fixed_num::proofs::PrintLemmas::decimals_short))]
 fn put_unsigned(text: &mut [u8], end: usize, thousandths: u128) -> usize
     requires room { 32 ≤ end }
@@ -50,16 +60,28 @@ fn put_unsigned(text: &mut [u8], end: usize, thousandths: u128) -> usize
     ensures short { length (unsigned_milli_text thousandths) ≤ 32 }
     ensures written { drop result text.new ≡ unsigned_milli_text thousandths ++ drop end text.old }
 {
-    // Mostly 64 bits hold the number, and their quotients are the faster ones.
+    // Where 64 bits hold the number, their quotients are the faster ones.
     if thousandths <= u128::from(u64::MAX) {
-        let few = thousandths as u64;
-        let decimals = put_decimals(text, end, few % 1000);
-        let point = put(text, decimals, b".");
-        return put_number(text, point, few / 1000);
+        return put_few(text, end, thousandths as u64);
     }
     let decimals = put_decimals(text, end, (thousandths % 1000) as u64);
     let point = put(text, decimals, b".");
     put_wide_number(text, point, thousandths / 1000)
+}
+
+// The same of a number that 64 bits hold.
+#[inline(always)]
+#[tactic(auto, unfolding(fixed_num::specs::Print::unsigned_milli_text), using(fixed_num::proofs::PrintLemmas::whole_short, fixed_num::proofs::PrintLemmas::decimals_short))]
+fn put_few(text: &mut [u8], end: usize, thousandths: u64) -> usize
+    requires room { 32 ≤ end }
+    requires within { end ≤ length text.old }
+    ensures start { result + length (unsigned_milli_text thousandths) ≡ end }
+    ensures short { length (unsigned_milli_text thousandths) ≤ 32 }
+    ensures written { drop result text.new ≡ unsigned_milli_text thousandths ++ drop end text.old }
+{
+    let decimals = put_decimals(text, end, thousandths % 1000);
+    let point = put(text, decimals, b".");
+    put_number(text, point, thousandths / 1000)
 }
 
 // Writes the digits of a number that 64 bits may not hold.

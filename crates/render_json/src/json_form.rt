@@ -1,5 +1,5 @@
 //! The JSON of series.
-ghost use Rattle.std.specs.Prelude.{◌≡◌, ◌+◌, ◌-◌, ◌/◌, ◌%◌, ◌<◌, ◌≤◌, ◌∷◌, ◌++◌, IfOk, OnOk, codes, drop, length, map, take};
+ghost use Rattle.std.specs.Prelude.{◌≡◌, ◌+◌, ◌-◌, ◌*◌, ◌/◌, ◌%◌, ◌<◌, ◌≤◌, ◌∷◌, ◌++◌, IfOk, OnOk, codes, drop, length, map, take};
 ghost use Rattle.json.specs.Print.{quoted};
 ghost use Rattle.render_json.specs.Json.{datapoints_text, json_of, null_text, point_text, points_text, no_text, series_json, target_text, time_tail};
 ghost use Rattle.render_json.specs.Values.{joined, separator, value_or};
@@ -104,12 +104,14 @@ fn push_points(out: &mut Vec<u8>, series: &Series) -> Result<(), AllocError>
     let mut text = empty_text();
     let mut is_first = true;
     let mut time = series.start();
+    let mut base = time - time % 10_000;
     let mut end = put_time(&mut text, time);
     for value in series.values() {
         push_point(out, &mut text, end, time, value.get(), is_first)?;
         is_first = false;
         let next = time + series.step();
-        end = put_next_time(&mut text, end, time, next);
+        end = put_next_time(&mut text, end, time, base, next);
+        base = next_base(time, base, next);
         time = next;
     }
     Ok(())
@@ -199,22 +201,39 @@ fn put_time(text: &mut [u8; TEXT_ROOM], time: u64) -> usize
     put(text, at, b", ")
 }
 
-// The same where the text has it for another time, of which mostly the last four digits alone are other.
+// The same where the text has it for another time, of which mostly the last four digits alone are other. `base` is that time without them.
 #[inline(always)]
-fn put_next_time(text: &mut [u8; TEXT_ROOM], end: usize, time: u64, next: u64) -> usize
+fn put_next_time(text: &mut [u8; TEXT_ROOM], end: usize, time: u64, base: u64, next: u64) -> usize
     requires room { (37 ≤ end) × (end ≤ POINT_ROOM) }
     requires is { drop end text.old ≡ time_tail time no_text }
+    requires base { (base ≡ time / 10000 * 10000) × (time ≤ next) }
     ensures room { (37 ≤ result) × (result ≤ POINT_ROOM) }
     ensures written { drop result text.new ≡ time_tail next no_text }
 {
+    // The time is an argument for the contract alone.
+    let _ = time;
     if next < 10_000 {
         return put_time(text, next);
     }
-    if next / 10_000 != time / 10_000 {
+    if next - base >= 10_000 {
         return put_time(text, next);
     }
-    put_last_digits(text, next % 10_000);
+    put_last_digits(text, next - base);
     end
+}
+
+// A time without its last four digits, which mostly is that of the one before.
+#[inline(always)]
+fn next_base(time: u64, base: u64, next: u64) -> u64
+    requires { (base ≡ time / 10000 * 10000) × (time ≤ next) }
+    ensures { result ≡ next / 10000 * 10000 }
+{
+    // The time before is an argument for the contract alone.
+    let _ = time;
+    if next - base < 10_000 {
+        return base;
+    }
+    next - next % 10_000
 }
 
 // Writes the last four digits of a time and what stands behind them.

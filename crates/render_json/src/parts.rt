@@ -2,27 +2,44 @@
 ghost use Rattle.std.specs.Prelude.{◌≡◌, ◌+◌, ◌≤◌, ◌++◌, OnOk, decimal, drop, length};
 ghost use Rattle.render_json.specs.Values.{separator, value_or};
 
-use crate::backward::{put, put_value};
+use crate::backward::{few_bits, put, put_value};
 use fixed_num::{Milli, wide};
 use itoa::Buffer;
 use series_set::Reading;
 use std::alloc::AllocError;
 
+// So many neighbouring values are counted at once.
+const PIECE: usize = 16;
+
 /// How many bytes the texts of values take at most, where that of a missing one takes so many.
 pub(crate) fn values_room(values: &[Reading], missing: usize) -> usize {
     let mut room: usize = 0;
-    for value in values {
-        room = room.saturating_add(value_room(value.get(), missing));
+    for piece in values.chunks(PIECE) {
+        room = room.saturating_add(piece_room(piece, missing));
     }
     room
 }
 
-// A value has a digit before the point and three behind it at least, and beside the digits a point and a sign.
-fn value_room(value: Option<Milli>, missing: usize) -> usize {
-    let Some(value) = value else {
-        return missing;
-    };
-    number_room(wide(value).unsigned_abs()).max(4) + 2
+// The same of neighbouring values, of which each that is known counts as the longest. A value has a digit before the point and three behind
+// it at least, and beside the digits a point and a sign.
+fn piece_room(piece: &[Reading], missing: usize) -> usize {
+    let mut others: usize = 0;
+    let mut bits: u64 = 0;
+    let mut wide_bits: u128 = 0;
+    for value in piece {
+        match value.get() {
+            Some(value) => match few_bits(wide(value)) {
+                Some(few) => bits |= few,
+                None => wide_bits |= wide(value).unsigned_abs(),
+            },
+            None => others = others.saturating_add(1),
+        }
+    }
+    let longest = number_room(wide_bits | u128::from(bits)).max(4) + 2;
+    let known = piece.len().saturating_sub(others);
+    known
+        .saturating_mul(longest)
+        .saturating_add(others.saturating_mul(missing))
 }
 
 /// How many digits a number has at most: the logarithm of 2 to the base 10 is a little less than 1,233 / 4,096.

@@ -1,4 +1,4 @@
-use Rattle.std.proofs.Common.{◌≡◌, ◌≤◌, ◌+◌, ◌*◌, ◌++◌, drop, cond, map, length, codes}
+use Rattle.std.proofs.Common.{◌≡◌, ◌≤◌, ◌+◌, ◌*◌, ◌/◌, ◌++◌, drop, cond, map, length, codes}
 use Rattle.series_set.specs.OnGrid.{points_from}
 use Rattle.series_set.specs.Series.{latest_end}
 use Rattle.render_json.specs.Json.{no_text, point_text, points_text, time_tail}
@@ -11,3 +11,4 @@ invariant-loop-value l =
     (l.out.items ++ cond l.is_first (joined (codes ", ") left) (further (codes ", ") left) ≡ l.fn.out.items ++ points_text l.series)
     × (l.time + length (drop l.value-index l.series.values) * l.series.step ≤ latest_end)
     × (drop l.end l.text ≡ time_tail l.time no_text) × (37 ≤ l.end) × (l.end ≤ 64)
+    × (l.base ≡ l.time / 10000 * 10000)

@@ -1,0 +1,6 @@
+use Rattle.std.proofs.Common.{arith}
+use Rattle.render_json.proofs.BackwardLemmas.{unsigned_short}
+use Rattle.render_json.proofs.backward.put_few.Goals as goal
+
+pub returns-clause-short : goal.returns-clause-short
+returns-clause-short c = unsigned_short c.args.thousandths (omega arith)
