@@ -18,6 +18,8 @@ use Rattle.fixed_num.specs.Moment.{is_moment}
 use Rattle.ring_format.specs.Layout.{LayoutValue}
 use Rattle.metric_index.specs.Found.{Finds as FindsEntries, IsFitted}
 use Rattle.metric_index.specs.Index.{entry_of, paths_of}
+use Rattle.metric_index.specs.Searched.{AreKnown, IsPieceFrom}
+use Rattle.metric_index.proofs.SearchedLemmas.{known_all}
 use Rattle.metric_table.specs.Table.{seen}
 use Rattle.metric_table.specs.declared.found_metric.FoundMetric.{FoundMetric}
 use Rattle.metric_table.specs.declared.known.Known.{Known}
@@ -28,7 +30,7 @@ use Rattle.series_fetch.specs.declared.range.Window.TheVariants.{Empty, Range}
 use Rattle.carbon_model.specs.Found.{Finds, IsKnown}
 use Rattle.carbon_model.specs.State.{Kept, State, form_of, layout_of, layout_or, points_in}
 use Rattle.carbon_model.specs.RingFiles.{IsOfClass}
-use Rattle.shard_core.specs.Looks.{FindsFor, IsFoundAs, IsFoundIn, IsKnownTo, IsReadableLook, IsSoundLook, Looks, LooksAtFound, MayRead, NamesOf, TellsOf, looked_as, looked_if, looked_in, looked_paths}
+use Rattle.shard_core.specs.Looks.{FindsFor, IsFoundAs, IsFoundIn, IsKnownTo, IsReadableLook, IsSoundLook, Looks, LooksAtFound, MayRead, NamesFrom, NamesOf, TellsOf, looked_as, looked_if, looked_in, looked_paths}
 use Rattle.shard_core.specs.Shard.{AreOfClass, Holds, Inside, KnowsAs}
 use Rattle.shard_core.specs.Table.{IsEntry, Lists, Table, form_kept}
 use Rattle.shard_core.specs.declared.looked.Looked.{Looked}
@@ -363,3 +365,18 @@ names_are shard names legal rising lists is told s holds =
         λ both. known_path_in shard.table path (state_listed told shard s path both.0 lists holds both.1),
       );
     })
+
+-- names that are known are all of them where there are as many
+pub names_all : (shard : Inside) (names : List (List ℕ)) → All (λ p. path_fault p ≡ None) (paths_of shard.table) → IsStrictlySortedBy (slice_cmp nat_cmp) (paths_of shard.table)
+    → Lists shard.class shard.rules shard.cache.metrics shard.table → AreKnown shard.table names → IsStrictlySortedBy (slice_cmp nat_cmp) names → length shard.table ≡ length names → NamesOf shard names
+names_all shard names legal rising lists known in_order many = names_are shard names legal rising lists (known_all shard.table names in_order rising known many)
+
+pub names_from : (shard : Inside) (least : List ℕ) (names : List (List ℕ)) → All (λ p. path_fault p ≡ None) (paths_of shard.table) → IsStrictlySortedBy (slice_cmp nat_cmp) (paths_of shard.table)
+    → Lists shard.class shard.rules shard.cache.metrics shard.table → IsPieceFrom shard.table least names → NamesFrom shard least names
+names_from shard least names legal rising lists is = record {
+  known = λ told s holds k d less.
+      let all : Finds s (IsOfClass shard.class) (paths_of shard.table) = names_are shard (paths_of shard.table) legal rising lists refl told s holds in
+      (all.found (get_or names k d)).0 (known_path_in shard.table (get_or names k d) (is.known k d less));
+  rising = is.rising;
+  behind = is.behind;
+}

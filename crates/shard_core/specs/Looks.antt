@@ -1,7 +1,11 @@
 -- What a look tells of the metrics of a class, and what is read of one of them.
 use Rattle.std.specs.Prelude.{◌≡◌, ◌≢◌, ℕ, ◌-◌, ◌/◌, true, All, List, [], ◌∷◌, length, map, slice_get, Option}
+use Rattle.std.specs.Cmp.Lexicographic.{slice_cmp}
 use Rattle.std.specs.List.{sum_by}
+use Rattle.std.specs.List.Sorted.{IsStrictlySortedBy}
 use Rattle.std.specs.Option.{option_map_or}
+use Rattle.std.specs.Ordering.{nat_cmp}
+use Rattle.std.specs.declared.cmp.Ordering.TheVariants.{Less}
 use Rattle.outside_io.specs.Image.{Image}
 use Rattle.metric_path.specs.Class.{class_of}
 use Rattle.fixed_num.specs.Moment.{is_moment}
@@ -18,7 +22,7 @@ use Rattle.metric_table.specs.declared.found_metric.FoundMetric.{FoundMetric}
 use Rattle.metric_table.specs.declared.known.Known.{Known}
 use Rattle.point_cache.specs.Pending.{Metrics, points_of}
 use Rattle.carbon_model.specs.State.{State, layout_of, points_in}
-use Rattle.carbon_model.specs.Found.{Finds}
+use Rattle.carbon_model.specs.Found.{Finds, IsKnown}
 use Rattle.carbon_model.specs.RingFiles.{IsOfClass}
 use Rattle.shard_core.specs.Shard.{Holds, Inside, KnowsAs}
 use Rattle.shard_core.specs.declared.looked.LookCount.{LookCount}
@@ -127,6 +131,12 @@ pub record MayRead (shard : Inside) (looked : Looked) : Type 0 where
 -- the paths of the metrics of a class that are pending or kept, in byte order
 abbrev pub NamesOf : Inside → List (List ℕ) → Type 0
 NamesOf shard names = (told : Option Image) (s : State) → Holds told shard s → Finds s (IsOfClass shard.class) names
+
+-- paths of metrics of a class that are pending or kept, from one on, in byte order
+pub record NamesFrom (shard : Inside) (least : List ℕ) (names : List (List ℕ)) : Type 0 where
+  pub known : (told : Option Image) (s : State) → Holds told shard s → All (λ path. IsOfClass shard.class path × IsKnown s path) names
+  pub rising : IsStrictlySortedBy (slice_cmp nat_cmp) names
+  pub behind : All (λ path. slice_cmp nat_cmp path least ≢ Less) names
 
 -- ---- how much a look finds
 

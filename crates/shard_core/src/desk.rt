@@ -29,8 +29,12 @@ pub struct Desk {
 
 impl Desk {
     ghost use Rattle.std.specs.Prelude.{◌≡◌, IfOk, length};
+    ghost use Rattle.std.specs.Cmp.Lexicographic.{slice_cmp};
+    ghost use Rattle.std.specs.List.Sorted.{IsStrictlySortedBy};
+    ghost use Rattle.std.specs.Ordering.{nat_cmp};
+    ghost use Rattle.metric_index.specs.Searched.{AreKnown};
     ghost use Rattle.shard_core.specs.Halves.{FilesInside, both, desk_of};
-    ghost use Rattle.shard_core.specs.Looks.{NamesOf};
+    ghost use Rattle.shard_core.specs.Looks.{NamesFrom, NamesOf};
 
     /// How many metrics have pending points.
     pub fn cached_metrics(&self) -> usize
@@ -54,6 +58,30 @@ impl Desk {
         // Each path is legal, and they rise.
         let _ = self.table.len();
         self.table.names(self.alloc)
+    }
+
+    /// The same where some are named already, in byte order: where these are all, nothing is copied.
+    pub fn names_again(&self, names: Vec<MetricPath>) -> Result<Vec<MetricPath>, AllocError>
+        requires known { AreKnown self.now.table names.items }
+        requires rising { IsStrictlySortedBy (slice_cmp nat_cmp) names.items }
+        ensures { IfOk result (λ names. (files : FilesInside)
+            → NamesOf (both (desk_of self.now) files) names.items) }
+    {
+        if self.table.len() == names.len() {
+            return Ok(names);
+        }
+        self.names()
+    }
+
+    /// Paths of metrics that are pending or of which something is kept, `most` at most: those from this one on,
+    /// in byte order.
+    pub fn names_from(&self, least: &MetricPath, most: usize) -> Result<Vec<MetricPath>, AllocError>
+        ensures { IfOk result (λ names. (files : FilesInside)
+            → NamesFrom (both (desk_of self.now) files) least.now names.items) }
+    {
+        // Each path is legal, and they rise.
+        let _ = self.table.len();
+        self.table.names_from(self.alloc, least, most)
     }
 
     /// How many metrics a look with this glob has to look at, or `most` where there are more.
