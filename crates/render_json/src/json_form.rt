@@ -110,8 +110,9 @@ fn push_points(out: &mut Vec<u8>, series: &Series) -> Result<(), AllocError>
         push_point(out, &mut text, end, time, value.get(), is_first)?;
         is_first = false;
         let next = time + series.step();
-        end = put_next_time(&mut text, end, time, base, next);
-        base = next_base(time, base, next);
+        let tail = put_next_time(&mut text, end, time, base, next);
+        end = tail.end;
+        base = tail.base;
         time = next;
     }
     Ok(())
@@ -201,39 +202,42 @@ fn put_time(text: &mut [u8; TEXT_ROOM], time: u64) -> usize
     put(text, at, b", ")
 }
 
+// Where a text has what stands behind a value, and the time there without its last four digits.
+#[derive(Clone, Copy)]
+struct TimeTail {
+    end: usize,
+    base: u64,
+}
+
 // The same where the text has it for another time, of which mostly the last four digits alone are other. `base` is that time without them.
 #[inline(always)]
-fn put_next_time(text: &mut [u8; TEXT_ROOM], end: usize, time: u64, base: u64, next: u64) -> usize
+fn put_next_time(
+    text: &mut [u8; TEXT_ROOM],
+    end: usize,
+    time: u64,
+    base: u64,
+    next: u64,
+) -> TimeTail
     requires room { (37 ≤ end) × (end ≤ POINT_ROOM) }
     requires is { drop end text.old ≡ time_tail time no_text }
     requires base { (base ≡ time / 10000 * 10000) × (time ≤ next) }
-    ensures room { (37 ≤ result) × (result ≤ POINT_ROOM) }
-    ensures written { drop result text.new ≡ time_tail next no_text }
+    ensures room { (37 ≤ result.end) × (result.end ≤ POINT_ROOM) }
+    ensures written { drop result.end text.new ≡ time_tail next no_text }
+    ensures base { result.base ≡ next / 10000 * 10000 }
 {
     // The time is an argument for the contract alone.
     let _ = time;
     if next < 10_000 {
-        return put_time(text, next);
+        let end = put_time(text, next);
+        return TimeTail { end, base: 0 };
     }
     if next - base >= 10_000 {
-        return put_time(text, next);
+        let end = put_time(text, next);
+        let base = next - next % 10_000;
+        return TimeTail { end, base };
     }
     put_last_digits(text, next - base);
-    end
-}
-
-// A time without its last four digits, which mostly is that of the one before.
-#[inline(always)]
-fn next_base(time: u64, base: u64, next: u64) -> u64
-    requires { (base ≡ time / 10000 * 10000) × (time ≤ next) }
-    ensures { result ≡ next / 10000 * 10000 }
-{
-    // The time before is an argument for the contract alone.
-    let _ = time;
-    if next - base < 10_000 {
-        return base;
-    }
-    next - next % 10_000
+    TimeTail { end, base }
 }
 
 // Writes the last four digits of a time and what stands behind them.

@@ -3,11 +3,11 @@ use Rattle.render_json.specs.Json.{no_text}
 use Rattle.render_json.proofs.BackwardLemmas.{behind_time, next_time, no_text_long}
 use Rattle.render_json.proofs.json_form.put_next_time.Goals as goal
 
-pub put_time-requires : goal.put_time-requires
-put_time-requires c = behind_time c.args.text.now no_text c.args.end c.args.time (search rules) no_text_long c.requires.room.1 c.requires.is
+pub put_time-end-requires : goal.put_time-end-requires
+put_time-end-requires c = behind_time c.args.text.now no_text c.args.end c.args.time (search rules) no_text_long c.requires.room.1 c.requires.is
 
-pub put_time-requires-then-next-base-ge10000 : goal.put_time-requires-then-next-base-ge10000
-put_time-requires-then-next-base-ge10000 c = behind_time c.args.text.now no_text c.args.end c.args.time (search rules) no_text_long c.requires.room.1 c.requires.is
+pub put_time-end-requires-then-next-base-ge10000 : goal.put_time-end-requires-then-next-base-ge10000
+put_time-end-requires-then-next-base-ge10000 c = behind_time c.args.text.now no_text c.args.end c.args.time (search rules) no_text_long c.requires.room.1 c.requires.is
 
 pub returns-clause-written : goal.returns-clause-written
 returns-clause-written c =
