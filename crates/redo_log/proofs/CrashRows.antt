@@ -4,10 +4,11 @@ use Rattle.outside_io.specs.Crash.{Follows, OnlyKnown}
 use Rattle.outside_io.specs.Image.{Image, ChangesOnly, SameImage, Tears, WhereKnown}
 use Rattle.ring_format.specs.Patch.{PatchValue}
 use Rattle.write_shelf.specs.Shelf.{DrainValue}
-use Rattle.redo_log.specs.Rows.{InRow, KeepsRings, LeavesBy, LeavesClosed, LeavesEither, MayLeave, goes_on}
+use Rattle.redo_log.specs.Rows.{InRow, KeepsRings, LeavesBy, LeavesClosed, LeavesEither, LeavesOpen, MayLeave, goes_on}
 use Rattle.redo_log.specs.Steps.{IsClosed, IsGate, IsGateStep, IsOpen, IsReady, IsSyncStep, Stands, behind_cells, gate_name, is_run, log_name, on_way, with_next}
 use Rattle.redo_log.specs.declared.next_step.NextStep.{NextStep}
 use Rattle.redo_log.specs.declared.next_step.NextStep.TheVariants.{CreateLog, FirstPiece, Piece, SyncBody, OpenGate, SyncOpen, Run, SyncRuns, CloseGate, SyncClose}
+use Rattle.redo_log.proofs.RunRows.{stays_both, stays_same}
 use Rattle.redo_log.proofs.StepLemmas.{closed_is_gate, gate_is_no_log, gate_torn, log_is_no_gate, open_is_gate}
 
 -- only the log changed
@@ -79,7 +80,12 @@ synced_left drain name SyncBody behind x left step s same =
 synced_left drain name OpenGate behind x left step s same = absurd step
 synced_left drain name SyncOpen behind x left step s same =
     subst (λ (o : Option NextStep). MayLeave (goes_on (on_way (Some drain) name SyncOpen) o) x left) (sym step)
-    (record { log = same log_name ∙ s.log; gate = subst IsOpen (sym (same gate_name)) s.gate; others = λ other no_log no_gate no_file. same other })
+    (record {
+      log = same log_name ∙ s.log;
+      gate = subst IsOpen (sym (same gate_name)) s.gate;
+      others = λ other no_log no_gate no_file. same other;
+      ring = λ over whole. stays_same drain.patch name x left (same name) whole;
+    })
 synced_left drain name Run behind x left step s same = absurd step
 synced_left drain name SyncRuns behind x left step s same =
     subst (λ (o : Option NextStep). MayLeave (goes_on (on_way (Some drain) name SyncRuns) o) x left) (sym step)
@@ -100,6 +106,14 @@ synced_row (Some drain) name now behind x y new some step ready kept only =
     by (Some x) ready only = λ left may. synced_left drain name now behind x left step ready (only left may)
 
 -- a sync that failed
+same_open : (patch : PatchValue) (name : List ℕ) (x before left : Image) → SameImage before left → LeavesOpen patch name x before → LeavesOpen patch name x left
+same_open patch name x before left same row = record {
+  log = same log_name ∙ row.log;
+  gate = subst IsOpen (sym (same gate_name)) row.gate;
+  others = λ other a b c. same other ∙ row.others other a b c;
+  ring = λ over whole. let was = row.ring over whole in stays_both patch name x before left was (stays_same patch name before left (same name) was.whole);
+}
+
 same_by : (patch : PatchValue) (name : List ℕ) (now : NextStep) (x before left : Image) → SameImage before left → LeavesBy patch name now x before → LeavesBy patch name now x left
 same_by patch name CreateLog x before left same row = record { gate = subst IsClosed (sym (same gate_name)) row.gate; rings = λ other a b. same other ∙ row.rings other a b }
 same_by patch name FirstPiece x before left same row = record { gate = subst IsClosed (sym (same gate_name)) row.gate; rings = λ other a b. same other ∙ row.rings other a b }
@@ -107,8 +121,8 @@ same_by patch name (Piece written) x before left same row = record { gate = subs
 same_by patch name SyncBody x before left same row = record { gate = subst IsClosed (sym (same gate_name)) row.gate; rings = λ other a b. same other ∙ row.rings other a b }
 same_by patch name OpenGate x before left same row = record { log = same log_name ∙ row.log; gate = subst IsGate (sym (same gate_name)) row.gate; rings = λ other a b. same other ∙ row.rings other a b }
 same_by patch name SyncOpen x before left same row = record { log = same log_name ∙ row.log; gate = subst IsGate (sym (same gate_name)) row.gate; rings = λ other a b. same other ∙ row.rings other a b }
-same_by patch name Run x before left same row = record { log = same log_name ∙ row.log; gate = subst IsOpen (sym (same gate_name)) row.gate; others = λ other a b c. same other ∙ row.others other a b c }
-same_by patch name SyncRuns x before left same row = record { log = same log_name ∙ row.log; gate = subst IsOpen (sym (same gate_name)) row.gate; others = λ other a b c. same other ∙ row.others other a b c }
+same_by patch name Run x before left same row = same_open patch name x before left same row
+same_by patch name SyncRuns x before left same row = same_open patch name x before left same row
 same_by patch name CloseGate x before left same row = record { log = same log_name ∙ row.log; gate = subst IsGate (sym (same gate_name)) row.gate; rings = λ other a b. same other ∙ row.rings other a b }
 same_by patch name SyncClose x before left same row = record { log = same log_name ∙ row.log; gate = subst IsGate (sym (same gate_name)) row.gate; rings = λ other a b. same other ∙ row.rings other a b }
 

@@ -1,9 +1,9 @@
 -- How a step of a redo ends, by how that of its patch did.
-use Rattle.std.proofs.Common.{◌≡◌, false, Option, Some, IfSome, refl, sym, subst}
+use Rattle.std.proofs.Common.{◌≡◌, Option, Some, refl, sym, subst}
 use Rattle.outside_io.specs.Image.{Image}
 use Rattle.redo_log.specs.Ends.{RedoEnds, TakeEnds, rest_of}
 use Rattle.redo_log.specs.Rows.{GoesInRow, InRow}
-use Rattle.redo_log.specs.Steps.{RedoValue, is_run}
+use Rattle.redo_log.specs.Steps.{RedoValue}
 use Rattle.redo_log.specs.declared.redo_step.RedoStep.{RedoStep}
 use Rattle.redo_log.specs.declared.redo_step.RedoStep.TheVariants.{Run, Finished, Nothing, DiskFault}
 
@@ -22,8 +22,7 @@ row_plain Finished old new a b before after ends row = row
 row_plain Nothing old new a b before after ends row = absurd ends
 row_plain DiskFault old new a b before after ends row = row
 
-pub redo_row : (end : RedoStep) (held : Option RedoValue) (old new : RedoValue) (a b : Option Image) (before after : Image → Type 0) → held ≡ Some old → TakeEnds end old new a b → (is_run old.next ≡ false → GoesInRow end old new a b before after)
-    → IfSome held (λ redo. is_run redo.next ≡ false → InRow held a before → InRow (rest_of end new) b after)
+pub redo_row : (end : RedoStep) (held : Option RedoValue) (old new : RedoValue) (a b : Option Image) (before after : Image → Type 0) → held ≡ Some old → TakeEnds end old new a b → GoesInRow end old new a b before after
+    → InRow held a before → InRow (rest_of end new) b after
 redo_row end held old new a b before after is ends row =
-    subst (λ (o : Option RedoValue). IfSome o (λ redo. is_run redo.next ≡ false → InRow o a before → InRow (rest_of end new) b after)) (sym is)
-    (λ no_run. row_plain end old new a b before after ends (row no_run))
+    subst (λ (o : Option RedoValue). InRow o a before → InRow (rest_of end new) b after) (sym is) (row_plain end old new a b before after ends row)

@@ -6,6 +6,8 @@ pub mod LayoutLaws
 pub mod BodyLaws
 pub mod StepLemmas
 pub mod LastLemmas
+pub mod RunRows
 pub mod CrashRows
+pub mod MomentLemmas
 pub mod EndLemmas
 pub mod ReadyLemmas

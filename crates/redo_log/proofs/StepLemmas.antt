@@ -49,13 +49,13 @@ file_is_no_gate text e =
     absurd (omega (arith, second))
 
 -- the names of a redo's files are three
-record ThreeNames (name : List ℕ) : Type 0 where
+pub record ThreeNames (name : List ℕ) : Type 0 where
   pub no_log : name ≢ log_name
   pub no_gate : name ≢ gate_name
   pub log_other : log_name ≢ name
   pub gate_other : gate_name ≢ name
 
-three_names : (drain : DrainValue) (name : List ℕ) → name ≡ file_name_of drain.patch.path → ThreeNames name
+pub three_names : (drain : DrainValue) (name : List ℕ) → name ≡ file_name_of drain.patch.path → ThreeNames name
 three_names drain name is = record {
   no_log = λ e. file_is_no_log drain.patch.path (sym is ∙ e);
   no_gate = λ e. file_is_no_gate drain.patch.path (sym is ∙ e);

@@ -5,4 +5,5 @@ pub mod LastRun
 pub mod Steps
 pub mod Ends
 pub mod Rows
+pub mod Frame
 pub mod Arm

@@ -1,8 +1,10 @@
 -- What a crash may leave of a disk on which a patch is on its way, by the next step.
-use Rattle.std.specs.Prelude.{◌≡◌, ◌≢◌, ℕ, ⊤, List, Option, None, Some, IfSome, Result, Ok, Err}
+use Rattle.std.specs.Prelude.{◌≡◌, ◌≢◌, ℕ, ⊤, false, List, Option, None, Some, IfSome, IsSomeAnd, Result, Ok, Err}
 use Rattle.outside_io.specs.Image.{Image}
 use Rattle.outside_io.specs.declared.disk.DiskFailed.{DiskFailed}
 use Rattle.ring_format.specs.Patch.{PatchValue}
+use Rattle.ring_archive.specs.Ring.{IsRingFile}
+use Rattle.ring_writer.specs.PartWritten.{StaysRing}
 use Rattle.redo_log.specs.Body.{body_bytes}
 use Rattle.redo_log.specs.Steps.{IsClosed, IsGate, IsOpen, RedoValue, gate_name, log_name, with_next}
 use Rattle.redo_log.specs.declared.next_step.NextStep.{NextStep}
@@ -25,11 +27,13 @@ pub record LeavesEither (patch : PatchValue) (now left : Image) : Type 0 where
   pub gate : IsGate (left gate_name)
   pub rings : KeepsRings now left
 
--- the body in the log, an open gate, and the rings as they read, but for the file of the patch
+-- The body in the log, an open gate, and the rings as they read, but for the file of the patch: where the patch is fresh
+-- anything or nothing stands under its name, and else a ring file that reads under the patch as the file that reads now.
 pub record LeavesOpen (patch : PatchValue) (file : List ℕ) (now left : Image) : Type 0 where
   pub log : left log_name ≡ Some (body_bytes patch)
   pub gate : IsOpen (left gate_name)
   pub others : (name : List ℕ) → name ≢ log_name → name ≢ gate_name → name ≢ file → left name ≡ now name
+  pub ring : patch.fresh ≡ false → IsSomeAnd (now file) (IsRingFile patch.layout) → StaysRing patch file now left
 
 -- the row of the next step
 abbrev pub LeavesBy : PatchValue → List ℕ → NextStep → Image → Image → Type 0

@@ -1,18 +1,18 @@
 //! The call of the disk that each step makes.
 ghost use Rattle.std.specs.Prelude.{◌≡◌, ◌≢◌, IfSome, IsErr, None};
-ghost use Rattle.outside_io.specs.Frames.{CountsFaults};
 ghost use Rattle.redo_log.specs.Rows.{KeepsRow};
 ghost use Rattle.redo_log.specs.Steps.{HasWritten, IsGateStep, IsNamed, IsReady, IsSyncStep, StepEnds, behind_cells, behind_run, on_way};
 ghost use Rattle.redo_log.specs.declared.next_step.NextStep.TheVariants.{CreateLog, FirstPiece, Piece, Run};
+ghost use Rattle.write_shelf.specs.Shelf.{IsRunOf, OfNext};
+ghost use Rattle.redo_log.specs.Frame.{GoesOn};
 
 use crate::body::{ENTRY_BYTES, PIECE_BYTES, cells_are_few, leading_len};
 use crate::last_run::is_last;
-use crate::log_calls::{create_log, set_gate, sync_disk, write_log};
+use crate::log_calls::{create_log, set_gate, sync_disk, write_log, write_next};
 use crate::next_step::NextStep;
 use crate::piece::{put_first_piece, put_next_piece};
 use outside_io::{Disk, DiskFailed};
 use ring_format::Patch;
-use ring_writer::write_run;
 use write_shelf::Shelf;
 
 // The patch of a shelf with one.
@@ -40,7 +40,7 @@ pub(crate) fn create_step<D: Disk>(
         (D.image disk.old) (D.image disk.new) }
     ensures row { KeepsRow (on_way shelf.now name.now CreateLog) result (D.image disk.old)
         (D.image disk.new) (D.may_leave disk.old) (D.may_leave disk.new) }
-    ensures frame { CountsFaults D.Disk disk.old disk.new (IsErr result) }
+    ensures frame { GoesOn D.Disk disk.old disk.new (IsErr result) }
 {
     let _ = name;
     match create_log(disk, patch_of(shelf)) {
@@ -73,7 +73,7 @@ pub(crate) fn first_piece_step<D: Disk>(
         (D.image disk.old) (D.image disk.new) }
     ensures row { KeepsRow (on_way shelf.now name.now FirstPiece) result (D.image disk.old)
         (D.image disk.new) (D.may_leave disk.old) (D.may_leave disk.new) }
-    ensures frame { CountsFaults D.Disk disk.old disk.new (IsErr result) }
+    ensures frame { GoesOn D.Disk disk.old disk.new (IsErr result) }
 {
     let _ = name;
     let patch = patch_of(shelf);
@@ -101,7 +101,7 @@ pub(crate) fn next_piece_step<D: Disk>(
         (D.image disk.old) (D.image disk.new) }
     ensures row { KeepsRow (on_way shelf.now name.now (Piece written)) result (D.image disk.old)
         (D.image disk.new) (D.may_leave disk.old) (D.may_leave disk.new) }
-    ensures frame { CountsFaults D.Disk disk.old disk.new (IsErr result) }
+    ensures frame { GoesOn D.Disk disk.old disk.new (IsErr result) }
 {
     let _ = name;
     let patch = patch_of(shelf);
@@ -131,7 +131,7 @@ pub(crate) fn sync_step<D: Disk>(
         (D.image disk.old) (D.image disk.new) }
     ensures row { KeepsRow (on_way shelf.now name.now now) result (D.image disk.old)
         (D.image disk.new) (D.may_leave disk.old) (D.may_leave disk.new) }
-    ensures frame { CountsFaults D.Disk disk.old disk.new (IsErr result) }
+    ensures frame { GoesOn D.Disk disk.old disk.new (IsErr result) }
 {
     let _ = shelf;
     let _ = name;
@@ -160,7 +160,7 @@ pub(crate) fn gate_step<D: Disk>(
         (D.image disk.old) (D.image disk.new) }
     ensures row { KeepsRow (on_way shelf.now name.now now) result (D.image disk.old)
         (D.image disk.new) (D.may_leave disk.old) (D.may_leave disk.new) }
-    ensures frame { CountsFaults D.Disk disk.old disk.new (IsErr result) }
+    ensures frame { GoesOn D.Disk disk.old disk.new (IsErr result) }
 {
     let _ = shelf;
     let _ = name;
@@ -183,10 +183,12 @@ pub(crate) fn run_step<D: Disk>(
     requires ready { IfSome (D.image disk.old) (IsReady (on_way shelf.now name.now Run)) }
     ensures ends { StepEnds (on_way shelf.now name.now Run) result
         (D.image disk.old) (D.image disk.new) }
-    ensures frame { CountsFaults D.Disk disk.old disk.new (IsErr result) }
+    ensures row { KeepsRow (on_way shelf.now name.now Run) result (D.image disk.old)
+        (D.image disk.new) (D.may_leave disk.old) (D.may_leave disk.new) }
+    ensures frame { GoesOn D.Disk disk.old disk.new (IsErr result) }
 {
     let next = behind_run(shelf);
-    match write_run(disk, name, shelf) {
+    match write_next(disk, name, shelf) {
         Ok(()) => Ok(Some(next)),
         Err(fault) => Err(fault),
     }
@@ -195,7 +197,8 @@ pub(crate) fn run_step<D: Disk>(
 // The step behind a run.
 fn behind_run(shelf: &Shelf) -> NextStep
     requires { shelf.now ≢ None }
-    ensures { IfSome shelf.now (λ drain. result ≡ behind_run drain) }
+    ensures next { IfSome shelf.now (λ drain. result ≡ behind_run drain) }
+    ensures sound { OfNext shelf.now IsRunOf }
 {
     if is_last(shelf) {
         return NextStep::SyncRuns;

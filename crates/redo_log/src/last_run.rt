@@ -3,6 +3,7 @@ ghost use Rattle.std.specs.Prelude.{◌≡◌, ◌≢◌, ◌==◌, None, IfSome
 ghost use Rattle.std.specs.List.Sorted.{IsStrictlySortedBy};
 ghost use Rattle.std.specs.Map.{keys_of};
 ghost use Rattle.ring_format.specs.Patch.{place_cmp};
+ghost use Rattle.write_shelf.specs.Shelf.{IsRunOf, OfNext};
 ghost use Rattle.redo_log.specs.LastRun.{ends_in, ends_with};
 
 use crate::calling::patch_of;
@@ -12,7 +13,8 @@ use write_shelf::{Run, Shelf};
 // Whether one run of a shelf is left.
 pub(crate) fn is_last(shelf: &Shelf) -> bool
     requires { shelf.now ≢ None }
-    ensures { IfSome shelf.now (λ drain. result ≡ (length drain.left == 1)) }
+    ensures last { IfSome shelf.now (λ drain. result ≡ (length drain.left == 1)) }
+    ensures sound { OfNext shelf.now IsRunOf }
 {
     let Some(run) = shelf.next_run() else {
         unreachable!()

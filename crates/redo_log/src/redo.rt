@@ -1,12 +1,12 @@
 //! The redo.
-ghost use Rattle.std.specs.Prelude.{◌≡◌, ◌<◌, false, IfSome, None, length, option_and_then, option_map, string_bytes};
+ghost use Rattle.std.specs.Prelude.{◌≡◌, ◌<◌, IfSome, None, length, option_and_then, option_map, string_bytes};
 ghost use Rattle.metric_path.specs.FileName.{file_name_of};
-ghost use Rattle.outside_io.specs.Frames.{CountsFaults};
 ghost use Rattle.write_shelf.specs.Runs.{runs_of};
 ghost use Rattle.redo_log.specs.Ends.{RedoEnds, redo_with, rest_of};
-ghost use Rattle.redo_log.specs.Steps.{IsReady, is_run};
+ghost use Rattle.redo_log.specs.Steps.{IsReady};
 ghost use Rattle.redo_log.specs.Rows.{InRow};
 ghost use Rattle.redo_log.specs.declared.redo_step.RedoStep.TheVariants.{DiskFault};
+ghost use Rattle.redo_log.specs.Frame.{GoesOn, StaysInRows};
 
 use crate::redo_step::RedoStep;
 use crate::steps::Steps;
@@ -71,10 +71,9 @@ impl Redo {
         requires ready { IfSome self.old (λ redo. IfSome (D.image disk.old) (IsReady redo)) }
         ensures ends { RedoEnds result self.old self.new (D.image disk.old) (D.image disk.new) }
         ensures ready { IfSome self.new (λ redo. IfSome (D.image disk.new) (IsReady redo)) }
-        ensures row { IfSome self.old (λ redo. is_run redo.next ≡ false
-            → InRow self.old (D.image disk.old) (D.may_leave disk.old)
-            → InRow self.new (D.image disk.new) (D.may_leave disk.new)) }
-        ensures frame { CountsFaults D.Disk disk.old disk.new (result ≡ DiskFault) }
+        ensures rows { InRow self.old (D.image disk.old) (D.may_leave disk.old)
+            → StaysInRows D.Disk self.old self.new disk.old disk.new }
+        ensures frame { GoesOn D.Disk disk.old disk.new (result ≡ DiskFault) }
     {
         let Some(mut steps) = self.steps.take() else {
             return RedoStep::Nothing;

@@ -1,11 +1,11 @@
 //! A patch on its way.
-ghost use Rattle.std.specs.Prelude.{◌≡◌, ◌≢◌, false, IfSome, IsErr, None, Some, option_map, string_bytes};
-ghost use Rattle.outside_io.specs.Frames.{CountsFaults};
+ghost use Rattle.std.specs.Prelude.{◌≡◌, ◌≢◌, IfSome, IsErr, None, Some, option_map, string_bytes};
 ghost use Rattle.redo_log.specs.Steps.{IsNamed, IsReady, Leads, StepEnds, is_run, on_way, with_next};
 ghost use Rattle.redo_log.specs.Ends.{TakeEnds};
 ghost use Rattle.redo_log.specs.Rows.{GoesInRow, KeepsRow};
 ghost use Rattle.redo_log.specs.declared.next_step.NextStep.TheVariants.{CreateLog};
 ghost use Rattle.redo_log.specs.declared.redo_step.RedoStep.TheVariants.{DiskFault};
+ghost use Rattle.redo_log.specs.Frame.{GoesOn};
 
 use crate::calling::{
     create_step, first_piece_step, gate_step, next_piece_step, patch_of, run_step, sync_step,
@@ -61,9 +61,9 @@ impl Steps {
     fn call<D: Disk>(&self, disk: &mut D) -> Result<Option<NextStep>, DiskFailed>
         requires ready { IfSome (D.image disk.old) (IsReady self.now) }
         ensures ends { StepEnds self.now result (D.image disk.old) (D.image disk.new) }
-        ensures row { is_run self.now.next ≡ false → KeepsRow self.now result (D.image disk.old)
-            (D.image disk.new) (D.may_leave disk.old) (D.may_leave disk.new) }
-        ensures frame { CountsFaults D.Disk disk.old disk.new (IsErr result) }
+        ensures row { KeepsRow self.now result (D.image disk.old) (D.image disk.new)
+            (D.may_leave disk.old) (D.may_leave disk.new) }
+        ensures frame { GoesOn D.Disk disk.old disk.new (IsErr result) }
     {
         let (shelf, name, next) = (&self.shelf, self.name.as_str(), self.next);
         match next {
@@ -96,9 +96,9 @@ impl Steps {
     pub(crate) fn take<D: Disk>(&mut self, disk: &mut D) -> RedoStep
         requires ready { IfSome (D.image disk.old) (IsReady self.old) }
         ensures ends { TakeEnds result self.old self.new (D.image disk.old) (D.image disk.new) }
-        ensures row { is_run self.old.next ≡ false → GoesInRow result self.old self.new
-            (D.image disk.old) (D.image disk.new) (D.may_leave disk.old) (D.may_leave disk.new) }
-        ensures frame { CountsFaults D.Disk disk.old disk.new (result ≡ DiskFault) }
+        ensures row { GoesInRow result self.old self.new (D.image disk.old) (D.image disk.new)
+            (D.may_leave disk.old) (D.may_leave disk.new) }
+        ensures frame { GoesOn D.Disk disk.old disk.new (result ≡ DiskFault) }
     {
         match self.call(disk) {
             Ok(Some(next)) => {
