@@ -9,5 +9,9 @@ pub mod LastLemmas
 pub mod RunRows
 pub mod CrashRows
 pub mod MomentLemmas
+pub mod LookLemmas
+pub mod LayLemmas
+pub mod UnderwayLemmas
+pub mod RecoverLemmas
 pub mod EndLemmas
 pub mod ReadyLemmas

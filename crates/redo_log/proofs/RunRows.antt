@@ -28,11 +28,11 @@ stays_same patch name x left same whole = record {
 pub stays_both : (patch : PatchValue) (name : List ℕ) (x y z : Image) → StaysRing patch name x y → StaysRing patch name y z → StaysRing patch name x z
 stays_both patch name x y z p q = record { whole = q.whole; reads = λ rings reads. q.reads rings (p.reads rings reads) }
 
-under_over : (fresh : Bool) (image : Image) (name : List ℕ) (P : List ℕ → Type 0) → fresh ≡ false → UnderPatch fresh (Some image) name P → IsSomeAnd (image name) P
+pub under_over : (fresh : Bool) (image : Image) (name : List ℕ) (P : List ℕ → Type 0) → fresh ≡ false → UnderPatch fresh (Some image) name P → IsSomeAnd (image name) P
 under_over true image name P over p = absurd cc
 under_over false image name P over p = p
 
-over_under : (fresh : Bool) (image : Image) (name : List ℕ) (P : List ℕ → Type 0) → fresh ≡ false → IsSomeAnd (image name) P → UnderPatch fresh (Some image) name P
+pub over_under : (fresh : Bool) (image : Image) (name : List ℕ) (P : List ℕ → Type 0) → fresh ≡ false → IsSomeAnd (image name) P → UnderPatch fresh (Some image) name P
 over_under true image name P over p = absurd cc
 over_under false image name P over p = p
 
@@ -50,7 +50,7 @@ reads_back patch left name x y rings over comes whole reads =
     (λ each was. under_over patch.fresh y name (λ file. ReadsAs patch file each) over (comes.reads each (over_under patch.fresh x name (λ file. ReadsAs patch file each) over was))) reads
 
 -- it is a ring file while a run is awaited
-part_ring : (patch : PatchValue) (left : List ShelfRun) (held : Option (List ℕ)) → patch.fresh ≡ false → IsSomeAnd held (IsPartWritten patch left) → IsSomeAnd held (IsRingFile patch.layout)
+pub part_ring : (patch : PatchValue) (left : List ShelfRun) (held : Option (List ℕ)) → patch.fresh ≡ false → IsSomeAnd held (IsPartWritten patch left) → IsSomeAnd held (IsRingFile patch.layout)
 part_ring patch left None over part = absurd part
 part_ring patch left (Some file) over part = part.head (inl over)
 

@@ -332,7 +332,7 @@ not_synced (Some drain) name now behind a b step ready kept = subst (λ (o : Opt
 
 -- ---- the gate
 
-gate_put : (byte : ℕ) (held after : Option (List ℕ)) → IsGate held → after ≡ option_map (λ file. put_over file 0 (byte ∷ [])) held → IsSomeAnd after (λ file. slice_get file 0 ≡ Some byte)
+pub gate_put : (byte : ℕ) (held after : Option (List ℕ)) → IsGate held → after ≡ option_map (λ file. put_over file 0 (byte ∷ [])) held → IsSomeAnd after (λ file. slice_get file 0 ≡ Some byte)
 gate_put byte None after gate is = absurd gate
 gate_put byte (Some []) after gate is = absurd (omega (arith, gate))
 gate_put byte (Some (x ∷ xs)) after gate is = rw is refl
@@ -342,7 +342,7 @@ gate_torn None after gate torn = absurd gate
 gate_torn (Some file) None gate torn = absurd torn
 gate_torn (Some file) (Some now) gate torn = omega (arith, gate, torn.0)
 
-closed_by : (held : Option (List ℕ)) → IsSomeAnd held (λ file. slice_get file 0 ≡ Some 0) → IsClosed held
+pub closed_by : (held : Option (List ℕ)) → IsSomeAnd held (λ file. slice_get file 0 ≡ Some 0) → IsClosed held
 closed_by None is = absurd is
 closed_by (Some file) is = rw is (λ e. absurd (omega (arith, e)))
 

@@ -7,3 +7,4 @@ pub mod Ends
 pub mod Rows
 pub mod Frame
 pub mod Arm
+pub mod Recovery

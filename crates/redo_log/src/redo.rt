@@ -1,7 +1,9 @@
 //! The redo.
-ghost use Rattle.std.specs.Prelude.{◌≡◌, ◌<◌, IfSome, None, length, option_and_then, option_map, string_bytes};
+ghost use Rattle.std.specs.Prelude.{◌≡◌, ◌↔◌, ◌<◌, All, IfSome, IsTrue, None, length, option_and_then, option_map, string_bytes};
 ghost use Rattle.metric_path.specs.FileName.{file_name_of};
 ghost use Rattle.write_shelf.specs.Runs.{runs_of};
+ghost use Rattle.redo_log.specs.Body.{Fits};
+ghost use Rattle.redo_log.specs.Recovery.{at_runs};
 ghost use Rattle.redo_log.specs.Ends.{RedoEnds, redo_with, rest_of};
 ghost use Rattle.redo_log.specs.Steps.{IsReady};
 ghost use Rattle.redo_log.specs.Rows.{InRow};
@@ -51,6 +53,29 @@ impl Redo {
         shelf.put(patch);
         if shelf.patch().is_some() {
             self.steps = Some(Steps::of(shelf, name));
+        }
+    }
+
+    // Whether it is empty.
+    pub(crate) fn is_empty(&self) -> bool
+        ensures { IsTrue result ↔ self.now ≡ None }
+    {
+        self.steps.is_none()
+    }
+
+    // A patch of an open gate at its first run. One without runs leaves it empty.
+    pub(crate) fn behind_gate(patch: Patch, name: String) -> Redo
+        requires named { string_bytes name ≡ file_name_of patch.path }
+        requires fit { All Fits patch.cells }
+        ensures { result ≡ at_runs patch (string_bytes name) (runs_of patch) }
+    {
+        let mut shelf = Shelf::empty();
+        shelf.put(patch);
+        if shelf.patch().is_none() {
+            return Redo::empty();
+        }
+        Redo {
+            steps: Some(Steps::behind_gate(shelf, name)),
         }
     }
 

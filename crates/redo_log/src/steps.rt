@@ -1,9 +1,10 @@
 //! A patch on its way.
-ghost use Rattle.std.specs.Prelude.{◌≡◌, ◌≢◌, IfSome, IsErr, None, Some, option_map, string_bytes};
+ghost use Rattle.std.specs.Prelude.{◌≡◌, ◌≢◌, All, IfSome, IsErr, None, Some, option_map, string_bytes};
 ghost use Rattle.redo_log.specs.Steps.{IsNamed, IsReady, Leads, StepEnds, is_run, on_way, with_next};
+ghost use Rattle.redo_log.specs.Body.{Fits};
 ghost use Rattle.redo_log.specs.Ends.{TakeEnds};
 ghost use Rattle.redo_log.specs.Rows.{GoesInRow, KeepsRow};
-ghost use Rattle.redo_log.specs.declared.next_step.NextStep.TheVariants.{CreateLog};
+ghost use Rattle.redo_log.specs.declared.next_step.NextStep.TheVariants.{CreateLog, Run};
 ghost use Rattle.redo_log.specs.declared.redo_step.RedoStep.TheVariants.{DiskFault};
 ghost use Rattle.redo_log.specs.Frame.{GoesOn};
 
@@ -47,6 +48,20 @@ impl Steps {
             shelf,
             name,
             next: NextStep::CreateLog,
+        }
+    }
+
+    // The patch of a shelf at its first run.
+    pub(crate) fn behind_gate(shelf: Shelf, name: String) -> Steps
+        requires some { shelf ≢ None }
+        requires named { IsNamed shelf (string_bytes name) }
+        requires fit { IfSome shelf (λ drain. All Fits drain.patch.cells) }
+        ensures { result ≡ on_way shelf (string_bytes name) Run }
+    {
+        Steps {
+            shelf,
+            name,
+            next: NextStep::Run,
         }
     }
 

@@ -1,0 +1,6 @@
+use Rattle.ring_writer.proofs.NextLemmas.{on_err_then}
+use Rattle.redo_log.proofs.LookLemmas.{looks_call}
+use Rattle.redo_log.proofs.looking.look_length.Goals as goal
+
+pub returns-clause-frame : goal.returns-clause-frame
+returns-clause-frame g c = looks_call c.args.disk.now c.length.new.self c.length.ensures.kept c.length.ensures.later (on_err_then c.length.result c.length.ensures.cause) c.length.ensures.crash

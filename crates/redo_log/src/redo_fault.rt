@@ -1,0 +1,18 @@
+//! Why what an open gate holds could not be laid.
+ghost use Rattle.std.specs.Prelude.{◌≡◌};
+
+use thiserror::Error;
+
+/// Why a start could not lay what the log holds.
+#[derive(Clone, Copy, Debug, PartialEq, Eq, Error)]
+pub enum RedoFault {
+    /// The gate is open, and the log has no body, or the body is one of a file that is not there.
+    #[error("the log is damaged")]
+    Damaged,
+    /// The disk failed.
+    #[error("the disk failed")]
+    DiskFault,
+    /// Memory ran out.
+    #[error("out of memory")]
+    NoMemory,
+}
