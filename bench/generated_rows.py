@@ -1,15 +1,18 @@
 #!/usr/bin/env python3
-"""The generated rows of ring_cases, by slow models that share nothing with carbon's code.
+"""The generated rows of text_cases and ring_cases, by slow models that share nothing with carbon's code.
 
-Usage: bench/generated_rows.py orders|batches     prints the rows
-       bench/generated_rows.py                    looks whether all of them stand in the program's stdin
+Usage: bench/generated_rows.py globs|orders|batches     prints the rows
+       bench/generated_rows.py                          looks whether all of them stand in the programs' stdin
 
-orders: puts, looks and drains that look like chance, over a plain list. batches: forty files of three archives, each with ten drains of
+globs: pairs of a glob and a path that look like chance, and whether the glob fits, told by a matcher that reads no glob: it knows what each of the parts
+stands for. orders: puts, looks and drains that look like chance, over a plain list. batches: forty files of three archives, each with ten drains of
 points round the edges of its archives, over plain dictionaries; behind each drain the values of the last 80 buckets of each archive, and of each
-older one that is known. The rows stand below the titles "puts and drains in any order go as over a plain list" and "generated
-drains agree with a slow batch".
+older one that is known. The rows stand below the titles "generated globs agree with a slow matcher", "puts and drains in any order go as over a plain
+list" and "generated drains agree with a slow batch".
 """
+import itertools
 import os
+import re
 import sys
 
 
@@ -22,6 +25,33 @@ class Numbers:
     def below(self, bound):
         self.state = (self.state * 6364136223846793005 + 1442695040888963407) % 2**64
         return (self.state >> 33) % bound
+
+
+# The text of each part of a glob, and then those for which it stands. In these only `?` and `*` are wildcards.
+PARTS = [
+    ["", ""], ["a", "a"], ["b", "b"], ["c-", "c-"], [".", "."], ["*", "*"], ["?", "?"], ["[ac]", "a", "c"], ["[a-c]", "a", "b", "c"], ["[b-a]"],
+    ["[-b]", "-", "b"], ["[b-]", "b", "-"], ["[a-b--]", "a", "b", "-"], ["{}", ""], ["{,ab}", "", "ab"], ["{b*,?a}", "b*", "?a"],
+    ["{a,c,*}", "a", "c", "*"], ["x{[ab],}", "xa", "xb", "x"],
+]
+
+
+def fits(parts, path):
+    for texts in itertools.product(*[PARTS[part][1:] for part in parts]):
+        pattern = "".join("[^.]*" if c == "*" else "[^.]" if c == "?" else re.escape(c) for c in "".join(texts))
+        if re.fullmatch(pattern, path):
+            return True
+    return False
+
+
+def globs():
+    numbers = Numbers(20)
+    for _ in range(12000):
+        parts = [numbers.below(18) for _ in range(4)]
+        length = numbers.below(7) + 1
+        path = "".join("aabbc-.x"[numbers.below(8)] for _ in range(length))
+        glob = "".join(PARTS[part][0] for part in parts)
+        if "" not in glob.split(".") and "" not in path.split("."):
+            yield f"fits {glob} {path} => {'yes' if fits(parts, path) else 'no'}"
 
 
 class Waiting:
@@ -182,7 +212,7 @@ def batches():
         yield batch(numbers, number % 2 == 0, 10)
 
 
-KINDS = {"orders": (orders, "ring_cases"), "batches": (batches, "ring_cases")}
+KINDS = {"globs": (globs, "text_cases"), "orders": (orders, "ring_cases"), "batches": (batches, "ring_cases")}
 
 
 def main():

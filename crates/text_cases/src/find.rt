@@ -4,7 +4,7 @@ ghost use Rattle.std.specs.Cmp.Lexicographic.{slice_cmp};
 ghost use Rattle.std.specs.List.Sorted.{IsStrictlySortedBy};
 ghost use Rattle.std.specs.Ordering.{nat_cmp};
 
-use crate::given::path_of;
+use crate::given::{path_of, paths_of};
 use crate::telling::push_bytes;
 use case_lines::{Case, CaseFault};
 use find_api::{FindFault, expand_text, find_text, index_text, read_queries};
@@ -12,21 +12,8 @@ use metric_path::MetricPath;
 use path_glob::Glob;
 use std::alloc::{AllocError, Global};
 
-/// Tells a case of queries for names; `false` where the verb is of another subject.
-pub fn tell(alloc: Global, told: &mut String, case: &Case) -> Result<bool, CaseFault> {
-    match case.verb() {
-        "queries" => tell_queries(alloc, told, case)?,
-        "find" => tell_find(alloc, told, case)?,
-        "expand" => tell_expand(alloc, told, case)?,
-        "index" => tell_index(alloc, told, case)?,
-        "find-sweep" => tell_sweep(alloc, told, case)?,
-        _ => return Ok(false),
-    }
-    Ok(true)
-}
-
 /// `queries QUERY BODY`: the globs that a query string and a form ask for, or why they are refused.
-fn tell_queries(alloc: Global, told: &mut String, case: &Case) -> Result<(), CaseFault> {
+pub fn tell_queries(alloc: Global, told: &mut String, case: &Case) -> Result<(), CaseFault> {
     match read_queries(alloc, case.bytes(0)?, case.bytes(1)?) {
         Ok(globs) => {
             for glob in globs.iter() {
@@ -46,7 +33,7 @@ fn push_glob(told: &mut String, glob: &Glob) -> Result<(), AllocError> {
 }
 
 /// `find QUERY NAME..`: the nodes that the query finds among the names, as JSON, or why it is refused.
-fn tell_find(alloc: Global, told: &mut String, case: &Case) -> Result<(), CaseFault> {
+pub fn tell_find(alloc: Global, told: &mut String, case: &Case) -> Result<(), CaseFault> {
     let names = sorted_names(alloc, case.rest(1))?;
     match read_queries(alloc, case.bytes(0)?, b"") {
         Ok(globs) => Ok(push_bytes(told, &find_text(alloc, &globs, &names)?)?),
@@ -55,7 +42,7 @@ fn tell_find(alloc: Global, told: &mut String, case: &Case) -> Result<(), CaseFa
 }
 
 /// `expand QUERY NAME..`: the paths that the queries find among the names, as JSON, or why they are refused.
-fn tell_expand(alloc: Global, told: &mut String, case: &Case) -> Result<(), CaseFault> {
+pub fn tell_expand(alloc: Global, told: &mut String, case: &Case) -> Result<(), CaseFault> {
     let names = sorted_names(alloc, case.rest(1))?;
     match read_queries(alloc, case.bytes(0)?, b"") {
         Ok(globs) => Ok(push_bytes(told, &expand_text(alloc, &globs, &names)?)?),
@@ -64,7 +51,7 @@ fn tell_expand(alloc: Global, told: &mut String, case: &Case) -> Result<(), Case
 }
 
 /// `index NAME..`: all names, as JSON.
-fn tell_index(alloc: Global, told: &mut String, case: &Case) -> Result<(), CaseFault> {
+pub fn tell_index(alloc: Global, told: &mut String, case: &Case) -> Result<(), CaseFault> {
     let names = sorted_names(alloc, case.rest(0))?;
     Ok(push_bytes(told, &index_text(alloc, &names)?)?)
 }
@@ -73,17 +60,20 @@ fn tell_index(alloc: Global, told: &mut String, case: &Case) -> Result<(), CaseF
 fn sorted_names(alloc: Global, texts: &[Vec<u8>]) -> Result<Vec<MetricPath>, CaseFault>
     ensures { IfOk result (λ names. IsStrictlySortedBy (slice_cmp nat_cmp) names.items) }
 {
-    let mut names = Vec::new(alloc);
-    for text in texts {
-        names.push(path_of(alloc, text.as_slice())?)?;
-    }
+    in_order(paths_of(alloc, texts)?)
+}
+
+fn in_order(names: Vec<MetricPath>) -> Result<Vec<MetricPath>, CaseFault>
+    ensures { IfOk result (λ names. IsStrictlySortedBy (slice_cmp nat_cmp) names.items) }
+{
+    let mut names = names;
     names.sort()?;
     names.dedup();
     Ok(names)
 }
 
 /// `find-sweep NAMES TIMES QUERY`: the bytes of so many answers together, among the names `a.b.c00000` and on.
-fn tell_sweep(alloc: Global, told: &mut String, case: &Case) -> Result<(), CaseFault> {
+pub fn tell_sweep(alloc: Global, told: &mut String, case: &Case) -> Result<(), CaseFault> {
     let names = names_of_a_branch(alloc, case.small(0)?)?;
     let Ok(globs) = read_queries(alloc, case.bytes(2)?, b"") else {
         return Err(CaseFault::Malformed);
@@ -99,13 +89,15 @@ fn tell_sweep(alloc: Global, told: &mut String, case: &Case) -> Result<(), CaseF
 fn names_of_a_branch(alloc: Global, count: u32) -> Result<Vec<MetricPath>, CaseFault>
     ensures { IfOk result (λ names. IsStrictlySortedBy (slice_cmp nat_cmp) names.items) }
 {
+    in_order(paths_of_a_branch(alloc, count)?)
+}
+
+fn paths_of_a_branch(alloc: Global, count: u32) -> Result<Vec<MetricPath>, CaseFault> {
     let mut names = Vec::new(alloc);
     for n in 0..count {
         let text = format!(in alloc; "a.b.c{n:05}")?;
         names.push(path_of(alloc, text.as_bytes())?)?;
     }
-    names.sort()?;
-    names.dedup();
     Ok(names)
 }
 

@@ -2,7 +2,6 @@
 ghost use Rattle.std.specs.Prelude.{⊤};
 
 use crate::given::joined;
-use crate::pieces::{SeenFirst, piece_sizes};
 use crate::telling::push_bytes;
 use case_lines::{Case, CaseFault};
 use line_frame::{Framed, Framer};
@@ -10,35 +9,24 @@ use line_service::{LineServer, ServiceEnd, Stop, WaitingServer, serve_each, serv
 use outside_io::{MemSink, MemSource, Sink, write_all};
 use std::alloc::{AllocError, Global};
 
-/// Tells a case of lines that come in pieces; `false` where the verb is of another subject.
-pub fn tell(alloc: Global, told: &mut String, case: &Case) -> Result<bool, CaseFault> {
-    match case.verb() {
-        "frames" => tell_frames(alloc, told, case)?,
-        "served" => tell_served(alloc, told, case)?,
-        _ => return Ok(false),
-    }
-    Ok(true)
-}
-
-/// `frames SIZES STREAM`: the lines of the stream in pieces of these sizes, a bar behind each and `?` for one that is too long.
-fn tell_frames(alloc: Global, told: &mut String, case: &Case) -> Result<(), CaseFault> {
+/// `frames SIZE STREAM`: the lines of the stream in pieces of this size, a bar behind each and `?` for one that is too long.
+pub fn tell_frames(alloc: Global, told: &mut String, case: &Case) -> Result<(), CaseFault> {
     let stream = joined(alloc, case, 1)?;
-    let mut first = SeenFirst::new();
-    for size in piece_sizes(alloc, case, 0)? {
-        let seen = framed(alloc, &stream, size)?;
-        first.tell(told, size, seen)?;
-    }
-    Ok(())
+    Ok(push_framed(alloc, told, &stream, case.number(0)? as usize)?)
 }
 
-fn framed(alloc: Global, stream: &[u8], size: usize) -> Result<String, AllocError> {
+fn push_framed(
+    alloc: Global,
+    told: &mut String,
+    stream: &[u8],
+    size: usize,
+) -> Result<(), AllocError> {
     let mut framer = Framer::new(alloc);
-    let mut seen = String::new(alloc);
     for piece in stream.chunks(size.max(1)) {
         framer.feed(piece)?;
-        push_lines(&mut framer, &mut seen)?;
+        push_lines(&mut framer, told)?;
     }
-    Ok(seen)
+    Ok(())
 }
 
 // Hands out all lines that wait.
@@ -54,30 +42,34 @@ fn push_lines(framer: &mut Framer, seen: &mut String) -> Result<(), AllocError> 
     Ok(())
 }
 
-/// `served SIZES READ TEXT`: how the service of the text ends, of which so many bytes come at once at most and of which the read
+/// `served MOST READ TEXT`: how the service of the text ends, of which so many bytes come at once at most and of which the read
 /// with that number fails (0: none does), and the replies, which are the lines as `frames` tells them. At the line `stop` it stops.
-fn tell_served(alloc: Global, told: &mut String, case: &Case) -> Result<(), CaseFault> {
+pub fn tell_served(alloc: Global, told: &mut String, case: &Case) -> Result<(), CaseFault> {
     let text = joined(alloc, case, 2)?;
-    let failing = case.number(1)?;
-    let mut first = SeenFirst::new();
-    for size in piece_sizes(alloc, case, 0)? {
-        let seen = served(alloc, &text, size, failing)?;
-        first.tell(told, size, seen)?;
-    }
-    Ok(())
+    let mut input = source_of(alloc, &text, case.number(0)? as usize, case.number(1)?)?;
+    Ok(push_served(alloc, told, &mut input)?)
 }
 
-fn served(alloc: Global, text: &[u8], most: usize, failing: u64) -> Result<String, AllocError> {
+fn source_of(
+    alloc: Global,
+    text: &[u8],
+    most: usize,
+    failing: u64,
+) -> Result<MemSource, AllocError> {
     let calls = vec![in alloc; failing]?;
-    let mut input = MemSource::new(alloc, Vec::from_slice(alloc, text)?)
-        .at_most(most.max(1))
-        .failing(calls);
+    let text = Vec::from_slice(alloc, text)?;
+    Ok(
+        MemSource::new(alloc, text)
+            .at_most(most.max(1))
+            .failing(calls),
+    )
+}
+
+fn push_served(alloc: Global, told: &mut String, input: &mut MemSource) -> Result<(), AllocError> {
     let mut out = MemSink::new(alloc);
-    let end = serve_lines(&mut Echo, alloc, &mut input, &mut out);
-    let mut seen = String::new(alloc);
-    seen.push_str(end_text(end))?;
-    push_bytes(&mut seen, out.bytes())?;
-    Ok(seen)
+    let end = serve_lines(&mut Echo, alloc, input, &mut out);
+    told.push_str(end_text(end))?;
+    push_bytes(told, out.bytes())
 }
 
 fn end_text(end: ServiceEnd) -> &'static str {

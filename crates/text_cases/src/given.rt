@@ -16,22 +16,6 @@ pub fn joined(alloc: Global, case: &Case, at: usize) -> Result<Vec<u8>, CaseFaul
     Ok(text)
 }
 
-/// A text that has to be UTF-8.
-pub fn text_of(bytes: &[u8]) -> Result<&str, CaseFault> {
-    match str::from_utf8(bytes) {
-        Ok(text) => Ok(text),
-        Err(_) => Err(CaseFault::Malformed),
-    }
-}
-
-/// A size, which is a place or a count.
-pub fn size_of(text: &str) -> Result<usize, CaseFault> {
-    match text.parse::<usize>() {
-        Ok(size) => Ok(size),
-        Err(_) => Err(CaseFault::Malformed),
-    }
-}
-
 /// A text that has to be a path.
 pub fn path_of(alloc: Global, text: &[u8]) -> Result<MetricPath, CaseFault> {
     match MetricPath::new(alloc, text) {
@@ -39,6 +23,15 @@ pub fn path_of(alloc: Global, text: &[u8]) -> Result<MetricPath, CaseFault> {
         Err(PathFault::NoMemory) => Err(CaseFault::NoMemory),
         Err(_) => Err(CaseFault::Malformed),
     }
+}
+
+/// Texts that have to be paths.
+pub fn paths_of(alloc: Global, texts: &[Vec<u8>]) -> Result<Vec<MetricPath>, CaseFault> {
+    let mut names = Vec::new(alloc);
+    for text in texts {
+        names.push(path_of(alloc, text.as_slice())?)?;
+    }
+    Ok(names)
 }
 
 /// A text that has to be a glob.

@@ -1,7 +1,6 @@
 //! Requests and replies of HTTP.
 
 use crate::given::joined;
-use crate::pieces::{SeenFirst, piece_sizes};
 use crate::telling::push_bytes;
 use case_lines::{Case, CaseFault};
 use http_wire::{
@@ -10,44 +9,29 @@ use http_wire::{
 };
 use std::alloc::{AllocError, Global};
 
-/// Tells a case of HTTP; `false` where the verb is of another subject.
-pub fn tell(alloc: Global, told: &mut String, case: &Case) -> Result<bool, CaseFault> {
-    match case.verb() {
-        "requests" => tell_requests(alloc, told, case)?,
-        "requests-fed" => tell_feeds(alloc, told, case)?,
-        "route" => tell_route(told, case)?,
-        "query-of" => push_bytes(told, query_of(case.bytes(0)?))?,
-        "reply" => tell_reply(alloc, told, case)?,
-        "answer" => tell_answer(alloc, told, case)?,
-        _ => return Ok(false),
-    }
-    Ok(true)
-}
-
-/// `requests SIZES STREAM`: what a link tells on which the stream comes in pieces of these sizes, and then its end. A request is its
+/// `requests SIZE STREAM`: what a link tells on which the stream comes in pieces of this size, and then its end. A request is its
 /// method, target, minor version, `L` where it is the last and else `-`, and body; a refusal its code; and a bar stands behind each
 /// that is told before the end.
-fn tell_requests(alloc: Global, told: &mut String, case: &Case) -> Result<(), CaseFault> {
+pub fn tell_requests(alloc: Global, told: &mut String, case: &Case) -> Result<(), CaseFault> {
     let stream = joined(alloc, case, 1)?;
-    let mut first = SeenFirst::new();
-    for size in piece_sizes(alloc, case, 0)? {
-        let seen = requests_in(alloc, &stream, size)?;
-        first.tell(told, size, seen)?;
-    }
-    Ok(())
+    Ok(push_stream(alloc, told, &stream, case.number(0)? as usize)?)
 }
 
-fn requests_in(alloc: Global, stream: &[u8], size: usize) -> Result<String, AllocError> {
+fn push_stream(
+    alloc: Global,
+    told: &mut String,
+    stream: &[u8],
+    size: usize,
+) -> Result<(), AllocError> {
     let mut reader = RequestReader::new(alloc);
-    let mut seen = String::new(alloc);
     for piece in stream.chunks(size.max(1)) {
         reader.feed(piece)?;
-        push_requests(&mut reader, &mut seen)?;
+        push_requests(&mut reader, told)?;
     }
-    if let Some(why) = reader.end() {
-        write!(&mut seen, "{}", why.code())?;
+    match reader.end() {
+        Some(why) => write!(told, "{}", why.code()),
+        None => Ok(()),
     }
-    Ok(seen)
 }
 
 // Hands out what waits.
@@ -73,7 +57,7 @@ fn push_request(seen: &mut String, request: &Request<'_>) -> Result<(), AllocErr
 }
 
 /// `requests-fed STREAM`: how many bytes are taken at a time of all that are left, and then the requests as `requests` tells them.
-fn tell_feeds(alloc: Global, told: &mut String, case: &Case) -> Result<(), CaseFault> {
+pub fn tell_feeds(alloc: Global, told: &mut String, case: &Case) -> Result<(), CaseFault> {
     let stream = joined(alloc, case, 0)?;
     let mut reader = RequestReader::new(alloc);
     let mut seen = String::new(alloc);
@@ -91,7 +75,7 @@ fn tell_feeds(alloc: Global, told: &mut String, case: &Case) -> Result<(), CaseF
 }
 
 /// `route METHOD TARGET`: what answers the request, or the code of its refusal.
-fn tell_route(told: &mut String, case: &Case) -> Result<(), CaseFault> {
+pub fn tell_route(told: &mut String, case: &Case) -> Result<(), CaseFault> {
     match route(case.bytes(0)?, case.bytes(1)?) {
         Ok(Endpoint::Render) => Ok(told.push_str("render")?),
         Ok(Endpoint::Find) => Ok(told.push_str("find")?),
@@ -101,14 +85,25 @@ fn tell_route(told: &mut String, case: &Case) -> Result<(), CaseFault> {
     }
 }
 
+/// `query-of TARGET`: the query in the target of a request.
+pub fn tell_query_of(told: &mut String, case: &Case) -> Result<(), CaseFault> {
+    Ok(push_bytes(told, query_of(case.bytes(0)?))?)
+}
+
 /// `reply LINK KIND TEXT`: the bytes of the reply behind others. The link stays `open` or is `closing`; the kind is `json`, `plain`
 /// or `csv` of a body, `text` of a reason, or `refused` of a code.
-fn tell_reply(alloc: Global, told: &mut String, case: &Case) -> Result<(), CaseFault> {
+pub fn tell_reply(alloc: Global, told: &mut String, case: &Case) -> Result<(), CaseFault> {
     let text = joined(alloc, case, 2)?;
     let reply = reply_of(case.text(1)?, &text)?;
-    let mut out = Vec::from_slice(alloc, b"before")?;
-    push_reply(alloc, &mut out, &reply, is_closing(case.text(0)?)?)?;
+    let is_last = is_closing(case.text(0)?)?;
+    let out = replied(alloc, &reply, is_last)?;
     Ok(push_bytes(told, &out)?)
+}
+
+fn replied(alloc: Global, reply: &Reply<'_>, is_last: bool) -> Result<Vec<u8>, AllocError> {
+    let mut out = Vec::from_slice(alloc, b"before")?;
+    push_reply(alloc, &mut out, reply, is_last)?;
+    Ok(out)
 }
 
 fn reply_of<'a>(kind: &str, text: &'a [u8]) -> Result<Reply<'a>, CaseFault> {
@@ -121,7 +116,7 @@ fn reply_of<'a>(kind: &str, text: &'a [u8]) -> Result<Reply<'a>, CaseFault> {
 
 /// `answer ITEM KIND TEXT`: whether the link is `open` or `closing` behind the answer, and its bytes behind others. The item is
 /// the target of a GET, the same behind `closing:`, or the code of a refusal; the kind is as that of a reply, or `fault` or `memory`.
-fn tell_answer(alloc: Global, told: &mut String, case: &Case) -> Result<(), CaseFault> {
+pub fn tell_answer(alloc: Global, told: &mut String, case: &Case) -> Result<(), CaseFault> {
     let text = joined(alloc, case, 2)?;
     let item = item_of(case.text(0)?)?;
     let answer = answer_of(case.text(1)?, &text)?;

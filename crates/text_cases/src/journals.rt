@@ -7,21 +7,10 @@ use fixed_num::wide;
 use journal_form::{FormFault, Journal, JournalHead, Record, Reply, read_head, read_record};
 use std::alloc::{AllocError, Global};
 
-/// Tells a case of journals; `false` where the verb is of another subject.
-pub fn tell(alloc: Global, told: &mut String, case: &Case) -> Result<bool, CaseFault> {
-    match case.verb() {
-        "journal-head" => tell_head(alloc, told, case.bytes(0)?)?,
-        "journal-record" => tell_record(alloc, told, case.bytes(0)?)?,
-        "journal" => tell_journal(alloc, told, case)?,
-        _ => return Ok(false),
-    }
-    Ok(true)
-}
-
 /// `journal-head BYTES`: how many bytes the head has that these begin with, its limit, its order
 /// and its two files, or `unreadable`.
-fn tell_head(alloc: Global, told: &mut String, bytes: &[u8]) -> Result<(), CaseFault> {
-    match read_head(alloc, bytes) {
+pub fn tell_head(alloc: Global, told: &mut String, case: &Case) -> Result<(), CaseFault> {
+    match read_head(alloc, case.bytes(0)?) {
         Ok((head, length)) => {
             write!(told, "{length}: {} {}", head.limit, head.order)?;
             push_text(told, head.schemas.as_slice())?;
@@ -34,8 +23,8 @@ fn tell_head(alloc: Global, told: &mut String, bytes: &[u8]) -> Result<(), CaseF
 
 /// `journal-record BYTES`: how many bytes the record has that these begin with, its kind and its
 /// fields, or `unreadable`.
-fn tell_record(alloc: Global, told: &mut String, bytes: &[u8]) -> Result<(), CaseFault> {
-    match read_record(alloc, bytes) {
+pub fn tell_record(alloc: Global, told: &mut String, case: &Case) -> Result<(), CaseFault> {
+    match read_record(alloc, case.bytes(0)?) {
         Ok((record, length)) => {
             write!(told, "{length}: ")?;
             Ok(push_record(told, &record)?)
@@ -96,7 +85,7 @@ fn push_text(told: &mut String, text: &[u8]) -> Result<(), AllocError> {
 /// when these records are pushed, `+` for each that it takes and `-` for each that it does not;
 /// whether it is `cut` or `whole`; and its bytes, in hexadecimal digits. `no room` where the head
 /// is longer.
-fn tell_journal(alloc: Global, told: &mut String, case: &Case) -> Result<(), CaseFault> {
+pub fn tell_journal(alloc: Global, told: &mut String, case: &Case) -> Result<(), CaseFault> {
     let room = case.number(0)?;
     if room > 1_000_000_000 {
         return Err(CaseFault::Malformed);

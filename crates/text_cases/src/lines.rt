@@ -8,18 +8,8 @@ use metric_line::{Datum, LineFault, StampFault, read_line, read_line_over};
 use metric_path::MetricPath;
 use std::alloc::{AllocError, Global};
 
-/// Tells a case of metric lines; `false` where the verb is of another subject.
-pub fn tell(alloc: Global, told: &mut String, case: &Case) -> Result<bool, CaseFault> {
-    match case.verb() {
-        "line" => tell_line(alloc, told, case)?,
-        "lines-over" => tell_lines_over(alloc, told, case)?,
-        _ => return Ok(false),
-    }
-    Ok(true)
-}
-
 /// `line NOW LINE`: the path, the thousandths and the time of the line at the moment now, or why it is refused.
-fn tell_line(alloc: Global, told: &mut String, case: &Case) -> Result<(), CaseFault> {
+pub fn tell_line(alloc: Global, told: &mut String, case: &Case) -> Result<(), CaseFault> {
     let Some(now) = legal_moment(case.number(0)?) else {
         return Err(CaseFault::Malformed);
     };
@@ -30,7 +20,7 @@ fn tell_line(alloc: Global, told: &mut String, case: &Case) -> Result<(), CaseFa
 }
 
 /// `lines-over NOW LINE..`: the same of several lines, each read in the memory of the path before it.
-fn tell_lines_over(alloc: Global, told: &mut String, case: &Case) -> Result<(), CaseFault> {
+pub fn tell_lines_over(alloc: Global, told: &mut String, case: &Case) -> Result<(), CaseFault> {
     let mut spare = None;
     for line in case.rest(1) {
         if !told.is_empty() {

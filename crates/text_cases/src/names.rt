@@ -1,44 +1,40 @@
 //! An index of names.
 
-use crate::given::{glob_of, path_of, text_of};
+use crate::given::{glob_of, path_of, paths_of};
 use crate::telling::push_next;
-use case_lines::{Case, CaseFault};
+use case_lines::{Case, CaseFault, text_in};
 use metric_index::{Hit, Index, Verdicts};
 use metric_path::MetricPath;
-use path_glob::{GlobSearch, Work};
+use path_glob::{Glob, GlobSearch, Work};
 use std::alloc::Global;
-
-/// Tells a case of an index; `false` where the verb is of another subject.
-pub fn tell(alloc: Global, told: &mut String, case: &Case) -> Result<bool, CaseFault> {
-    match case.verb() {
-        "hits" => tell_hits(alloc, told, case)?,
-        "known-hits" => tell_known_hits(alloc, told, case)?,
-        "entry" => tell_entry(alloc, told, case)?,
-        "hits-sweep" => tell_sweep(alloc, told, case)?,
-        _ => return Ok(false),
-    }
-    Ok(true)
-}
 
 /// `hits GLOB STEP..`: what the glob finds in an index after these steps, as `PATH=ENTRY` in its order. A step is `+PATH,ENTRY`, which
 /// enters a path, `=PATH,ENTRY`, which sets the entry of one that is there, or `-PATH`, which takes one out.
-fn tell_hits(alloc: Global, told: &mut String, case: &Case) -> Result<(), CaseFault> {
+pub fn tell_hits(alloc: Global, told: &mut String, case: &Case) -> Result<(), CaseFault> {
     let index = index_of(alloc, case.rest(1))?;
     let glob = glob_of(alloc, case.bytes(0)?)?;
     push_hits(told, &index.find(alloc, &Verdicts::none(alloc, &glob))?)
 }
 
 /// `known-hits GLOB COUNT NAME.. STEP..`: the same, where the glob was held against so many names beforehand, which are in byte order.
-fn tell_known_hits(alloc: Global, told: &mut String, case: &Case) -> Result<(), CaseFault> {
+pub fn tell_known_hits(alloc: Global, told: &mut String, case: &Case) -> Result<(), CaseFault> {
     let count = case.small(1)? as usize;
-    let mut names = Vec::new(alloc);
-    for name in case.rest(2).iter().take(count) {
-        names.push(path_of(alloc, name.as_slice())?)?;
-    }
+    let names = case.rest(2).get(..count).unwrap_or(&[]);
+    let names = paths_of(alloc, names)?;
     let glob = glob_of(alloc, case.bytes(0)?)?;
-    let mut search = GlobSearch::new(alloc, &glob)?;
-    let known = Verdicts::of_paths(alloc, &glob, &mut search, &names, &mut Work::of_question())?;
     let index = index_of(alloc, case.rest(2_usize.saturating_add(count)))?;
+    push_known_hits(alloc, told, &index, &glob, &names)
+}
+
+fn push_known_hits(
+    alloc: Global,
+    told: &mut String,
+    index: &Index<String>,
+    glob: &Glob,
+    names: &[MetricPath],
+) -> Result<(), CaseFault> {
+    let mut search = GlobSearch::new(alloc, glob)?;
+    let known = Verdicts::of_paths(alloc, glob, &mut search, names, &mut Work::of_question())?;
     push_hits(told, &index.find(alloc, &known)?)
 }
 
@@ -51,7 +47,7 @@ fn push_hits(told: &mut String, hits: &[Hit<'_, String>]) -> Result<(), CaseFaul
 }
 
 /// `entry PATH STEP..`: the entry that the path has after these steps, or `none`, and how many paths there are.
-fn tell_entry(alloc: Global, told: &mut String, case: &Case) -> Result<(), CaseFault> {
+pub fn tell_entry(alloc: Global, told: &mut String, case: &Case) -> Result<(), CaseFault> {
     let index = index_of(alloc, case.rest(1))?;
     match index.get(&path_of(alloc, case.bytes(0)?)?) {
         Some(entry) => told.push_str(entry.as_str())?,
@@ -95,7 +91,7 @@ struct Pair {
 }
 
 fn pair_of(alloc: Global, text: &[u8]) -> Result<Pair, CaseFault> {
-    let Some((path, entry)) = text_of(text)?.split_once(',') else {
+    let Some((path, entry)) = text_in(text)?.split_once(',') else {
         return Err(CaseFault::Malformed);
     };
     Ok(Pair {
@@ -105,7 +101,7 @@ fn pair_of(alloc: Global, text: &[u8]) -> Result<Pair, CaseFault> {
 }
 
 /// `hits-sweep NAMES TIMES GLOB`: how many hits so many searches have together, in an index of the names `servers.web00000.cpu` and on.
-fn tell_sweep(alloc: Global, told: &mut String, case: &Case) -> Result<(), CaseFault> {
+pub fn tell_sweep(alloc: Global, told: &mut String, case: &Case) -> Result<(), CaseFault> {
     let index = index_of_servers(alloc, case.small(0)?)?;
     let glob = glob_of(alloc, case.bytes(2)?)?;
     let mut hits: usize = 0;

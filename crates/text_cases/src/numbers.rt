@@ -8,24 +8,8 @@ use fixed_num::{
 };
 use std::alloc::AllocError;
 
-/// Tells a case of numbers; `false` where the verb is of another subject.
-pub fn tell(told: &mut String, case: &Case) -> Result<bool, CaseFault> {
-    match case.verb() {
-        "whole" => tell_whole(told, case)?,
-        "milli" => tell_milli(told, case)?,
-        "milli-front" => tell_front(told, case)?,
-        "milli-text" => tell_text(told, case)?,
-        "nano" => tell_nano(told, case)?,
-        "millionths" => tell_millionths(told, case)?,
-        "narrow" => tell_narrow(told, case)?,
-        "moment" => tell_moment(told, case)?,
-        _ => return Ok(false),
-    }
-    Ok(true)
-}
-
 /// `whole TEXT`: the whole number, or `none`.
-fn tell_whole(told: &mut String, case: &Case) -> Result<(), CaseFault> {
+pub fn tell_whole(told: &mut String, case: &Case) -> Result<(), CaseFault> {
     match read_whole(case.bytes(0)?) {
         Some(number) => Ok(write!(told, "{number}")?),
         None => Ok(told.push_str("none")?),
@@ -33,7 +17,7 @@ fn tell_whole(told: &mut String, case: &Case) -> Result<(), CaseFault> {
 }
 
 /// `milli TEXT`: the value in thousandths, or its fault.
-fn tell_milli(told: &mut String, case: &Case) -> Result<(), CaseFault> {
+pub fn tell_milli(told: &mut String, case: &Case) -> Result<(), CaseFault> {
     match read_milli(case.bytes(0)?) {
         Ok(value) => Ok(write!(told, "{}", wide(value))?),
         Err(fault) => Ok(push_fault(told, fault)?),
@@ -41,7 +25,7 @@ fn tell_milli(told: &mut String, case: &Case) -> Result<(), CaseFault> {
 }
 
 /// `milli-front TEXT`: the value in thousandths at the front of the text and the bytes that it takes, or `none`.
-fn tell_front(told: &mut String, case: &Case) -> Result<(), CaseFault> {
+pub fn tell_front(told: &mut String, case: &Case) -> Result<(), CaseFault> {
     match milli_front(case.bytes(0)?) {
         Some(front) => Ok(write!(told, "{} of {}", wide(front.value), front.len)?),
         None => Ok(told.push_str("none")?),
@@ -49,14 +33,14 @@ fn tell_front(told: &mut String, case: &Case) -> Result<(), CaseFault> {
 }
 
 /// `milli-text VALUE`: the text of a value in thousandths.
-fn tell_text(told: &mut String, case: &Case) -> Result<(), CaseFault> {
+pub fn tell_text(told: &mut String, case: &Case) -> Result<(), CaseFault> {
     let mut text = [0; MILLI_TEXT];
     let length = print_milli(value_in(case, 0)?, &mut text);
     Ok(push_bytes(told, text.get(..length).unwrap_or(&[]))?)
 }
 
 /// `nano TEXT`: the number in billionths, or its fault.
-fn tell_nano(told: &mut String, case: &Case) -> Result<(), CaseFault> {
+pub fn tell_nano(told: &mut String, case: &Case) -> Result<(), CaseFault> {
     match read_nano(case.bytes(0)?) {
         Ok(value) => Ok(write!(told, "{value}")?),
         Err(fault) => Ok(push_fault(told, fault)?),
@@ -64,7 +48,7 @@ fn tell_nano(told: &mut String, case: &Case) -> Result<(), CaseFault> {
 }
 
 /// `millionths TEXT`: the number from 0 to 1 in millionths, or its fault.
-fn tell_millionths(told: &mut String, case: &Case) -> Result<(), CaseFault> {
+pub fn tell_millionths(told: &mut String, case: &Case) -> Result<(), CaseFault> {
     match read_millionths(case.bytes(0)?) {
         Ok(value) => Ok(write!(told, "{value}")?),
         Err(fault) => Ok(push_fault(told, fault)?),
@@ -72,7 +56,7 @@ fn tell_millionths(told: &mut String, case: &Case) -> Result<(), CaseFault> {
 }
 
 /// `narrow VALUE MORE`: the sum of both as a value, or `none` where it is none.
-fn tell_narrow(told: &mut String, case: &Case) -> Result<(), CaseFault> {
+pub fn tell_narrow(told: &mut String, case: &Case) -> Result<(), CaseFault> {
     let more = wide(value_in(case, 1)?);
     match narrow(wide(value_in(case, 0)?).saturating_add(more)) {
         Some(value) => Ok(write!(told, "{}", wide(value))?),
@@ -89,7 +73,7 @@ fn value_in(case: &Case, at: usize) -> Result<Milli, CaseFault> {
 }
 
 /// `moment NUMBER`: the number of seconds as a moment, or `none` where it is no legal one.
-fn tell_moment(told: &mut String, case: &Case) -> Result<(), CaseFault> {
+pub fn tell_moment(told: &mut String, case: &Case) -> Result<(), CaseFault> {
     match legal_moment(case.number(0)?) {
         Some(moment) => Ok(write!(told, "{moment}")?),
         None => Ok(told.push_str("none")?),

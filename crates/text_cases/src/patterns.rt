@@ -1,28 +1,17 @@
 //! Patterns, as rules and queries search names for them.
 
-use crate::given::text_of;
-use case_lines::{Case, CaseFault};
+use case_lines::{Case, CaseFault, text_in};
 use name_pattern::{NameTest, Pattern};
 use std::alloc::{AllocError, Global};
 
-/// Tells a case of patterns; `false` where the verb is of another subject.
-pub fn tell(alloc: Global, told: &mut String, case: &Case) -> Result<bool, CaseFault> {
-    match case.verb() {
-        "found" => tell_found(alloc, told, case)?,
-        "substituted" => tell_substituted(alloc, told, case)?,
-        _ => return Ok(false),
-    }
-    Ok(true)
-}
-
 /// `found PATTERN NAME..`: for each name `y` where the pattern is found in it and else `n`, or `x` where a rule and a search of
 /// many names differ; `unreadable` of what is no pattern.
-fn tell_found(alloc: Global, told: &mut String, case: &Case) -> Result<(), CaseFault> {
+pub fn tell_found(alloc: Global, told: &mut String, case: &Case) -> Result<(), CaseFault> {
     let Some(test) = NameTest::new(alloc, case.text(0)?)? else {
         return Ok(told.push_str("unreadable")?);
     };
     for name in case.rest(1) {
-        told.push(letter(alloc, &test, text_of(name.as_slice())?)?)?;
+        told.push(letter(alloc, &test, text_in(name.as_slice())?)?)?;
     }
     Ok(())
 }
@@ -38,7 +27,7 @@ fn letter(alloc: Global, test: &NameTest, name: &str) -> Result<char, AllocError
 }
 
 /// `substituted PATTERN REPLACEMENT NAME`: the name with each match replaced; `unreadable` of what is no pattern.
-fn tell_substituted(alloc: Global, told: &mut String, case: &Case) -> Result<(), CaseFault> {
+pub fn tell_substituted(alloc: Global, told: &mut String, case: &Case) -> Result<(), CaseFault> {
     let Some(pattern) = Pattern::new(alloc, case.text(0)?)? else {
         return Ok(told.push_str("unreadable")?);
     };

@@ -4,18 +4,8 @@ use case_lines::{Case, CaseFault};
 use std::alloc::AllocError;
 use time_range::{TimeFault, read_span, read_time};
 
-/// Tells a case of times; `false` where the verb is of another subject.
-pub fn tell(told: &mut String, case: &Case) -> Result<bool, CaseFault> {
-    match case.verb() {
-        "time" => tell_time(told, case)?,
-        "span" => tell_span(told, case)?,
-        _ => return Ok(false),
-    }
-    Ok(true)
-}
-
 /// `time NOW TEXT`: the moment that the text says at the moment now, or its fault.
-fn tell_time(told: &mut String, case: &Case) -> Result<(), CaseFault> {
+pub fn tell_time(told: &mut String, case: &Case) -> Result<(), CaseFault> {
     match read_time(case.text(1)?, case.number(0)?) {
         Ok(moment) => Ok(write!(told, "{moment}")?),
         Err(fault) => Ok(push_fault(told, fault)?),
@@ -23,7 +13,7 @@ fn tell_time(told: &mut String, case: &Case) -> Result<(), CaseFault> {
 }
 
 /// `span TEXT`: the seconds that the text says, with `+` where they lead into the future and else `-`, or its fault.
-fn tell_span(told: &mut String, case: &Case) -> Result<(), CaseFault> {
+pub fn tell_span(told: &mut String, case: &Case) -> Result<(), CaseFault> {
     match read_span(case.text(0)?) {
         Ok(span) => {
             told.push(if span.past { '-' } else { '+' })?;

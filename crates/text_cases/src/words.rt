@@ -8,16 +8,6 @@ use drain_order::Strategy;
 use std::alloc::{AllocError, Global};
 use std::env::{Env, FillError};
 
-/// Tells a case of words; `false` where the verb is of another subject.
-pub fn tell(alloc: Global, told: &mut String, case: &Case) -> Result<bool, CaseFault> {
-    match case.verb() {
-        "words" => tell_command(alloc, told, &strings_of(alloc, case)?)?,
-        "arguments" => tell_arguments(alloc, told, case)?,
-        _ => return Ok(false),
-    }
-    Ok(true)
-}
-
 /// A command line, and no variables.
 #[derive(Drop)]
 struct Arguments<'a> {
@@ -46,7 +36,7 @@ impl<'a> Env for Arguments<'a> {
 }
 
 /// `arguments NAME WORD..`: the command of a command line, behind the program's name, or `usage`. Its words need be no texts.
-fn tell_arguments(alloc: Global, told: &mut String, case: &Case) -> Result<(), CaseFault> {
+pub fn tell_arguments(alloc: Global, told: &mut String, case: &Case) -> Result<(), CaseFault> {
     let line = Arguments {
         words: case.rest(0),
     };
@@ -57,6 +47,10 @@ fn tell_arguments(alloc: Global, told: &mut String, case: &Case) -> Result<(), C
 }
 
 /// `words WORD..`: the command that the words are, or `usage`.
+pub fn tell_words(alloc: Global, told: &mut String, case: &Case) -> Result<(), CaseFault> {
+    tell_command(alloc, told, &strings_of(alloc, case)?)
+}
+
 fn tell_command(alloc: Global, told: &mut String, words: &[String]) -> Result<(), CaseFault> {
     match read_words(alloc, words) {
         Ok(Command::Script(options)) => {

@@ -1,7 +1,7 @@
 use Rattle.std.proofs.lemmas.Cmp.{nat_list_cmp_total}
 use Rattle.std.proofs.lemmas.List.Filters.{dedup_is}
 use Rattle.find_api.proofs.OrderLemmas.{once_in_order, path_equiv, path_exact, path_ties}
-use Rattle.text_cases.proofs.find.names_of_a_branch.Goals as goal
+use Rattle.text_cases.proofs.find.in_order.Goals as goal
 
 pub returns : goal.returns
 returns c =
