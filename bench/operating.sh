@@ -433,7 +433,7 @@ a_file_that_is_cut_is_told_and_drained_once_it_is_back() {
     stops_with "stored 1 replaced 0 full 0 drains 1"
     cp -p "$(ring_of a.b)" "$place/kept"
     serve
-    truncate -s 100 "$(ring_of a.b)"
+    truncate -s 30 "$(ring_of a.b)"
     send 'a.b 6 -1'
     want_told "carbon: data/$(class_of a.b)/a/b.ring: shorter than it was; "
     end_daemon TERM
