@@ -536,6 +536,10 @@ Options:
   --line-port P       The port of metric lines: 0 to 65535, 0 for any free one.
                       [2003]
   --http-port P       The port of HTTP, likewise. [8080]
+  --line-host A       An IPv4 address of this machine at which metric lines are
+                      taken, and at no other. Up to 16 times. [0.0.0.0]
+  --http-host A       The same for HTTP: 127.0.0.1 keeps it to this machine.
+                      [0.0.0.0]
   --receivers N       Connections of metric lines at once: 1 to 256. [16]
   --renderers N       Connections of HTTP at once: 1 to 256. [16]
   --limit N           Pending points of each of sixteen classes: 1 to 10000000.

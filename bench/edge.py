@@ -469,6 +469,110 @@ def each_port_has_its_own_kind_on_all_addresses():
         want((status, body.count("\n")), (200, 2), "the answer")
 
 
+def refuses(host, port):
+    try:
+        socket.create_connection((host, port), 1).close()
+        return False
+    except OSError:
+        return True
+
+
+@case
+def a_port_that_has_an_address_is_open_there_alone():
+    for option in "--line-host", "--http-host":
+        with serving(option, "127.0.0.1") as daemon:
+            kept, other = daemon.line_port, daemon.http_port
+            if option == "--http-host":
+                kept, other = other, kept
+            told = refuses("127.0.0.1", kept), refuses("127.0.0.2", kept), refuses("127.0.0.1", other), refuses("127.0.0.2", other)
+            want(told, (False, True, False, False), option)
+
+
+@case
+def each_port_has_the_addresses_of_its_own_option():
+    with serving("--line-host", "127.0.0.1", "--http-host", "127.0.0.2") as daemon:
+        daemon.send(point("host.own"))
+        want(daemon.ask("host.own", host="127.0.0.2")[0], 200, "the answer")
+        want((refuses("127.0.0.2", daemon.line_port), refuses("127.0.0.1", daemon.http_port)), (True, True), "the other addresses")
+
+
+@case
+def a_port_answers_at_each_address_that_is_named():
+    hosts = "127.0.0.1", "127.0.0.2", "127.0.0.3"
+    words = [word for host in hosts for word in ("--line-host", host, "--http-host", host)]
+    with serving(*words) as daemon:
+        for _ in range(20):
+            for host in hosts:
+                daemon.send(point("host." + host.replace(".", "_")), host)
+                status, body = daemon.ask("host." + host.replace(".", "_"), host=host)
+                want((status, body.count("\n")), (200, 1), "the answer at " + host)
+        want((refuses("127.0.0.4", daemon.line_port), refuses("127.0.0.4", daemon.http_port)), (True, True), "another address")
+        status, line, _ = daemon.stop()
+        told = re.match(r"stored (\d+) replaced (\d+) full 0 ", line)
+        want((status, told and int(told[1]) + int(told[2])), (0, 60), "status and points")
+
+
+@case
+def an_address_does_not_wait_for_another_that_is_busy():
+    with serving("--http-host", "127.0.0.1", "--http-host", "127.0.0.2", "--renderers", "1") as daemon:
+        request = b"GET /metrics/find?query=a HTTP/1.0\r\n\r\n"
+        busy = [socket.create_connection(("127.0.0.1", daemon.http_port), 10) for _ in range(60)]
+        other = socket.create_connection(("127.0.0.2", daemon.http_port), 10)
+        other.sendall(request)
+        begun = time.time()
+        want(other.recv(64)[:12], b"HTTP/1.1 200", "the reply at the other address")
+        seconds = time.time() - begun
+        want(seconds < 3, True, "in %.1f seconds" % seconds)
+        for link in busy + [other]:
+            link.close()
+
+
+@case
+def connections_that_wait_at_several_addresses_are_served_at_the_stop():
+    words = ["--line-host", "127.0.0.1", "--line-host", "127.0.0.2", "--receivers", "1"]
+    with serving(*words) as daemon:
+        senders = [socket.create_connection(("127.0.0.%d" % (1 + k % 2), daemon.line_port), 5) for k in range(100)]
+        for k, link in enumerate(senders):
+            link.sendall(point("a.n%d" % k).encode())
+        want(daemon.stop()[0:2], (0, "stored 100 replaced 0 full 0 drains 100"), "the stop")
+        for link in senders:
+            link.close()
+
+
+@case
+def sixteen_addresses_may_be_named_and_not_seventeen():
+    most = resource.getrlimit(resource.RLIMIT_NOFILE)[1]
+    if most != resource.RLIM_INFINITY and most < 2283:
+        raise Passed("too few descriptors")
+
+    def enough():
+        resource.setrlimit(resource.RLIMIT_NOFILE, (2283, most))
+
+    words = [word for k in range(1, 18) for word in ("--http-host", "127.0.0.%d" % k)]
+    with serving(*words[:32], preexec_fn=enough) as daemon:
+        told = [refuses("127.0.0.%d" % k, daemon.http_port) for k in range(1, 18)]
+        want(told, [False] * 16 + [True], "refusals")
+    with serving(*words) as daemon:
+        want(daemon.end(), (2, "carbon: usage"), "status and line")
+
+
+@case
+def an_address_that_the_machine_lacks_or_has_twice_is_no_port():
+    for more in ["192.0.2.1"], ["127.0.0.1", "192.0.2.1"], ["127.0.0.1", "127.0.0.1"], ["0.0.0.0", "127.0.0.1"]:
+        with serving(*[word for host in more for word in ("--http-host", host)]) as daemon:
+            want(daemon.end(), (9, "carbon: no port"), " ".join(more))
+
+
+@case
+def each_address_wants_descriptors():
+    def few():
+        resource.setrlimit(resource.RLIMIT_NOFILE, (60, 60))
+
+    words = "--line-host", "127.0.0.1", "--line-host", "127.0.0.2", "--line-host", "127.0.0.3"
+    with serving("--receivers", "16", "--renderers", "16", *words, preexec_fn=few) as daemon:
+        want(daemon.end(), (13, "carbon: file descriptors: 593 needed, 60 given"), "status and line")
+
+
 @case
 def a_reset_of_a_sender_frees_its_receiver():
     with serving("--receivers", "1") as daemon:
@@ -756,7 +860,7 @@ def the_end_of_the_launcher_is_a_stop():
             below = children(daemon.process.pid)
             want(len(below), 2, "the program and the listener")
             daemon.process.send_signal(how)
-            gone = settled(lambda: refuses(daemon.line_port), 20)
+            gone = settled(lambda: refuses("127.0.0.1", daemon.line_port), 20)
             want(gone, True, "the port after %s" % how.name)
             settled(lambda: lock_is_free(daemon.place), 20)
             want(os.path.exists(path_of(daemon.place, "a.b")), True, "the drained file after %s" % how.name)
@@ -777,14 +881,6 @@ def is_there(pid):
     with contextlib.suppress(OSError), open("/proc/%d/stat" % pid) as file:
         return file.read().rpartition(")")[2].split()[0] != "Z"
     return False
-
-
-def refuses(port):
-    try:
-        socket.create_connection(("127.0.0.1", port), 1).close()
-        return False
-    except OSError:
-        return True
 
 
 def lock_is_free(place):

@@ -250,6 +250,8 @@ each_option_is_taken_at_its_ends_and_refused_beyond() {
     done <<'END'
 line-port 0,65535 65536
 http-port 0,65535 65536
+line-host 127.0.0.1,0.0.0.0 127.0.0.256,localhost
+http-host 127.0.0.1,0.0.0.0 127.0.0.01,::1
 receivers 1,256 0,257
 renderers 1,256 0,257
 limit 1,10000000 0,10000001

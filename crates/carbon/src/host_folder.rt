@@ -2,14 +2,14 @@
 ghost use Rattle.std.specs.Prelude.{◌≡◌, IfOk, vec_len};
 
 use crate::unready::Unready;
-use carbon_words::ServeOptions;
+use carbon_words::{PortHosts, ServeOptions};
 use folder_disk::FolderDisk;
 use libc::types::rlimit;
 use libc::{RLIMIT_NOFILE, getrlimit};
 use std::alloc::AllocError;
 use std::fs::{self, File, OpenFile, OpenOptions, TryLockError};
 use std::os::unix::fs::MetadataExt;
-use tcp_net::NET_DESCRIPTORS;
+use tcp_net::net_descriptors;
 
 /// The working folder.
 const WORKING: &str = ".";
@@ -81,7 +81,7 @@ fn locked(rt: &HostRuntime, folder: &str) -> Result<Option<File>, Unready> {
 /// Refuses where the system lets the process open fewer files than a server with these links has open at most, which is at its stop.
 pub(crate) fn want_descriptors(options: &ServeOptions) -> Result<(), Unready> {
     let links = u64::from(options.receivers) + u64::from(options.renderers);
-    let needed = DESCRIPTORS + NET_DESCRIPTORS + links;
+    let needed = DESCRIPTORS + net_descriptors(count_addresses(&options.hosts)) + links;
     let mut limit = rlimit {
         rlim_cur: 0,
         rlim_max: 0,
@@ -91,6 +91,13 @@ pub(crate) fn want_descriptors(options: &ServeOptions) -> Result<(), Unready> {
         return Err(Unready::FewDescriptors { needed, given });
     }
     Ok(())
+}
+
+/// How many addresses the ports have together.
+fn count_addresses(hosts: &PortHosts) -> u32 {
+    let lines = hosts.lines.addresses().len();
+    let http = hosts.http.addresses().len();
+    u32::try_from(lines.saturating_add(http)).unwrap_or(u32::MAX)
 }
 
 /// A disk for each class, over the folders `data/00` to `data/15`. Those of a server have to be folders that can be written.

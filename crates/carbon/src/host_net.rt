@@ -1,14 +1,37 @@
 //! The ports of the system, and their clean stop.
 ghost use Rattle.std.specs.Prelude.{◌≡◌};
 
+use carbon_words::{Hosts, ServeOptions};
 use outside_io::{Net, NetFailed};
+use std::alloc::{AllocError, Global};
 use std::io::{BufRead, ErrorKind};
+use std::net::IpAddr;
 use std::thread;
 use std::time::Duration;
-use tcp_net::{NetCloser, TcpLink, TcpNet};
+use tcp_net::{NetCloser, NetSettings, TcpLink, TcpNet};
 
 /// How long the listener for the stop waits where it has no memory.
 const MEMORY_PAUSE_MILLIS: u64 = 50;
+
+/// What the words say of the ports.
+pub(crate) fn net_settings(
+    alloc: Global,
+    options: &ServeOptions,
+) -> Result<NetSettings, AllocError> {
+    Ok(NetSettings {
+        line_addresses: addresses_of(alloc, &options.hosts.lines)?,
+        http_addresses: addresses_of(alloc, &options.hosts.http)?,
+        line_patience: options.line_patience,
+    })
+}
+
+fn addresses_of(alloc: Global, hosts: &Hosts) -> Result<Vec<IpAddr>, AllocError> {
+    let mut addresses = Vec::new(alloc);
+    for address in hosts.addresses() {
+        addresses.push(IpAddr::V4(*address))?;
+    }
+    Ok(addresses)
+}
 
 /// The two ports of a server. A command that serves nothing has none, and its net binds nothing.
 ///

@@ -11,17 +11,16 @@ mod unready;
 use carbon_run::run;
 use carbon_words::{Command, ServeOptions, WordsFault, read_words, words};
 use host_folder::{conf_folder, folders, hold_folders, want_descriptors};
-use host_net::{HostNet, close_at_stop};
+use host_net::{HostNet, close_at_stop, net_settings};
 use host_threads::want_threads;
 use outside_io::{StdSink, StdSource};
 use std::alloc::Global;
 use std::io::ErrorKind;
-use std::net::{IpAddr, Ipv4Addr};
 use std::process::ExitCode;
 use std::sync::Wait;
 use std::thread::Threads;
 use std::{env, thread};
-use tcp_net::{NetCloser, NetSettings, SystemClock, TcpNet};
+use tcp_net::{NetCloser, SystemClock, TcpNet};
 use unready::Unready;
 
 /// Where the program is begun by its launcher, this variable is set: then the end of the standard input is a stop.
@@ -74,10 +73,7 @@ fn serve<H: Threads + Wait + Sync>(
 ) -> Result<u8, Unready> {
     want_descriptors(options)?;
     want_threads(threads, rt, options)?;
-    let settings = NetSettings {
-        address: IpAddr::V4(Ipv4Addr::UNSPECIFIED),
-        line_patience: options.line_patience,
-    };
+    let settings = net_settings(rt.alloc(), options)?;
     match TcpNet::new(rt.alloc(), rt, settings) {
         Ok(net) => {
             listen_for_stop(threads, rt, net.closer()?)?;

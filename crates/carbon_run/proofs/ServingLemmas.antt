@@ -22,6 +22,7 @@ use Rattle.shared_store.specs.Tallies.{is_fault, tally_of}
 use Rattle.shared_store.specs.declared.drain_end.DrainEnd.{DrainEnd}
 use Rattle.shared_store.specs.declared.drain_end.DrainEnd.TheVariants as end
 use Rattle.shared_store.specs.declared.tally.Tally.{Tally}
+use Rattle.carbon_serve.specs.Courses.{Staff}
 use Rattle.carbon_serve.specs.Serves.{EndsByFault, EndsServed, Serves}
 use Rattle.carbon_run.specs.Runs.{Answer, NoStart, Streams}
 use Rattle.carbon_run.specs.Serves.{LacksPort, NoPort, ServeRuns, Served, ServesAll, ServesShards, TellsServed, unread}
@@ -47,16 +48,18 @@ ends_earlier d told start earlier earlier' passes (end.DiskFault class) history 
 ends_earlier d told start earlier earlier' passes end.Spent history disks later ends = ends
 ends_earlier d told start earlier earlier' passes end.NoMemory history disks later ends = ends
 
-serves_earlier : {D : Type 0} (d : Ghosts D) (told : ℕ → Option Image) (start : State) (earlier earlier' : ℕ → ℕ) (moments : ℕ → Type 0) (passes : ℕ) (streams : Streams) (answer : Answer D) → ((k : ℕ) → earlier' k ≤ earlier k)
-    → ServesAll d told start earlier moments passes streams answer → ServesAll d told start earlier' moments passes streams answer
-serves_earlier {D} d told start earlier earlier' moments passes streams answer later all =
-    let serves : Serves d told start earlier moments passes all.reason answer.history answer.disks = all.serves in record {
+serves_earlier : {D L : Type 0} (d : Ghosts D) (staff : Staff L) (told : ℕ → Option Image) (start : State) (earlier earlier' : ℕ → ℕ) (streams : Streams) (answer : Answer D) → ((k : ℕ) → earlier' k ≤ earlier k)
+    → ServesAll d staff told start earlier streams answer → ServesAll d staff told start earlier' streams answer
+serves_earlier {D} d staff told start earlier earlier' streams answer later all =
+    let serves : Serves d staff told start earlier all.reason answer.history answer.disks = all.serves in record {
       reason = all.reason;
       serves = record {
-        ends = ends_earlier d told start earlier earlier' passes all.reason answer.history answer.disks later serves.ends;
+        ends = ends_earlier d told start earlier earlier' staff.passes all.reason answer.history answer.disks later serves.ends;
         legal = serves.legal;
         names = serves.names;
         timed = serves.timed;
+        courses = serves.courses;
+        last = serves.last;
         stand = λ k disk there.
             let ends : EndsAs d told start earlier [] answer.history k disk = serves.stand k disk there in record {
               patch = ends.patch;
@@ -73,11 +76,11 @@ serves_earlier {D} d told start earlier earlier' moments passes streams answer l
 
 -- ---- from the shards to the disks that were given
 
-pub served_over : {D E : Type 0} {d : Ghosts D} (net_faults : E → ℕ) (net net' : E) (settings : Settings) (given : List D) (shards : List (Shard D d)) (moments : ℕ → Type 0) (passes : ℕ) (streams : Streams) (answer : Answer D)
+pub served_over : {D E L : Type 0} {d : Ghosts D} (net_faults : E → ℕ) (net net' : E) (settings : Settings) (given : List D) (shards : List (Shard D d)) (staff : Staff L) (streams : Streams) (answer : Answer D)
     → StartsAll settings given shards
-    → LacksPort net_faults net net' shards streams answer ⊎ ServesShards (told_at shards) (opening_of shards) (faults_at shards) shards moments passes streams answer
-    → ServeRuns d net_faults net net' settings moments passes streams given answer
-served_over {d = d} net_faults net net' settings given shards moments passes streams answer starts (inl lacks) = inr (inl (record {
+    → LacksPort net_faults net net' shards streams answer ⊎ ServesShards staff (told_at shards) (opening_of shards) (faults_at shards) shards streams answer
+    → ServeRuns d net_faults net net' settings staff streams given answer
+served_over {d = d} net_faults net net' settings given shards staff streams answer starts (inl lacks) = inr (inl (record {
   cause = lacks.cause;
   tells = lacks.tells;
   sound = starts.sound;
@@ -86,7 +89,7 @@ served_over {d = d} net_faults net net' settings given shards moments passes str
   history = lacks.history;
   input = lacks.input;
 }))
-served_over {d = d} net_faults net net' settings given shards moments passes streams answer starts (inr (inl lacks)) = inl (record {
+served_over {d = d} net_faults net net' settings given shards staff streams answer starts (inr (inl lacks)) = inl (record {
   refusal = record { class = 0; fault = NoMemory };
   refuses = record {
     class = omega arith;
@@ -100,25 +103,25 @@ served_over {d = d} net_faults net net' settings given shards moments passes str
   history = lacks.history;
   input = lacks.input;
 })
-served_over {d = d} net_faults net net' settings given shards moments passes streams answer starts (inr (inr serves)) = inr (inr (record {
+served_over {d = d} net_faults net net' settings given shards staff streams answer starts (inr (inr serves)) = inr (inr (record {
   sound = starts.sound;
   start = opening_of shards;
   opens = opens_run settings (told_of d.image given) given shards starts.all starts.each (λ k. refl);
-  serves = serves_earlier d (told_of d.image given) (opening_of shards) (faults_at shards) (disk_faults d.faults given) moments passes streams answer starts.later
-      (subst (λ (told : ℕ → Option Image). ServesAll d told (opening_of shards) (faults_at shards) moments passes streams answer) (fun_ext starts.same) serves);
+  serves = serves_earlier d staff (told_of d.image given) (opening_of shards) (faults_at shards) (disk_faults d.faults given) streams answer starts.later
+      (subst (λ (told : ℕ → Option Image). ServesAll d staff told (opening_of shards) (faults_at shards) streams answer) (fun_ext starts.same) serves);
 }))
 
 -- ---- streams
 
 -- a server is told of no input, so whatever is left of one stays
-pub beside_input : {D E : Type 0} (d : Ghosts D) (net_faults : E → ℕ) (net net' : E) (settings : Settings) (moments : ℕ → Type 0) (passes : ℕ) (left : Option (List ℕ)) (before after : Option (List ℕ)) (given : List D) (answer : Answer D)
-    → ServeRuns d net_faults net net' settings moments passes (unread before after) given answer
-    → ServeRuns d net_faults net net' settings moments passes (record { front = None; left = left; left' = left; written = before; written' = after }) given answer
-beside_input d net_faults net net' settings moments passes left before after given answer (inl none) =
+pub beside_input : {D E L : Type 0} (d : Ghosts D) (net_faults : E → ℕ) (net net' : E) (settings : Settings) (staff : Staff L) (left : Option (List ℕ)) (before after : Option (List ℕ)) (given : List D) (answer : Answer D)
+    → ServeRuns d net_faults net net' settings staff (unread before after) given answer
+    → ServeRuns d net_faults net net' settings staff (record { front = None; left = left; left' = left; written = before; written' = after }) given answer
+beside_input d net_faults net net' settings staff left before after given answer (inl none) =
     inl (record { refusal = none.refusal; refuses = none.refuses; tells = none.tells; history = none.history; input = refl })
-beside_input d net_faults net net' settings moments passes left before after given answer (inr (inl none)) =
+beside_input d net_faults net net' settings staff left before after given answer (inr (inl none)) =
     inr (inl (record { cause = none.cause; tells = none.tells; sound = none.sound; sixteen = none.sixteen; same = none.same; history = none.history; input = refl }))
-beside_input d net_faults net net' settings moments passes left before after given answer (inr (inr served)) =
+beside_input d net_faults net net' settings staff left before after given answer (inr (inr served)) =
     inr (inr (record {
       sound = served.sound;
       start = served.start;

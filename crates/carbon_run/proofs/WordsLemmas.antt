@@ -14,7 +14,7 @@ pub no_words : {D : Type 0} (fault : WordsFault) (streams : Streams) (given : Li
 no_words words.Usage streams given answer tells history disks input = inl (record { tells = tells; history = history; disks = disks; input = input })
 no_words words.NoMemory streams given answer tells history disks input = inr (record { tells = tells; history = history; disks = disks; input = input })
 
-pub no_outcome : {D E : Type 0} (d : Ghosts D) (b : Beside E) (fault : WordsFault) (said : Option Command) (folder folder' : D) (streams : Streams) (given : List D) (answer : Answer D)
+pub no_outcome : {D E L : Type 0} (d : Ghosts D) (b : Beside E L) (fault : WordsFault) (said : Option Command) (folder folder' : D) (streams : Streams) (given : List D) (answer : Answer D)
     → (fault ≡ words.Usage → said ≡ None)
     → TellsWords fault answer.status streams.written streams.written' → answer.history ≡ [] → answer.disks ≡ given → streams.left' ≡ streams.left
     → IfSome said (λ command. Outcome d b command folder folder' streams given answer)

@@ -12,6 +12,7 @@ use Rattle.shared_store.specs.Tallies.{tally_of}
 use Rattle.shared_store.specs.declared.tally.Tally.{Tally}
 use Rattle.shared_store.specs.declared.drain_end.DrainEnd.{DrainEnd}
 use Rattle.shared_store.specs.declared.drain_end.DrainEnd.TheVariants.{Done, DiskFault, Spent, NoMemory}
+use Rattle.carbon_serve.specs.Courses.{Staff}
 use Rattle.carbon_serve.specs.Serves.{Serves}
 use Rattle.carbon_serve.specs.declared.crew.Duties.{Duties}
 use Rattle.carbon_words.specs.declared.command.ServeOptions.{ServeOptions}
@@ -43,11 +44,11 @@ TellsServed (DiskFault class) tally answer before after = TellsAlone 5 (disk_fau
 TellsServed Spent tally answer before after = TellsAlone 10 limit_line answer before after
 TellsServed NoMemory tally answer before after = TellsAlone 8 no_memory_line answer before after
 
--- What serving came to that began in a state, over disks that had told these images and had failed so often. Nothing is written but how it ended, and
--- the input is not read.
-pub record ServesAll {D : Type 0} (d : Ghosts D) (told : ℕ → Option Image) (start : State) (earlier : ℕ → ℕ) (moments : ℕ → Type 0) (passes : ℕ) (streams : Streams) (answer : Answer D) : Type 0 where
+-- What serving by a staff came to that began in a state, over disks that had told these images and had failed so often: of each link that was served
+-- the lines were put and the requests answered as the history says. Nothing is written to the output but how it ended, and the input is not read.
+pub record ServesAll {D L : Type 0} (d : Ghosts D) (staff : Staff L) (told : ℕ → Option Image) (start : State) (earlier : ℕ → ℕ) (streams : Streams) (answer : Answer D) : Type 0 where
   pub reason : DrainEnd
-  pub serves : Serves d told start earlier moments passes reason answer.history answer.disks
+  pub serves : Serves d staff told start earlier reason answer.history answer.disks
   pub tells : TellsServed reason (tally_of answer.history) answer.status streams.written streams.written'
   pub input : streams.left' ≡ streams.left
 
@@ -65,16 +66,16 @@ pub record NoPort {D : Type 0} {E : Type 0} (d : Ghosts D) (net_faults : E → �
   pub input : streams.left' ≡ streams.left
 
 -- The shards of all classes started, and the store served what the net brought, from a state in which a run may begin over these disks.
-pub record Served {D : Type 0} (d : Ghosts D) (settings : Settings) (moments : ℕ → Type 0) (passes : ℕ) (streams : Streams) (given : List D) (answer : Answer D) : Type 0 where
+pub record Served {D L : Type 0} (d : Ghosts D) (settings : Settings) (staff : Staff L) (streams : Streams) (given : List D) (answer : Answer D) : Type 0 where
   pub sound : AreSound (told_of d.image given) 16
   pub start : State
   pub opens : Opens settings (told_of d.image given) start
-  pub serves : ServesAll d (told_of d.image given) start (disk_faults d.faults given) moments passes streams answer
+  pub serves : ServesAll d staff (told_of d.image given) start (disk_faults d.faults given) streams answer
 
 -- A server over these disks: a shard does not start, or there is no port, or it serves.
-abbrev pub ServeRuns : {D E : Type 0} → Ghosts D → (E → ℕ) → E → E → Settings → (ℕ → Type 0) → ℕ → Streams → List D → Answer D → Type 0
-ServeRuns d net_faults net net' settings moments passes streams given answer =
-    NoStart d streams given answer ⊎ (NoPort d net_faults net net' streams given answer ⊎ Served d settings moments passes streams given answer)
+abbrev pub ServeRuns : {D E L : Type 0} → Ghosts D → (E → ℕ) → E → E → Settings → Staff L → Streams → List D → Answer D → Type 0
+ServeRuns d net_faults net net' settings staff streams given answer =
+    NoStart d streams given answer ⊎ (NoPort d net_faults net net' streams given answer ⊎ Served d settings staff streams given answer)
 
 -- ---- over shards that have started
 
@@ -91,6 +92,6 @@ pub record LacksPort {D : Type 0} {E : Type 0} {d : Ghosts D} (net_faults : E �
   pub input : streams.left' ≡ streams.left
 
 -- once the ports are bound, memory runs out, or they are served
-abbrev pub ServesShards : {D : Type 0} {d : Ghosts D} → (ℕ → Option Image) → State → (ℕ → ℕ) → List (Shard D d) → (ℕ → Type 0) → ℕ → Streams → Answer D → Type 0
-ServesShards {D} {d} told start earlier shards moments passes streams answer =
-    LacksMemory shards streams answer ⊎ ServesAll d told start earlier moments passes streams answer
+abbrev pub ServesShards : {D L : Type 0} {d : Ghosts D} → Staff L → (ℕ → Option Image) → State → (ℕ → ℕ) → List (Shard D d) → Streams → Answer D → Type 0
+ServesShards {D} {L} {d} staff told start earlier shards streams answer =
+    LacksMemory shards streams answer ⊎ ServesAll d staff told start earlier streams answer

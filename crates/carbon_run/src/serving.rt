@@ -1,6 +1,7 @@
 //! The command `serve`, once the rule files are read.
 ghost use Rattle.std.specs.Prelude.{◌≡◌, ◌⊎◌, ◌≤◌, [], map, vec_capacity, vec_len};
 ghost use Rattle.carbon_words.specs.CommandLine.{HasWorkers};
+ghost use Rattle.carbon_serve.specs.Courses.{staff_of};
 ghost use Rattle.carbon_serve.specs.Crews.{IsNewCrew};
 ghost use Rattle.outside_io.specs.Frames.{CountsWrites};
 ghost use Rattle.shard_set.specs.Disks.{faults_at, told_at};
@@ -50,7 +51,7 @@ where
     requires disks { vec_len disks ≡ 16 }
     requires workers { HasWorkers options }
     ensures runs { ServeRuns D.Disk E.faults net.old net.new (settings_of setup.now)
-        (C.moments clock.now) (passes_for options)
+        (staff_of C.Clock E.L.Source E.L.Sink clock.now (duties_of options) (passes_for options))
         (unread (K.written out.old) (K.written out.new)) disks.items
         (answer_of result.status result.history result.disks.items) }
     ensures writes { CountsWrites K.Sink out.old out.new (result.status ≡ 7) }
@@ -90,9 +91,10 @@ where
     ensures serves { LacksPort E.faults net.old net.new started.shards.items
         (unread (K.written out.old) (K.written out.new))
         (answer_of result.status result.history result.disks.items)
-        ⊎ ServesShards (told_at started.shards.items) (opening_of started.shards.items)
+        ⊎ ServesShards
+        (staff_of C.Clock E.L.Source E.L.Sink clock.now (duties_of options) (passes_for options))
+        (told_at started.shards.items) (opening_of started.shards.items)
         (faults_at started.shards.items) started.shards.items
-        (C.moments clock.now) (passes_for options)
         (unread (K.written out.old) (K.written out.new))
         (answer_of result.status result.history result.disks.items) }
     ensures writes { CountsWrites K.Sink out.old out.new (result.status ≡ 7) }
@@ -126,9 +128,10 @@ where
     requires ready { AreReadyShards (told_at started.shards.items) (opening_of started.shards.items)
         (faults_at started.shards.items) started.shards.items }
     requires workers { HasWorkers options }
-    ensures serves { ServesShards (told_at started.shards.items) (opening_of started.shards.items)
+    ensures serves { ServesShards
+        (staff_of C.Clock E.L.Source E.L.Sink clock.now (duties_of options) (passes_for options))
+        (told_at started.shards.items) (opening_of started.shards.items)
         (faults_at started.shards.items) started.shards.items
-        (C.moments clock.now) (passes_for options)
         (unread (K.written out.old) (K.written out.new))
         (answer_of result.status result.history result.disks.items) }
     ensures writes { CountsWrites K.Sink out.old out.new (result.status ≡ 7) }
@@ -199,8 +202,9 @@ where
     requires fresh { IsFresh N.table N.passes N.halves N.told N.start N.faults parts }
     requires crew { IsNewCrew N.table N.passes crew }
     requires room { (vec_len room ≡ 0) × (16 ≤ vec_capacity room) }
-    ensures serves { ServesShards N.told N.start N.faults parts.shards.items
-        (C.moments clock.now) N.passes
+    ensures serves { ServesShards
+        (staff_of C.Clock E.L.Source E.L.Sink clock.now crew.duties N.passes)
+        N.told N.start N.faults parts.shards.items
         (unread (K.written out.old) (K.written out.new))
         (answer_of result.status result.history result.disks.items) }
     ensures writes { CountsWrites K.Sink out.old out.new (result.status ≡ 7) }
@@ -232,7 +236,9 @@ fn serve_store<
 where
     E::L: Drop + Send,
     requires crew { IsNewCrew N.table N.passes crew }
-    ensures serves { ServesAll D.Disk N.told N.start N.faults (C.moments clock.now) N.passes
+    ensures serves { ServesAll D.Disk
+        (staff_of C.Clock E.L.Source E.L.Sink clock.now crew.duties N.passes)
+        N.told N.start N.faults
         (unread (K.written out.old) (K.written out.new))
         (answer_of result.status result.history result.disks.items) }
     ensures writes { CountsWrites K.Sink out.old out.new (result.status ≡ 7) }

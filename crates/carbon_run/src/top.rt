@@ -1,6 +1,7 @@
 ghost use Rattle.std.specs.Prelude.{◌≡◌, ◌≤◌, ◌⊎◌, None, IfSome, map, string_bytes, vec_len};
 ghost use Rattle.outside_io.specs.Frames.{CountsReads, CountsWrites};
 ghost use Rattle.shard_set.specs.Opening.{settings_of};
+ghost use Rattle.carbon_serve.specs.Deeds.{telling};
 ghost use Rattle.carbon_words.specs.CommandLine.{HasLimit, IsSound, command_of};
 ghost use Rattle.carbon_run.specs.Commands.{Does, Outcome, beside, settings_by};
 ghost use Rattle.carbon_run.specs.Runs.{NoCommand, NoWords, TellsConf, TellsWords, answer_of, streams_of};
@@ -30,13 +31,14 @@ use std::thread::Threads;
 /// | `serve` | binds the ports of the net, puts the metric lines and answers the requests that its links bring, and drains what is pending all the while; once the net is closed it drains all |
 /// | `sample START COUNT` | runs, as `script` does, the script of so many metric lines that a generator makes from a start of 0 to 9,999,999,999, and writes what it says from its question on. COUNT is 1 to 1,000,000 |
 ///
-/// Behind the command options may stand, in any order and each once, as two words or as `--x=v`:
+/// Behind the command options may stand, in any order, each once (`--line-host` and `--http-host` up to 16 times), as two words or as `--x=v`:
 ///
 /// | Option | Says | Else |
 /// |---|---|---|
 /// | `--limit N` | how many points of a class may be pending: 1 to 10,000,000 | 262,144 |
 /// | `--order O` | which metric of a class is drained next: `max`, `sorted`, `timesorted` or `naive` | `sorted` |
 /// | `--line-port P`, `--http-port P` | `serve`: the ports, 0 to 65,535 | 2003, 8080 |
+/// | `--line-host A`, `--http-host A` | `serve`: at which addresses of IPv4 each port is open, up to 16. The net that is handed in keeps to it | 0.0.0.0: all |
 /// | `--receivers N`, `--renderers N` | `serve`: how many threads serve the links of each port: 1 to 256 | 16 |
 /// | `--line-patience S` | `serve`: after how many seconds without a byte a link of metric lines is at its end, 0 to 86,400; 0: never. The net that is handed in keeps to it | 900 |
 /// | `--links N` | `serve`: how many links each port gives before it closes, to 1,000,000,000; 0: it never does | 0 |
@@ -89,7 +91,8 @@ where
         ⊎ NoWords (streams_of S.Source K.Sink input.old input.new out.old out.new) disks.items
         (answer_of result.status result.history result.disks.items)) }
     ensures outcome { IfSome (command_of (map string_bytes words.now))
-        (λ command. Outcome D.Disk (beside N.faults (C.moments clock.now) net.old net.new)
+        (λ command. Outcome D.Disk (beside N.faults (C.moments clock.now)
+        (telling N.L.Source N.L.Sink) net.old net.new)
         command conf.old conf.new
         (streams_of S.Source K.Sink input.old input.new out.old out.new) disks.items
         (answer_of result.status result.history result.disks.items)) }
@@ -138,8 +141,8 @@ where
     N::L: Drop + Send,
     requires all { vec_len disks ≡ 16 }
     requires sound { IsSound command }
-    ensures does { Does D.Disk (beside N.faults (C.moments clock.now) net.old net.new)
-        rules command
+    ensures does { Does D.Disk (beside N.faults (C.moments clock.now)
+        (telling N.L.Source N.L.Sink) net.old net.new) rules command
         (streams_of S.Source K.Sink input.old input.new out.old out.new) disks.items
         (answer_of result.status result.history result.disks.items) }
     ensures reads { CountsReads S.Source input.old input.new (result.status ≡ 6) }

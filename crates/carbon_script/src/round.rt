@@ -7,8 +7,7 @@ ghost use Rattle.carbon_script.specs.Rounds.{Begins, Writes};
 use metric_path::{CLASSES, MetricPath};
 use outside_io::Disk;
 use shard_core::{Planned, Wrote};
-use shared_history::Pass;
-use shared_store::{Named, Store};
+use shared_store::{Named, Store, StorePass};
 use std::sync::Wait;
 
 /// What came of a round of plans.
@@ -41,7 +40,7 @@ pub enum NextRun {
 pub fn begin_drain<R: Wait, D: Disk, N: Named>(
     rt: &R,
     store: &Store<D, N>,
-    pass: &mut Pass,
+    pass: &mut StorePass<N>,
     now: u32,
 ) -> Begun
     requires alone { N.passes ≡ 1 }
@@ -64,7 +63,7 @@ pub fn begin_drain<R: Wait, D: Disk, N: Named>(
 pub fn write_run<R: Wait, D: Disk, N: Named>(
     rt: &R,
     store: &Store<D, N>,
-    pass: &mut Pass,
+    pass: &mut StorePass<N>,
 ) -> NextRun
     requires alone { N.passes ≡ 1 }
     requires only { IsOnly N.table N.start pass.old }

@@ -19,7 +19,7 @@ use outside_io::{Disk, Sink};
 use point_cache::Put;
 use render_plan::RenderPlan;
 use shared_history::Pass;
-use shared_store::{DrainEnd, MOST_CALL_ENTRIES, Named, Store};
+use shared_store::{DrainEnd, MOST_CALL_ENTRIES, Named, Store, StorePass};
 use std::alloc::{AllocError, Global};
 use std::marker::Model;
 use std::sync::Wait;
@@ -32,7 +32,7 @@ const FIRST_CLOCK: u32 = 1_700_000_000;
 pub struct Session<'a, R: Wait, D: Disk, N: Named> {
     rt: &'a R,
     store: &'a Store<D, N>,
-    pass: Pass,
+    pass: StorePass<N>,
     clock: u32,
     counts: Counts,
     alloc: Global,
@@ -80,7 +80,7 @@ impl<'a, R: Wait, D: Disk, N: Named> Session<'a, R, D, N> {
         Session {
             rt,
             store,
-            pass,
+            pass: StorePass::new(pass),
             clock: FIRST_CLOCK,
             counts: Counts::none(),
             alloc,
@@ -249,7 +249,7 @@ impl<'a, R: Wait, D: Disk, N: Named> Session<'a, R, D, N> {
         ensures value { result ≡ self.entry.pass }
         ensures only { IsOnly N.table N.start result }
     {
-        self.pass
+        self.pass.into_pass()
     }
 }
 

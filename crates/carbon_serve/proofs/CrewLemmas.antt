@@ -1,20 +1,21 @@
 -- What the passes of a crew meet that calls of a store need.
-use Rattle.std.proofs.Common.{◌≡◌, ◌⊎◌, inl, inr, ◌∙◌, ℕ, zero, suc, ◌+◌, List, [], ◌∷◌, ◌++◌, length, Option, Some, sym, ap, subst, arith}
+use Rattle.std.proofs.Common.{◌≡◌, ◌⊎◌, inl, inr, ◌∙◌, ℕ, zero, suc, List, [], ◌∷◌, ◌++◌, length, Some, sym, ap, subst, arith}
 use Rattle.std.specs.Prelude.{All, get_or, slice_get}
 use Rattle.std.proofs.lemmas.Option.{none-some, slice_get-get_or}
 use Rattle.atomic_table.specs.Seated.{TableId}
 use Rattle.carbon_history.specs.declared.entry.Entry.{Entry}
 use Rattle.carbon_history.specs.Entries.{of_pass}
-use Rattle.carbon_model.specs.State.{State}
-use Rattle.outside_io.specs.Image.{Image}
 use Rattle.outside_io.specs.declared.disk.Disk.{Ghosts}
 use Rattle.shared_history.specs.Parts.{AreNewPasses, IsNewPass, PassValue, PassesOfTable, own_entries}
 use Rattle.shared_store.specs.Closes.{Closes}
 use Rattle.shared_store.specs.Passes.{HasRoom}
 use Rattle.shared_store.specs.declared.close.Closed.{Closed}
 use Rattle.shared_store.specs.declared.drain_end.DrainEnd.{DrainEnd}
-use Rattle.carbon_serve.specs.Crews.{AllWent, CrewValue, Finishes, IsNewCrew, IsServedCrew, MusterValue, Musters}
+use Rattle.http_front.specs.Origin.{Origin}
+use Rattle.carbon_serve.specs.Crews.{AllDid, AllWent, CrewValue, Finishes, IsNewCrew, IsServedCrew, MusterValue, Musters}
+use Rattle.carbon_serve.specs.Deeds.{Telling}
 use Rattle.carbon_serve.specs.Serves.{Serves}
+use Rattle.carbon_serve.specs.declared.crew.Duties.{Duties}
 use Rattle.carbon_serve.proofs.EndLemmas.{finished, serves}
 use Rattle.carbon_serve.proofs.PassLemmas.{Returned, returned, slice_front, slice_last}
 
@@ -37,20 +38,21 @@ new_ready table passes crew is k d few =
     (is.new k p (slice_front crew.served (crew.own ∷ []) k p (slice_get-get_or crew.served k d few))).same
 
 -- a new crew that worked
-pub served_crew : (table : TableId) (moments : ℕ → Type 0) (start : State) (passes : ℕ) (old new : CrewValue) → IsNewCrew table passes old → AllWent moments start old.served new.served → new.own ≡ old.own
-    → IsServedCrew table start passes moments new
-served_crew table moments start passes old new is went own = record {
+pub served_crew : {L : Type 0} (table : TableId) (links : Telling L) (w : Origin) (old new : CrewValue) → IsNewCrew table w.passes old → AllWent w.moments w.start old.served new.served
+    → AllDid links w old.duties old.served new.served → new.own ≡ old.own → new.duties ≡ old.duties → IsServedCrew table links w new
+served_crew table links w old new is went did own same = record {
   before = old.served;
   new = subst (λ (p : PassValue). AreNewPasses table (old.served ++ p ∷ [])) (sym own) is.new;
-  all = subst (λ (p : PassValue). length (old.served ++ p ∷ []) ≡ passes) (sym own) is.all;
+  all = subst (λ (p : PassValue). length (old.served ++ p ∷ []) ≡ w.passes) (sym own) is.all;
   went = went;
+  did = subst (λ (duties : Duties). AllDid links w duties old.served new.served) (sym same) did;
 }
 
 -- ---- the end
 
-module _ (table : TableId) (start : State) (passes : ℕ) (moments : ℕ → Type 0) (crew : CrewValue) (is : IsServedCrew table start passes moments crew) where
-  back : (k : ℕ) (p : PassValue) → slice_get crew.served k ≡ Some p → Returned table moments k p
-  back = returned table moments start is.before (crew.own ∷ []) crew.served is.new is.went
+module _ {L : Type 0} (table : TableId) (links : Telling L) (w : Origin) (crew : CrewValue) (is : IsServedCrew table links w crew) where
+  back : (k : ℕ) (p : PassValue) → slice_get crew.served k ≡ Some p → Returned table w.moments k p
+  back = returned table w.moments w.start is.before (crew.own ∷ []) crew.served is.new is.went
 
   fresh : IsNewPass table (length is.before) crew.own
   fresh = is.new (length is.before) crew.own (slice_last is.before crew.own)
@@ -73,10 +75,10 @@ module _ (table : TableId) (start : State) (passes : ℕ) (moments : ℕ → Typ
       omega (arith, count)
 
   -- all passes that end the store are of its table
-  pub closing_ready : (muster after : MusterValue) (end : DrainEnd) (closing : List PassValue) → Musters crew.served crew.own muster → Finishes moments start passes muster.is_spent end muster.own after.own
+  pub closing_ready : (muster after : MusterValue) (end : DrainEnd) (closing : List PassValue) → Musters crew.served crew.own muster → Finishes w.moments w.start w.passes muster.is_spent end muster.own after.own
       → after.served ≡ muster.served → closing ≡ after.served ++ after.own ∷ [] → PassesOfTable table closing
   closing_ready muster after end closing all finishes same whole k p at =
-      let done = finished moments start passes muster.is_spent end muster.own after.own finishes in
+      let done = finished w.moments w.start w.passes muster.is_spent end muster.own after.own finishes in
       let served : after.served ≡ crew.served = same ∙ all.served in
       let list : closing ≡ crew.served ++ after.own ∷ [] = whole ∙ ap (λ (ps : List PassValue). ps ++ after.own ∷ []) served in
       elim (at_either crew.served after.own k p (ap (λ (ps : List PassValue). slice_get ps k) (sym list) ∙ at)) [
@@ -85,9 +87,10 @@ module _ (table : TableId) (start : State) (passes : ℕ) (moments : ℕ → Typ
       ]
 
   -- what the service comes to once the store is closed
-  pub service_ends : {D : Type 0} (d : Ghosts D) (told : ℕ → Option Image) (earlier : ℕ → ℕ) (muster after : MusterValue) (end : DrainEnd) (closing : List PassValue) (closed : Closed D)
-      → Musters crew.served crew.own muster → Finishes moments start passes muster.is_spent end muster.own after.own → after.served ≡ muster.served → closing ≡ after.served ++ after.own ∷ []
-      → Closes d passes told start earlier closing closed → Serves d told start earlier moments passes end closed.history closed.disks.items
-  service_ends d told earlier muster after end closing closed all finishes same whole closes =
-      serves d table moments told start earlier passes is.before crew.served crew.own muster.own after.own muster.is_spent end closing closed is.new is.all is.went all.own
+  pub service_ends : {D : Type 0} (d : Ghosts D) (earlier : ℕ → ℕ) (muster after : MusterValue) (end : DrainEnd) (closing : List PassValue) (closed : Closed D)
+      → Musters crew.served crew.own muster → Finishes w.moments w.start w.passes muster.is_spent end muster.own after.own → after.served ≡ muster.served → closing ≡ after.served ++ after.own ∷ []
+      → Closes d w.passes w.told w.start earlier closing closed
+      → Serves d (record { moments = w.moments; links = links; duties = crew.duties; passes = w.passes }) w.told w.start earlier end closed.history closed.disks.items
+  service_ends d earlier muster after end closing closed all finishes same whole closes =
+      serves d table links w crew.duties earlier is.before crew.served crew.own muster.own after.own muster.is_spent end closing closed is.new is.all is.went is.did all.own
       all.learned all.spent finishes (whole ∙ ap (λ (ps : List PassValue). ps ++ after.own ∷ []) (same ∙ all.served)) closes

@@ -30,10 +30,15 @@ use Rattle.shared_store.specs.declared.close.Closed.{Closed}
 use Rattle.shared_store.specs.declared.drain_end.DrainEnd.{DrainEnd}
 use Rattle.shared_store.specs.declared.drain_end.DrainEnd.TheVariants.{Done, DiskFault, Spent, NoMemory}
 use Rattle.carbon_serve.specs.Workers.{HasMoment}
-use Rattle.carbon_serve.specs.Crews.{AllWent, Finishes, HasLearned, OnlySaw, lacks_room}
-use Rattle.carbon_serve.specs.Serves.{AllHaveRoom, EndsByFault, EndsServed, EndsShort, IsDrained, Serves, SomeSpent, WorkersHaveRoom}
+use Rattle.http_front.specs.Origin.{Origin}
+use Rattle.carbon_serve.specs.Crews.{AllDid, AllWent, Finishes, HasLearned, OnlySaw, lacks_room}
+use Rattle.carbon_serve.specs.Courses.{LastCourse, TellsSpent, WorkersHaveRoom}
+use Rattle.carbon_serve.specs.Deeds.{Telling}
+use Rattle.carbon_serve.specs.Serves.{AllHaveRoom, EndsByFault, EndsServed, EndsShort, IsDrained, Serves, SomeSpent}
+use Rattle.carbon_serve.specs.declared.crew.Duties.{Duties}
+use Rattle.carbon_serve.proofs.CourseLemmas.{courses}
 use Rattle.carbon_serve.proofs.EntryLemmas.{same_number}
-use Rattle.carbon_serve.proofs.PassLemmas.{alone, last_number, last_own, own_none, passes_are, returned, slice_front, slice_last, timed, whole, worker_own}
+use Rattle.carbon_serve.proofs.PassLemmas.{alone, last_number, last_own, others_before, own_none, passes_are, returned, slice_front, slice_last, timed, whole, worker_own}
 use Rattle.carbon_serve.proofs.PendingLemmas.{none_pending}
 
 -- ---- the drain at the end
@@ -218,21 +223,21 @@ module _ {D : Type 0} (d : Ghosts D) (table : TableId) (moments : ℕ → Type 0
   last = length served
 
   -- a worker's pass lacks room
-  spent_worker : (number : own2.number ≡ own1.number) → IsPrefix own1.seen own2.seen → list_any lacks_room served ≡ true → SomeSpent passes history
-  spent_worker number begins any =
+  worker_spent : (number : own2.number ≡ own1.number) → IsPrefix own1.seen own2.seen → list_any lacks_room served ≡ true → TellsSpent passes history true
+  worker_spent number begins any =
       let found = any_at lacks_room served any in
       let k : ℕ = found.0 in
       let few : k < last = slice_get_within served k found.1.0 found.1.1.0 in
       let at : slice_get served k ≡ Some found.1.0 = found.1.1.0 in
       let same = seen k found.1.0 (slice_front served (own2 ∷ []) k found.1.0 at) in
-      record {
-        pass = found.1.0.number;
-        made = rw (place k found.1.0 at) (omega (arith, few, passes_are table moments start passes before served own0 own1 own2 history new all went saw learned names seen number begins));
-        spent = rw same.own (lacks found.1.0 found.1.1.1);
-      }
+      let are = passes_are table moments start passes before served own0 own1 own2 history new all went saw learned names seen number begins in
+      (found.1.0.number, (rw (place k found.1.0 at) (omega (arith, few, are)), rw same.own (lacks found.1.0 found.1.1.1)))
     where
       place : (k : ℕ) (p : PassValue) → slice_get served k ≡ Some p → p.number ≡ k
       place k p at = (returned table moments start before (own0 ∷ []) served new went k p at).place
+
+  spent_worker : TellsSpent passes history true → SomeSpent passes history
+  spent_worker told = record { pass = told.0; made = omega (arith, told.1.0); spent = told.1.1 }
 
   -- the crew's own pass does
   spent_own : (number : own2.number ≡ own1.number) → IsPrefix own1.seen own2.seen → 2 ^ 48 < length (own_entries own2) + 4 → SomeSpent passes history
@@ -344,16 +349,50 @@ module _ {D : Type 0} (d : Ghosts D) (table : TableId) (moments : ℕ → Type 0
   pub ends_served : (spent : Bool) (end : DrainEnd) → spent ≡ list_any lacks_room served → Finishes moments start passes spent end own1 own2 → EndsServed d told start earlier passes end history disks
   ends_served true end is finishes =
       let done = finished moments start passes true end own1 own2 finishes in
-      subst (λ (e : DrainEnd). EndsServed d told start earlier passes e history disks) (sym finishes.0) (spent_worker done.number done.begins (sym is))
+      subst (λ (e : DrainEnd). EndsServed d told start earlier passes e history disks) (sym finishes.0) (spent_worker (worker_spent done.number done.begins (sym is)))
   ends_served false end is finishes = ends_drained finishes.0 end (sym is) finishes.1.1
 
+  -- whether a worker's pass lacks room
+  tells_spent : (spent : Bool) → spent ≡ list_any lacks_room served → (number : own2.number ≡ own1.number) → IsPrefix own1.seen own2.seen → TellsSpent passes history spent
+  tells_spent true is number begins = worker_spent number begins (sym is)
+  tells_spent false is number begins = workers_room number begins (sym is)
+
+  -- what the crew's own pass made
+  pub last_course : (spent : Bool) (end : DrainEnd) → spent ≡ list_any lacks_room served → Finishes moments start passes spent end own1 own2
+      → LastCourse (record { moments = moments; told = told; start = start; passes = passes }) end history
+  last_course spent end is finishes =
+      let done = finished moments start passes spent end own1 own2 finishes in
+      let are = passes_are table moments start passes before served own0 own1 own2 history new all went saw learned names seen done.number done.begins in
+      let place : own2.number ≡ last = last_number table moments start passes before served own0 own1 own2 history new all went saw learned names seen done.number done.begins in
+      let none : own_entries own1 ≡ [] = own_none table moments start passes before served own0 own1 own2 history new all went saw learned names seen done.number done.begins in
+      let same : history ≡ own2.seen = whole table moments start passes before served own0 own1 own2 history new all went saw learned names seen done.number done.begins in
+      let mine : own_entries own2 ≡ done.made = done.once ∙ ap (λ (es : List Entry). es ++ done.made) none in
+      let stood : own2.seen ≡ own1.seen ++ done.made =
+      alone table moments start passes before served own0 own1 own2 history new all went saw learned names seen done.number done.begins done.made done.once in record {
+        before = own1;
+        after = own2;
+        last = omega (arith, place, are);
+        none = none;
+        others = λ k few.
+            others_before table moments start passes before served own0 own1 own2 history new all went saw learned names seen done.number done.begins k (omega (arith, few, are));
+        is_spent = spent;
+        spent = tells_spent spent is done.number done.begins;
+        finishes = finishes;
+        whole = same;
+        alone = same ∙ (stood ∙ ap (λ (es : List Entry). own1.seen ++ es) (sym mine));
+      }
+
 -- a store that was closed by all passes of a crew
-pub serves : {D : Type 0} (d : Ghosts D) (table : TableId) (moments : ℕ → Type 0) (told : ℕ → Option Image) (start : State) (earlier : ℕ → ℕ) (passes : ℕ) (before served : List PassValue)
+pub serves : {D L : Type 0} (d : Ghosts D) (table : TableId) (links : Telling L) (w : Origin) (duties : Duties) (earlier : ℕ → ℕ) (before served : List PassValue)
     (own0 own1 own2 : PassValue) (spent : Bool) (end : DrainEnd) (closing : List PassValue) (closed : Closed D)
-    → AreNewPasses table (before ++ own0 ∷ []) → length (before ++ own0 ∷ []) ≡ passes → AllWent moments start before served → OnlySaw own0 own1 → HasLearned own1 served
-    → spent ≡ list_any lacks_room served → Finishes moments start passes spent end own1 own2 → closing ≡ served ++ own2 ∷ [] → Closes d passes told start earlier closing closed
-    → Serves d told start earlier moments passes end closed.history closed.disks.items
-serves {D} d table moments told start earlier passes before served own0 own1 own2 spent end closing closed new all went saw learned is finishes same closes =
+    → AreNewPasses table (before ++ own0 ∷ []) → length (before ++ own0 ∷ []) ≡ w.passes → AllWent w.moments w.start before served → AllDid links w duties before served → OnlySaw own0 own1 → HasLearned own1 served
+    → spent ≡ list_any lacks_room served → Finishes w.moments w.start w.passes spent end own1 own2 → closing ≡ served ++ own2 ∷ [] → Closes d w.passes w.told w.start earlier closing closed
+    → Serves d (record { moments = w.moments; links = links; duties = duties; passes = w.passes }) w.told w.start earlier end closed.history closed.disks.items
+serves {D} d table links w duties earlier before served own0 own1 own2 spent end closing closed new all went did saw learned is finishes same closes =
+    let moments : ℕ → Type 0 = w.moments in
+    let told : ℕ → Option Image = w.told in
+    let start : State = w.start in
+    let passes : ℕ = w.passes in
     let history : List Entry = closed.history in
     let disks : List D = closed.disks.items in
     let done = finished moments start passes spent end own1 own2 finishes in
@@ -361,12 +400,15 @@ serves {D} d table moments told start earlier passes before served own0 own1 own
     let each : (k : ℕ) (disk : D) → slice_get disks k ≡ Some disk → EndsAs d told start earlier (served ++ own2 ∷ []) history k disk = λ k disk at.
     subst (λ (ps : List PassValue). EndsAs d told start earlier ps history k disk) same (closes.disks k disk at) in
     let none : own_entries own1 ≡ [] = own_none table moments start passes before served own0 own1 own2 history new all went saw learned closes.names seen done.number done.begins in
-    let mine : own_entries own2 ≡ done.made = done.once ∙ ap (λ (es : List Entry). es ++ done.made) none in record {
+    let mine : own_entries own2 ≡ done.made = done.once ∙ ap (λ (es : List Entry). es ++ done.made) none in
+    let are = passes_are table moments start passes before served own0 own1 own2 history new all went saw learned closes.names seen done.number done.begins in record {
       ends = ends_served d table moments told start earlier passes before served own0 own1 own2 history disks new all went saw learned closes.names seen each closes.sixteen spent end is finishes;
       legal = closes.legal;
       names = closes.names;
       timed = timed table moments start passes before served own0 own1 own2 history new all went saw learned closes.names seen done.number done.begins
           (subst (All (HasMoment moments)) (sym mine) done.told);
+      courses = courses links w duties table before served own0 own2 history new went did seen are;
+      last = last_course d table moments told start earlier passes before served own0 own1 own2 history disks new all went saw learned closes.names seen each closes.sixteen spent end is finishes;
       stand = λ k disk at. ends_anyhow d told start earlier closing history k disk (closes.disks k disk at);
       sixteen = closes.sixteen;
     }

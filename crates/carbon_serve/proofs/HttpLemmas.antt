@@ -1,5 +1,5 @@
 -- What a link of HTTP requests makes of a pass.
-use Rattle.std.proofs.Common.{◌≡◌, ◌⊎◌, inl, inr, ℕ, zero, suc, List, [], ◌∷◌, ◌++◌, Option, Result, Ok, Err, sym, ap, subst}
+use Rattle.std.proofs.Common.{◌≡◌, inl, inr, ℕ, zero, suc, List, [], ◌∷◌, ◌++◌, Option, Result, Ok, Err, sym, ap, subst}
 use Rattle.std.specs.Prelude.{All}
 use Rattle.std.proofs.lemmas.List.Elements.{All-nil, All-push}
 use Rattle.outside_io.specs.declared.clock.Clock.{Ghosts as ClockGhosts}
@@ -101,18 +101,18 @@ route_works w asked (Ok Expand) outcome old new comes = globs_work w IsExpandTex
 route_works w asked (Ok Index) outcome old new comes = names_work w comes.names old new comes.asks
 route_works w asked (Err why) outcome old new comes = same_pass w old new comes.1
 
-item_works : (w : Origin) (item : Item) (outcome : Outcome) (old new : PassValue) → ComesOfItem w item outcome old new → Works w.moments w.start old new
+pub item_works : (w : Origin) (item : Item) (outcome : Outcome) (old new : PassValue) → ComesOfItem w item outcome old new → Works w.moments w.start old new
 item_works w (Refused why) outcome old new comes = same_pass w old new comes.1
 item_works w (Request asked) outcome old new comes = route_works w asked (route asked.method asked.target) outcome old new comes.1
 
-items_work : (w : Origin) (items : List Item) (outcomes : List Outcome) (old new : PassValue) → ComesOfAll w old items outcomes new → Works w.moments w.start old new
+pub items_work : (w : Origin) (items : List Item) (outcomes : List Outcome) (old new : PassValue) → ComesOfAll w old items outcomes new → Works w.moments w.start old new
 items_work w [] [] old new comes = same_pass w old new comes
 items_work w [] (outcome ∷ outcomes) old new comes = absurd comes
 items_work w (item ∷ items) [] old new comes = absurd comes
 items_work w (item ∷ items) (outcome ∷ outcomes) old new comes =
     works_then w.moments w.start old comes.0 new (item_works w item outcome old comes.0 comes.1.0) (items_work w items outcomes comes.0 new comes.1.1)
 
-serves_work : (w : Origin) (items : List Item) (from to : At) → Serves w items from to → Works w.moments w.start from.pass to.pass
+pub serves_work : (w : Origin) (items : List Item) (from to : At) → Serves w items from to → Works w.moments w.start from.pass to.pass
 serves_work w items from to serves = items_work w items serves.outcomes from.pass to.pass serves.comes
 
 -- ---- want of memory
@@ -132,7 +132,7 @@ short_at w (Request asked) old new runs = elim runs.1 [
   | inr comes ↦ route_works w asked (route asked.method asked.target) comes.0 old new comes.1
 ]
 
-runs_work : (w : Origin) (taken : List ℕ) (left : Option (List ℕ)) (items : List Item) (old new : PassValue) → RunsShort w taken left items old new → Works w.moments w.start old new
+pub runs_work : (w : Origin) (taken : List ℕ) (left : Option (List ℕ)) (items : List Item) (old new : PassValue) → RunsShort w taken left items old new → Works w.moments w.start old new
 runs_work w taken left items old new (inl between) = same_pass w old new between.1
 runs_work w taken left items old new (inr at) = short_at w at.0 old new at.1.1
 
@@ -151,7 +151,7 @@ ends_work w tells end.Spent taken left from to ends = serves_work w ends.0 from 
 ends_work w tells end.NoMemory taken left from to ends =
     works_then w.moments w.start from.pass ends.mid.pass to.pass (serves_work w ends.items from ends.mid ends.serves) (runs_work w taken left ends.items ends.mid.pass to.pass ends.short)
 
-link_end : (w : Origin) (failed : Type 0) (reason : HttpEnd) (left left' : Option (List ℕ)) (from to : At) → ServesLink w failed reason left left' from to → Works w.moments w.start from.pass to.pass
+pub link_end : (w : Origin) (failed : Type 0) (reason : HttpEnd) (left left' : Option (List ℕ)) (from to : At) → ServesLink w failed reason left left' from to → Works w.moments w.start from.pass to.pass
 link_end w failed reason left left' from to (inl none) = same_pass w from.pass to.pass (ap (λ (at : At). at.pass) none.same)
 link_end w failed reason left left' from to (inr ends) = ends_work w (TellsShort failed) reason ends.taken left' from to ends.ends
 

@@ -1,14 +1,18 @@
 -- The passes of workers, in order of their numbers.
-use Rattle.std.proofs.Common.{◌≡◌, ◌∙◌, ℕ, suc, ◌≤◌, List, [], ◌∷◌, ◌++◌, length, take, drop, Option, Some, None, IfSome, refl, sym, ap, subst, arith, append-nil, append_assoc, length-append}
-use Rattle.std.specs.Prelude.{All, reverse}
+use Rattle.std.proofs.Common.{◌≡◌, ◌∙◌, ℕ, suc, ◌<◌, ◌≤◌, List, [], ◌∷◌, ◌++◌, length, take, drop, Option, Some, None, IfSome, refl, sym, ap, subst, arith, append-nil, append_assoc, length-append}
+use Rattle.std.specs.Prelude.{All, get_or, reverse}
 use Rattle.std.specs.List.{AllZip}
 use Rattle.std.proofs.lemmas.List.{length-reverse, reverse-append}
 use Rattle.std.proofs.lemmas.List.Elements.{All-cons, All-head, All-nil, All-tail, AllZip-push}
 use Rattle.atomic_table.specs.Seated.{TableId}
 use Rattle.carbon_model.specs.State.{State}
 use Rattle.shared_history.specs.Parts.{PassValue}
+use Rattle.http_front.specs.Origin.{Origin}
 use Rattle.carbon_serve.specs.Workers.{AllWork, IsReady, Works, WorksBy}
-use Rattle.carbon_serve.specs.Crews.{AllWent, in_order, pass_list, passes_of}
+use Rattle.carbon_serve.specs.Crews.{AllDid, AllWent, HasRole, in_order, pass_list, passes_of, role_of}
+use Rattle.carbon_serve.specs.Deeds.{AllDo, Did, DidBy, Telling}
+use Rattle.carbon_serve.specs.declared.crew.Duties.{Duties}
+use Rattle.carbon_serve.specs.declared.workers.Role.{Role}
 use Rattle.carbon_serve.specs.declared.workers.Worker.{Worker}
 
 -- ---- a worker more
@@ -126,3 +130,46 @@ passes_went moments start (worker ∷ workers) (worker' ∷ workers') all =
 -- all passes went on where those of the workers did
 pub all_went : (moments : ℕ → Type 0) (start : State) (old new : List Worker) → AllWork moments start old new → AllWent moments start (in_order old) (in_order new)
 all_went moments start old new all = zip_reversed (Works moments start) (passes_of old) (passes_of new) (passes_went moments start old new all)
+
+-- ---- roles
+
+-- what a worker does by its pass is what its number says
+did_front : {L : Type 0} (links : Telling L) (w : Origin) (duties : Duties) (does : Role) (old new : Option PassValue) (xs ys : List PassValue) → IfSome old (λ pass. does ≡ role_of pass.number duties)
+    → DidBy links w does old new → AllDid links w duties xs ys → AllDid links w duties (pass_list old ++ xs) (pass_list new ++ ys)
+did_front links w duties does None None xs ys has did zip = zip
+did_front links w duties does None (Some new) xs ys has did zip = absurd cc
+did_front links w duties does (Some old) None xs ys has did zip = absurd did
+did_front links w duties does (Some old) (Some new) xs ys has did zip = (subst (λ (r : Role). Did links w r old new) has did, zip)
+
+passes_did : {L : Type 0} (links : Telling L) (w : Origin) (duties : Duties) (old new : List Worker) → All (HasRole duties) old → AllDo links w old new
+    → AllDid links w duties (passes_of old) (passes_of new)
+passes_did links w duties [] [] roles all = tt
+passes_did links w duties [] (worker ∷ workers) roles all = absurd (omega (arith, all.count))
+passes_did links w duties (worker ∷ workers) [] roles all = absurd (omega (arith, all.count))
+passes_did links w duties (worker ∷ workers) (worker' ∷ workers') roles all =
+    did_front links w duties worker.role worker.pass worker'.pass (passes_of workers) (passes_of workers') (All-head (HasRole duties) worker workers roles)
+    (all.each 0 (omega arith) worker).did
+    (passes_did links w duties workers workers' (All-tail (HasRole duties) worker workers roles) (record {
+      count = omega (arith, all.count);
+      each = λ k few d. all.each (suc k) (omega (arith, few)) d;
+    }))
+
+-- each pass did what its number says, where each worker did what its role says and has the role of that number
+pub all_did : {L : Type 0} (links : Telling L) (w : Origin) (duties : Duties) (old new : List Worker) → All (HasRole duties) old → AllDo links w old new → AllDid links w duties (in_order old) (in_order new)
+all_did links w duties old new roles all =
+    zip_reversed (λ before after. Did links w (role_of before.number duties) before after) (passes_of old) (passes_of new) (passes_did links w duties old new roles all)
+
+role_stays : (moments : ℕ → Type 0) (start : State) (duties : Duties) (does does' : Role) (old new : Option PassValue) → IfSome old (λ pass. does ≡ role_of pass.number duties) → does' ≡ does
+    → WorksBy moments start old new → IfSome new (λ pass. does' ≡ role_of pass.number duties)
+role_stays moments start duties does does' None new has same works =
+    subst (λ (o : Option PassValue). IfSome o (λ pass. does' ≡ role_of pass.number duties)) (sym works) tt
+role_stays moments start duties does does' (Some old) None has same works = absurd works
+role_stays moments start duties does does' (Some old) (Some new) has same works =
+    same ∙ (has ∙ ap (λ (number : ℕ). role_of number duties) (sym works.number))
+
+-- a worker that worked has the role of its number still
+pub roles_stay : {L : Type 0} (links : Telling L) (w : Origin) (moments : ℕ → Type 0) (start : State) (duties : Duties) (old new : List Worker) → All (HasRole duties) old → AllDo links w old new
+    → AllWork moments start old new → All (HasRole duties) new
+roles_stay links w moments start duties old new roles all work k d few =
+    let less : k < length old = omega (arith, few, all.count) in
+    role_stays moments start duties (get_or old k d).role (get_or new k d).role (get_or old k d).pass (get_or new k d).pass (roles k d less) (all.each k less d).same (work.each k less d)

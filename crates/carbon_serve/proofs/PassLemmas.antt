@@ -41,7 +41,7 @@ prefix_on xs ys zs first next = subst (λ (ws : List _). IsPrefix xs ws) (ap (λ
     chained a b = prefix_more xs (xs ++ a) b (a, refl)
 
 -- what stands at a place of the second of two lists that go together
-went_at : {A B : Type 0} (R : A → B → Type 0) (xs : List A) (ys : List B) → AllZip R xs ys → (k : ℕ) (y : B) → slice_get ys k ≡ Some y → (x : A) × ((slice_get xs k ≡ Some x) × R x y)
+pub went_at : {A B : Type 0} (R : A → B → Type 0) (xs : List A) (ys : List B) → AllZip R xs ys → (k : ℕ) (y : B) → slice_get ys k ≡ Some y → (x : A) × ((slice_get xs k ≡ Some x) × R x y)
 went_at R [] [] zip k y at = absurd (none-some y at)
 went_at R [] (z ∷ ys) zip k y at = absurd zip
 went_at R (x ∷ xs) [] zip k y at = absurd zip
@@ -135,6 +135,19 @@ module _ (table : TableId) (moments : ℕ → Type 0) (start : State) (passes : 
       let none : own_begins.0 ≡ [] = no_entries own_begins.0 (λ k. none_more k own2.seen own_begins.0 (ap (of_pass k) own_begins.1 ∙ own_of k)) in
       sym own_begins.1 ∙ (ap (λ (es : List Entry). own2.seen ++ es) none ∙ append-nil own2.seen)
 
+  -- and all entries of the other passes had stood there before its drain
+  before_drain : (k : ℕ) → (k ≡ length served → ⊥) → of_pass k own2.seen ≡ of_pass k own1.seen
+  before_drain k other = elim (cases_order k (length served)) [
+    | inl same ↦ absurd (other same)
+    | inr differs ↦ elim differs [
+      | inl few ↦ squeezed k (at k).seen own1.seen own2.seen (learned_at k few) begins (sym (own_of k) ∙ worker_own k few)
+      | inr late ↦ none_later_seen k late ∙ sym (none_of (λ (e : Entry). pass_of e == k) own1.seen begins.0 (ap (of_pass k) begins.1 ∙ none_later_seen k late))
+    ]
+  ]
+
+  pub others_before : (k : ℕ) → k < length served → of_pass k own1.seen ≡ of_pass k history
+  others_before k few = sym (before_drain k (λ same. absurd (omega (arith, few, same)))) ∙ sym (own_of k)
+
   -- and what it saw in its drain are its own entries
   pub alone : (made : List Entry) → own_entries own2 ≡ own_entries own1 ++ made → own2.seen ≡ own1.seen ++ made
   alone made once =
@@ -149,15 +162,6 @@ module _ (table : TableId) (moments : ℕ → Type 0) (start : State) (passes : 
       let mine : of_pass last rest ≡ made =
       same_behind (of_pass last own1.seen) (of_pass last rest) made (whole_own ∙ (now ∙ (once ∙ ap (λ (es : List Entry). es ++ made) earlier))) in
       sym begins.1 ∙ ap (λ (es : List Entry). own1.seen ++ es) (sym all_mine ∙ mine)
-    where
-      before_drain : (k : ℕ) → (k ≡ length served → ⊥) → of_pass k own2.seen ≡ of_pass k own1.seen
-      before_drain k other = elim (cases_order k (length served)) [
-        | inl same ↦ absurd (other same)
-        | inr differs ↦ elim differs [
-          | inl few ↦ squeezed k (at k).seen own1.seen own2.seen (learned_at k few) begins (sym (own_of k) ∙ worker_own k few)
-          | inr late ↦ none_later_seen k late ∙ sym (none_of (λ (e : Entry). pass_of e == k) own1.seen begins.0 (ap (of_pass k) begins.1 ∙ none_later_seen k late))
-        ]
-      ]
 
   -- every moment is one of the clock's, where those of the crew's own entries are
   pub timed : All (HasMoment moments) (own_entries own2) → All (HasMoment moments) history

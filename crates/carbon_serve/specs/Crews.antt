@@ -8,7 +8,9 @@ use Rattle.shared_history.specs.Parts.{AreNewPasses, PassValue, own_entries}
 use Rattle.shared_store.specs.Drains.{DrainsTo}
 use Rattle.shared_store.specs.declared.drain_end.DrainEnd.{DrainEnd}
 use Rattle.shared_store.specs.declared.drain_end.DrainEnd.TheVariants.{Spent}
+use Rattle.http_front.specs.Origin.{Origin}
 use Rattle.carbon_serve.specs.Workers.{Works}
+use Rattle.carbon_serve.specs.Deeds.{Did, Telling}
 use Rattle.carbon_serve.specs.declared.crew.Duties.{Duties}
 use Rattle.carbon_serve.specs.declared.workers.Role.{Role}
 use Rattle.carbon_serve.specs.declared.workers.Role.TheVariants as role
@@ -40,22 +42,28 @@ in_order workers = reverse (passes_of workers)
 abbrev pub AllWent : (ℕ → Type 0) → State → List PassValue → List PassValue → Type 0
 AllWent moments start old new = AllZip (Works moments start) old new
 
--- what contracts see of a crew: the passes of its workers, in order of their numbers, and its own
+-- each of these passes did what its number says
+abbrev pub AllDid : {L : Type 0} → Telling L → Origin → Duties → List PassValue → List PassValue → Type 0
+AllDid links w duties old new = AllZip (λ before after. Did links w (role_of before.number duties) before after) old new
+
+-- what contracts see of a crew: the passes of its workers, in order of their numbers, its own, and its duties
 pub record CrewValue : Type 0 where
   pub served : List PassValue
   pub own : PassValue
+  pub duties : Duties
 
 -- a crew whose passes, which are all that were made, have done nothing yet
 pub record IsNewCrew (table : TableId) (passes : ℕ) (crew : CrewValue) : Type 0 where
   pub new : AreNewPasses table (crew.served ++ crew.own ∷ [])
   pub all : length (crew.served ++ crew.own ∷ []) ≡ passes
 
--- a crew whose workers have done what a store and a clock let them
-pub record IsServedCrew (table : TableId) (start : State) (passes : ℕ) (moments : ℕ → Type 0) (crew : CrewValue) : Type 0 where
+-- a crew whose workers have done what their numbers say, from a store, a clock and links
+pub record IsServedCrew {L : Type 0} (table : TableId) (links : Telling L) (w : Origin) (crew : CrewValue) : Type 0 where
   pub before : List PassValue
   pub new : AreNewPasses table (before ++ crew.own ∷ [])
-  pub all : length (before ++ crew.own ∷ []) ≡ passes
-  pub went : AllWent moments start before crew.served
+  pub all : length (before ++ crew.own ∷ []) ≡ w.passes
+  pub went : AllWent w.moments w.start before crew.served
+  pub did : AllDid links w crew.duties before crew.served
 
 -- ---- passes that came back
 

@@ -2,5 +2,8 @@ pub mod Workers
 pub mod Rates
 pub mod Paces
 pub mod Rounds
+pub mod Deeds
 pub mod Crews
+pub mod Courses
+pub mod OneHistory
 pub mod Serves

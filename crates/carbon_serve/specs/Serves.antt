@@ -13,6 +13,7 @@ use Rattle.shard_set.specs.Disks.{disk_faults}
 use Rattle.shared_store.specs.Closes.{EndsAs}
 use Rattle.shared_store.specs.declared.drain_end.DrainEnd.{DrainEnd}
 use Rattle.shared_store.specs.declared.drain_end.DrainEnd.TheVariants.{Done, DiskFault, Spent, NoMemory}
+use Rattle.carbon_serve.specs.Courses.{CourseOf, LastCourse, Staff, WorkersHaveRoom, origin_by}
 use Rattle.carbon_serve.specs.Workers.{HasMoment}
 
 -- ---- what is drained
@@ -31,10 +32,6 @@ pub record IsDrained {D : Type 0} (image : D → Option Image) (told : ℕ → O
 -- each of the passes has room for what a call enters
 abbrev pub AllHaveRoom : ℕ → List Entry → Type 0
 AllHaveRoom passes history = (pass : ℕ) → pass < passes → length (of_pass pass history) + 4 ≤ 2 ^ 48
-
--- each of the workers' passes has; that of the crew itself is the last
-abbrev pub WorkersHaveRoom : ℕ → List Entry → Type 0
-WorkersHaveRoom passes history = (pass : ℕ) → pass + 1 < passes → length (of_pass pass history) + 4 ≤ 2 ^ 48
 
 -- one of the passes has not
 pub record SomeSpent (passes : ℕ) (history : List Entry) : Type 0 where
@@ -71,14 +68,17 @@ EndsServed d told start earlier passes NoMemory history disks =
     EndsShort passes history × AllHaveRoom passes history
 
 -- What the service of a net came to over a store that began in a state, over disks that had told
--- these images and had failed so often, with so many passes: those of the workers and last that of
--- the crew itself. The history is legal, names these passes alone, and each moment in it is one of
--- the clock's. Each disk stands for what is kept of its class, under a patch perhaps of a drain
--- that was not written whole.
-pub record Serves {D : Type 0} (d : Ghosts D) (told : ℕ → Option Image) (start : State) (earlier : ℕ → ℕ) (moments : ℕ → Type 0) (passes : ℕ) (end : DrainEnd) (history : List Entry) (disks : List D) : Type 0 where
-  pub ends : EndsServed d told start earlier passes end history disks
+-- these images and had failed so often, with the passes of a staff: those of the workers and last
+-- that of the crew itself. The history is legal, names these passes alone, and each moment in it is
+-- one of the clock's. What each pass did is told link by link, and the history has that and nothing
+-- else. Each disk stands for what is kept of its class, under a patch perhaps of a drain that was
+-- not written whole.
+pub record Serves {D L : Type 0} (d : Ghosts D) (staff : Staff L) (told : ℕ → Option Image) (start : State) (earlier : ℕ → ℕ) (end : DrainEnd) (history : List Entry) (disks : List D) : Type 0 where
+  pub ends : EndsServed d told start earlier staff.passes end history disks
   pub legal : IsLegalHistory start history
-  pub names : NamesPasses passes history
-  pub timed : All (HasMoment moments) history
+  pub names : NamesPasses staff.passes history
+  pub timed : All (HasMoment staff.moments) history
+  pub courses : (number : ℕ) → number + 1 < staff.passes → CourseOf staff.links (origin_by staff told start) staff.duties number history
+  pub last : LastCourse (origin_by staff told start) end history
   pub stand : (k : ℕ) (disk : D) → slice_get disks k ≡ Some disk → EndsAs d told start earlier [] history k disk
   pub sixteen : length disks ≡ 16

@@ -7,7 +7,7 @@ use crate::pace::Pace;
 use crate::workers::{Role, Worker, moment, work_all};
 use outside_io::{Clock, Disk, Net};
 use shared_history::Pass;
-use shared_store::{DrainEnd, Named, Store, has_room};
+use shared_store::{DrainEnd, Named, Store, StorePass, has_room};
 use std::alloc::{AllocError, Global};
 use std::marker::Model;
 use std::sync::Wait;
@@ -36,32 +36,39 @@ pub struct Crew {
     own: Pass,
     // Room for the passes when they come back.
     places: Vec<Pass>,
+    // What the workers do, each by the number of its pass.
+    duties: Duties,
 }
 
 impl Model for Crew {
-    ghost use Rattle.std.specs.Prelude.{◌≡◌, ◌<◌, ◌≤◌, ◌+◌, vec_capacity, vec_len};
-    ghost use Rattle.carbon_serve.specs.Crews.{CrewValue, in_order};
+    ghost use Rattle.std.specs.Prelude.{◌≡◌, ◌<◌, ◌≤◌, ◌+◌, All, vec_capacity, vec_len};
+    ghost use Rattle.carbon_serve.specs.Crews.{CrewValue, HasRole, in_order};
 
     ghost Value = { CrewValue };
 
-    ghost view = { λ c. record { served = in_order c.workers.items; own = c.own } };
+    ghost view = { λ c. record {
+      served = in_order c.workers.items;
+      own = c.own;
+      duties = c.duties;
+    } };
 
     ghost invariant = { λ c. (0 < vec_len c.workers) × ((vec_len c.places ≡ 0)
-        × (vec_len c.workers + 1 ≤ vec_capacity c.places)) };
+        × ((vec_len c.workers + 1 ≤ vec_capacity c.places)
+        × All (HasRole c.duties) c.workers.items)) };
 }
 
 /// A crew whose workers have ended.
 #[derive(Drop)]
-pub(crate) struct Muster {
+pub(crate) struct Muster<N: Named> {
     // In order of their numbers.
     passes: Vec<Pass>,
     // That of the crew itself, which has seen all that these have seen.
-    own: Pass,
+    own: StorePass<N>,
     // Whether one of these has no room for the entries of another call.
     is_spent: bool,
 }
 
-impl Model for Muster {
+impl<N: Named> Model for Muster<N> {
     ghost use Rattle.std.specs.Prelude.{◌-◌, vec_capacity, vec_len};
     ghost use Rattle.carbon_serve.specs.Crews.{MusterValue};
 
@@ -77,12 +84,15 @@ impl Model for Muster {
 
 impl Crew {
     ghost use Rattle.std.specs.Prelude.{◌≡◌, ◌<◌, ◌≤◌, ◌∷◌, ◌++◌, [], All, IfOk, vec_len};
-    ghost use Rattle.carbon_serve.specs.Crews.{AllWent, Musters};
+    ghost use Rattle.http_front.specs.Origin.{origin_of};
+    ghost use Rattle.carbon_serve.specs.Crews.{AllDid, AllWent, Musters};
+    ghost use Rattle.carbon_serve.specs.Deeds.{telling};
 
     /// A crew with these passes and duties.
     pub fn new(alloc: Global, passes: Vec<Pass>, duties: Duties) -> Result<Crew, AllocError>
         requires { 2 ≤ vec_len passes }
-        ensures { IfOk result (λ crew. crew.served ++ crew.own ∷ [] ≡ passes.items) }
+        ensures all { IfOk result (λ crew. crew.served ++ crew.own ∷ [] ≡ passes.items) }
+        ensures duties { IfOk result (λ crew. crew.duties ≡ duties) }
     {
         let mut passes = passes;
         let Some(own) = passes.pop() else {
@@ -93,6 +103,7 @@ impl Crew {
             workers,
             own,
             places: passes,
+            duties,
         })
     }
 
@@ -108,13 +119,16 @@ impl Crew {
         E::L: Drop + Send,
         requires one { All (λ pass. pass.table ≡ N.table) self.old.served }
         ensures went { AllWent (C.moments clock.now) N.start self.old.served self.new.served }
+        ensures did { AllDid (telling E.L.Source E.L.Sink) (origin_of C.Clock N.Named clock.now)
+            self.old.duties self.old.served self.new.served }
         ensures own { self.new.own ≡ self.old.own }
+        ensures duties { self.new.duties ≡ self.old.duties }
     {
         work_all(rt, alloc, store, clock, net, self.workers.as_mut_slice());
     }
 
     /// Takes all passes back. The crew's own pass learns what they have seen.
-    pub(crate) fn muster<D: Disk, N: Named>(self, rt: &impl Wait, store: &Store<D, N>) -> Muster
+    pub(crate) fn muster<D: Disk, N: Named>(self, rt: &impl Wait, store: &Store<D, N>) -> Muster<N>
         requires one { All (λ pass. pass.table ≡ N.table) self.served }
         requires own { self.own.table ≡ N.table }
         ensures musters { Musters self.served self.own result }
@@ -124,10 +138,11 @@ impl Crew {
             workers,
             own,
             places,
+            duties: _,
         } = self;
         let mut muster = Muster {
             passes: places,
-            own,
+            own: StorePass::new(own),
             is_spent: false,
         };
         muster.add_workers(rt, store, workers);
@@ -180,7 +195,7 @@ fn role_of(number: u32, duties: Duties) -> Role
     Role::Drainer { pace: duties.pace }
 }
 
-impl Muster {
+impl<N: Named> Muster<N> {
     ghost use Rattle.std.specs.Prelude.{◌≡◌, ◌<◌, ◌≤◌, ◌+◌, ◌||◌, ◌∷◌, ◌++◌, [], All, vec_len};
     ghost use mathlib.Core.List.{IsPrefix};
     ghost use Rattle.shared_store.specs.Passes.{HasRoom, LooksOn};
@@ -189,14 +204,8 @@ impl Muster {
 
     // The passes of workers, the last worker's first.
     #[tactic(auto, using(crate::proofs::MusterLemmas::behind_none, crate::proofs::MusterLemmas::behind_all))]
-    fn add_workers<D: Disk, N: Named>(
-        &mut self,
-        rt: &impl Wait,
-        store: &Store<D, N>,
-        workers: Vec<Worker>,
-    )
+    fn add_workers<D: Disk>(&mut self, rt: &impl Wait, store: &Store<D, N>, workers: Vec<Worker>)
         requires ready { All (IsReady N.table) workers.items }
-        requires own { self.old.own.table ≡ N.table }
         requires places { vec_len workers ≤ self.old.places }
         ensures { Adds (in_order workers.items) self.old self.new }
     {
@@ -207,9 +216,8 @@ impl Muster {
     }
 
     #[tactic(auto, using(crate::proofs::MusterLemmas::adds_none, crate::proofs::MusterLemmas::adds_one))]
-    fn add_worker<D: Disk, N: Named>(&mut self, rt: &impl Wait, store: &Store<D, N>, worker: Worker)
+    fn add_worker<D: Disk>(&mut self, rt: &impl Wait, store: &Store<D, N>, worker: Worker)
         requires ready { IsReady N.table worker }
-        requires own { self.old.own.table ≡ N.table }
         requires places { 0 < self.old.places }
         ensures { Adds (pass_list worker.pass) self.old self.new }
     {
@@ -219,9 +227,8 @@ impl Muster {
     }
 
     // One pass more, of which the crew's own learns.
-    fn add<D: Disk, N: Named>(&mut self, rt: &impl Wait, store: &Store<D, N>, pass: Pass)
+    fn add<D: Disk>(&mut self, rt: &impl Wait, store: &Store<D, N>, pass: Pass)
         requires one { pass.table ≡ N.table }
-        requires own { self.old.own.table ≡ N.table }
         requires places { 0 < self.old.places }
         ensures served { self.new.served ≡ self.old.served ++ pass ∷ [] }
         ensures learned { IsPrefix pass.seen self.new.own.seen }
@@ -229,20 +236,19 @@ impl Muster {
         ensures spent { self.new.is_spent ≡ (self.old.is_spent || lacks_room pass) }
         ensures places { self.old.places ≤ self.new.places + 1 }
     {
-        let mut pass = pass;
+        let mut pass = StorePass::new(pass);
         learn_from(rt, store, &mut pass, &mut self.own);
         self.is_spent |= is_spent(&pass);
-        put_back(&mut self.passes, pass);
+        put_back(&mut self.passes, pass.into_pass());
     }
 
     /// Drains all that is pending by the crew's own pass, unless one of the others is spent.
-    pub(crate) fn drain<D: Disk, N: Named, C: Clock>(
+    pub(crate) fn drain<D: Disk, C: Clock>(
         &mut self,
         rt: &impl Wait,
         store: &Store<D, N>,
         clock: &C,
     ) -> DrainEnd
-        requires one { self.old.own.table ≡ N.table }
         requires room { HasRoom self.old.own }
         ensures finishes { Finishes (C.moments clock.now) N.start N.passes self.old.is_spent result
             self.old.own self.new.own }
@@ -267,7 +273,7 @@ impl Muster {
             is_spent: _,
         } = self;
         let mut passes = passes;
-        put_back(&mut passes, own);
+        put_back(&mut passes, own.into_pass());
         passes
     }
 }
@@ -277,11 +283,9 @@ impl Muster {
 fn learn_from<D: Disk, N: Named>(
     rt: &impl Wait,
     store: &Store<D, N>,
-    pass: &mut Pass,
-    own: &mut Pass,
+    pass: &mut StorePass<N>,
+    own: &mut StorePass<N>,
 )
-    requires one { pass.old.table ≡ N.table }
-    requires own { own.old.table ≡ N.table }
     ensures same { pass.new ≡ pass.old }
     ensures learned { IsPrefix pass.old.seen own.new.seen }
     ensures own { OnlySaw own.old own.new }
@@ -291,7 +295,7 @@ fn learn_from<D: Disk, N: Named>(
 }
 
 // Whether a pass has no room for the entries of another call.
-fn is_spent(pass: &Pass) -> bool
+fn is_spent<N: Named>(pass: &StorePass<N>) -> bool
     ensures { result ≡ lacks_room pass.now }
 {
     !has_room(pass)

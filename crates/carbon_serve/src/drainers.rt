@@ -8,8 +8,7 @@ use crate::workers::{Server, moment};
 use metric_path::CLASSES;
 use outside_io::{Clock, Disk, Net};
 use shard_core::Wrote;
-use shared_history::Pass;
-use shared_store::{Named, Step, has_room};
+use shared_store::{Named, Step, StorePass, has_room};
 use std::sync::Wait;
 use std::sync::atomic::Ordering;
 
@@ -22,15 +21,16 @@ where
     ghost use Rattle.shared_store.specs.Passes.{HasRoom};
     ghost use Rattle.carbon_serve.specs.Paces.{CountsStep, IsFree, IsPermitted, PermitsIn};
     ghost use Rattle.carbon_serve.specs.Rounds.{StepsOnce, TriesClass, TriesWrite, WritesOnce};
+    ghost use Rattle.carbon_serve.specs.Deeds.{DrainsOnly};
     ghost use Rattle.carbon_serve.specs.Workers.{Works};
 
     /// Drains what is pending, step by step and within its pace, until no worker serves links any
     /// more or the pass is spent. A round begins behind the class that last did what is bounded, so that a
     /// pace comes to all of them. It pauses after a round in which no class got on.
-    #[tactic(auto, using(crate::proofs::WorkLemmas::works_same, crate::proofs::WorkLemmas::works_then))]
-    pub(crate) fn drain(&self, pass: &mut Pass, pace: Pace)
-        requires one { pass.old.table ≡ N.table }
+    #[tactic(auto, using(crate::proofs::DeedLemmas::only_same, crate::proofs::WorkLemmas::works_same, crate::proofs::DeedLemmas::only_then, crate::proofs::WorkLemmas::works_then))]
+    pub(crate) fn drain(&self, pass: &mut StorePass<N>, pace: Pace)
         ensures works { Works (C.moments self.now.clock.now) N.start pass.old pass.new }
+        ensures only { DrainsOnly (C.moments self.now.clock.now) pass.old pass.new }
     {
         let mut pacer = Pacer::new(pace, moment(self.clock));
         for _round in self.rt.forever() {
@@ -45,10 +45,10 @@ where
     }
 
     // One turn of each class: whether one got on.
-    #[tactic(auto, using(crate::proofs::WorkLemmas::works_same, crate::proofs::WorkLemmas::works_then))]
-    fn drain_round(&self, pass: &mut Pass, pacer: &mut Pacer) -> bool
-        requires one { pass.old.table ≡ N.table }
+    #[tactic(auto, using(crate::proofs::DeedLemmas::only_same, crate::proofs::WorkLemmas::works_same, crate::proofs::DeedLemmas::only_then, crate::proofs::WorkLemmas::works_then))]
+    fn drain_round(&self, pass: &mut StorePass<N>, pacer: &mut Pacer) -> bool
         ensures works { Works (C.moments self.now.clock.now) N.start pass.old pass.new }
+        ensures only { DrainsOnly (C.moments self.now.clock.now) pass.old pass.new }
     {
         let mut moved = false;
         let mut class = pacer.first_class();
@@ -62,11 +62,11 @@ where
     }
 
     // One turn of a class, unless another drainer is at it: whether the class got on.
-    #[tactic(auto, using(crate::proofs::WorkLemmas::works_same))]
-    fn drain_turn(&self, pass: &mut Pass, pacer: &mut Pacer, class: u32) -> bool
+    #[tactic(auto, using(crate::proofs::DeedLemmas::only_same, crate::proofs::WorkLemmas::works_same))]
+    fn drain_turn(&self, pass: &mut StorePass<N>, pacer: &mut Pacer, class: u32) -> bool
         requires class { class < 16 }
-        requires one { pass.old.table ≡ N.table }
         ensures works { Works (C.moments self.now.clock.now) N.start pass.old pass.new }
+        ensures only { DrainsOnly (C.moments self.now.clock.now) pass.old pass.new }
     {
         let bit = 1_u32 << class;
         if self.taken.fetch_or(bit, Ordering::SeqCst) & bit != 0 {
@@ -79,11 +79,11 @@ where
 
     // What the pace lets the drainer do to a class: whether the class got on. Without a pace it is one
     // step, where the pass has room for it.
-    #[tactic(auto, using(crate::proofs::WorkLemmas::works_then))]
-    fn drain_class(&self, pass: &mut Pass, pacer: &mut Pacer, class: u32) -> bool
+    #[tactic(auto, using(crate::proofs::DeedLemmas::only_then, crate::proofs::WorkLemmas::works_then))]
+    fn drain_class(&self, pass: &mut StorePass<N>, pacer: &mut Pacer, class: u32) -> bool
         requires class { class < 16 }
-        requires one { pass.old.table ≡ N.table }
         ensures works { Works (C.moments self.now.clock.now) N.start pass.old pass.new }
+        ensures only { DrainsOnly (C.moments self.now.clock.now) pass.old pass.new }
         ensures tries { IsFree pacer.old → TriesClass (C.moments self.now.clock.now) N.start N.passes
             class result pass.old pass.new }
     {
@@ -94,18 +94,18 @@ where
 
     // One step of a class that is permitted, or the write of a run where none is, where the pass has
     // room for that: whether the class got on.
-    #[tactic(auto, using(crate::proofs::WorkLemmas::works_same))]
+    #[tactic(auto, using(crate::proofs::DeedLemmas::only_same, crate::proofs::WorkLemmas::works_same))]
     fn drain_as(
         &self,
-        pass: &mut Pass,
+        pass: &mut StorePass<N>,
         pacer: &mut Pacer,
         class: u32,
         permit: Option<Permit>,
     ) -> bool
         requires class { class < 16 }
-        requires one { pass.old.table ≡ N.table }
         requires permitted { IfSome permit (IsPermitted pacer.old) }
         ensures works { Works (C.moments self.now.clock.now) N.start pass.old pass.new }
+        ensures only { DrainsOnly (C.moments self.now.clock.now) pass.old pass.new }
         ensures tries { permit ≢ None → TriesClass (C.moments self.now.clock.now) N.start
             N.passes class result pass.old pass.new }
         ensures writes { permit ≡ None → TriesWrite N.start N.passes class result
@@ -123,11 +123,11 @@ where
 
     // The drain that the pace lets begin in a class. Whether the next one makes a file is looked for
     // only where files are bounded and the second has room for a drain.
-    #[tactic(auto, using(crate::proofs::PaceLemmas::free_drains, crate::proofs::PaceLemmas::has_permit, crate::proofs::WorkLemmas::works_same, crate::proofs::WorkLemmas::sees_works))]
-    fn permit(&self, pass: &mut Pass, pacer: &Pacer, class: u32) -> Option<Permit>
+    #[tactic(auto, using(crate::proofs::PaceLemmas::free_drains, crate::proofs::PaceLemmas::has_permit, crate::proofs::DeedLemmas::only_same, crate::proofs::WorkLemmas::works_same, crate::proofs::DeedLemmas::sees_only, crate::proofs::WorkLemmas::sees_works))]
+    fn permit(&self, pass: &mut StorePass<N>, pacer: &Pacer, class: u32) -> Option<Permit>
         requires class { class < 16 }
-        requires one { pass.old.table ≡ N.table }
         ensures works { Works (C.moments self.now.clock.now) N.start pass.old pass.new }
+        ensures only { DrainsOnly (C.moments self.now.clock.now) pass.old pass.new }
         ensures free { IsFree pacer.now → (result ≡ Some Permit.Drain) × (pass.new ≡ pass.old) }
         ensures permits { PermitsIn (replay N.start pass.new.seen) class pacer.now result }
         ensures permitted { IfSome result (IsPermitted pacer.now) }
@@ -140,12 +140,12 @@ where
     }
 
     // The next run of the drain of a class that was begun: whether there was one and it was written.
-    #[tactic(auto, using(crate::proofs::WorkLemmas::write_works))]
-    fn write(&self, pass: &mut Pass, class: u32) -> bool
+    #[tactic(auto, using(crate::proofs::DeedLemmas::write_only, crate::proofs::WorkLemmas::write_works))]
+    fn write(&self, pass: &mut StorePass<N>, class: u32) -> bool
         requires class { class < 16 }
-        requires one { pass.old.table ≡ N.table }
         requires room { HasRoom pass.old }
         ensures works { Works (C.moments self.now.clock.now) N.start pass.old pass.new }
+        ensures only { DrainsOnly (C.moments self.now.clock.now) pass.old pass.new }
         ensures writes { WritesOnce N.start N.passes class result pass.old pass.new }
     {
         let wrote = self.store.write_step(self.rt, pass, class);
@@ -153,13 +153,13 @@ where
     }
 
     // One step of a class. A drain that it begins is counted as one that was permitted.
-    #[tactic(auto, using(crate::proofs::WorkLemmas::step_works))]
-    fn step(&self, pass: &mut Pass, pacer: &mut Pacer, class: u32, permit: Permit) -> Step
+    #[tactic(auto, using(crate::proofs::DeedLemmas::step_only, crate::proofs::WorkLemmas::step_works))]
+    fn step(&self, pass: &mut StorePass<N>, pacer: &mut Pacer, class: u32, permit: Permit) -> Step
         requires class { class < 16 }
-        requires one { pass.old.table ≡ N.table }
         requires room { HasRoom pass.old }
         requires permitted { IsPermitted pacer.old permit }
         ensures works { Works (C.moments self.now.clock.now) N.start pass.old pass.new }
+        ensures only { DrainsOnly (C.moments self.now.clock.now) pass.old pass.new }
         ensures steps { StepsOnce (C.moments self.now.clock.now) N.start N.passes class result
             pass.old pass.new }
         ensures counts { CountsStep result permit pacer.old pacer.new }

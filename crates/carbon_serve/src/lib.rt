@@ -5,11 +5,13 @@
 
 mod crew;
 mod drainers;
+mod laws;
 mod pace;
 mod pacing;
 mod serving;
 mod workers;
 
 pub use crew::{Crew, Duties};
+pub use laws::{every_point_is_put_once, every_reply_is_of_the_one_history};
 pub use pace::Pace;
 pub use serving::{Served, serve};

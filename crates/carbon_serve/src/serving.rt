@@ -1,7 +1,10 @@
 //! The service of a net.
 ghost use Rattle.std.specs.Prelude.{◌≡◌};
 ghost use Rattle.shared_store.specs.Tallies.{tally_of};
+ghost use Rattle.http_front.specs.Origin.{origin_of};
+ghost use Rattle.carbon_serve.specs.Courses.{staff_of};
 ghost use Rattle.carbon_serve.specs.Crews.{IsNewCrew, IsServedCrew};
+ghost use Rattle.carbon_serve.specs.Deeds.{telling};
 ghost use Rattle.carbon_serve.specs.Serves.{Serves};
 
 use crate::crew::Crew;
@@ -35,25 +38,28 @@ pub fn serve<
 where
     E::L: Drop + Send,
     requires { IsNewCrew N.table N.passes crew }
-    ensures serves { Serves D.Disk N.told N.start N.faults (C.moments clock.now) N.passes result.end
-        result.closed.history result.closed.disks.items }
+    ensures serves { Serves D.Disk
+        (staff_of C.Clock E.L.Source E.L.Sink clock.now crew.duties N.passes) N.told N.start N.faults
+        result.end result.closed.history result.closed.disks.items }
     ensures counted { result.closed.tally ≡ tally_of result.closed.history }
 {
     let mut crew = crew;
     crew.work(rt, alloc, &store, clock, net);
-    end_service(rt, store, crew, clock)
+    end_service::<N, R, D, C, E>(rt, store, crew, clock)
 }
 
 // Drains all, and ends the store.
-fn end_service<N: Named, R: Wait, D: Disk + Drop, C: Clock>(
+fn end_service<N: Named, R: Wait, D: Disk + Drop, C: Clock, E: Net>(
     rt: &R,
     store: Store<D, N>,
     crew: Crew,
     clock: &C,
 ) -> Served<D>
-    requires { IsServedCrew N.table N.start N.passes (C.moments clock.now) crew }
-    ensures serves { Serves D.Disk N.told N.start N.faults (C.moments clock.now) N.passes result.end
-        result.closed.history result.closed.disks.items }
+    requires { IsServedCrew N.table (telling E.L.Source E.L.Sink)
+        (origin_of C.Clock N.Named clock.now) crew }
+    ensures serves { Serves D.Disk
+        (staff_of C.Clock E.L.Source E.L.Sink clock.now crew.duties N.passes) N.told N.start N.faults
+        result.end result.closed.history result.closed.disks.items }
     ensures counted { result.closed.tally ≡ tally_of result.closed.history }
 {
     let mut muster = crew.muster(rt, &store);

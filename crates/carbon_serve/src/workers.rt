@@ -1,6 +1,8 @@
 //! The workers of a server, each with a pass of its own for all that it does.
 ghost use Rattle.std.specs.Prelude.{◌≡◌, ◌<◌, true, length, All};
 ghost use Rattle.fixed_num.specs.Moment.{is_moment};
+ghost use Rattle.http_front.specs.Origin.{origin_of};
+ghost use Rattle.carbon_serve.specs.Deeds.{AllDo, DoesRole, telling};
 ghost use Rattle.carbon_serve.specs.Workers.{AllWork, IsReady, Works, WorksBy};
 
 use crate::pace::Pace;
@@ -8,7 +10,7 @@ use http_front::{HttpEnd, serve_http};
 use line_front::{LineCause, Served as ServedLines, serve_lines};
 use outside_io::{Clock, Disk, Net};
 use shared_history::Pass;
-use shared_store::{Named, Store};
+use shared_store::{Named, Store, StorePass};
 use std::alloc::Global;
 use std::sync::Wait;
 use std::sync::atomic::{AtomicU32, AtomicUsize, Ordering};
@@ -62,6 +64,8 @@ where
     E::L: Drop + Send,
 {
     ghost use Rattle.std.specs.Prelude.{◌≡◌, ◌<◌, true};
+    ghost use Rattle.http_front.specs.Origin.{origin_of};
+    ghost use Rattle.carbon_serve.specs.Deeds.{Did, DoesRole, Receives, Renders, ServesHttpOf, ServesLineOf, telling};
     ghost use Rattle.carbon_serve.specs.Workers.{IsReady, Works, WorksBy};
 
     /// Serves links of the worker's kind, one after the other, until the net is closed or the pass
@@ -69,19 +73,23 @@ where
     pub(crate) fn work(&self, worker: &mut Worker)
         requires one { IsReady N.table worker.old }
         ensures works { WorksBy (C.moments self.now.clock.now) N.start worker.old.pass worker.new.pass }
+        ensures does { DoesRole (telling E.L.Source E.L.Sink)
+            (origin_of C.Clock N.Named self.now.clock.now) worker.old worker.new }
     {
         let Some(pass) = worker.pass.take() else {
             return;
         };
-        worker.pass = Some(self.work_by(worker.role, pass));
+        let pass = self.work_by(worker.role, StorePass::new(pass));
+        worker.pass = Some(pass.into_pass());
         if worker.role.serves_links() {
             self.link_workers.fetch_sub(1, Ordering::SeqCst);
         }
     }
 
-    fn work_by(&self, role: Role, pass: Pass) -> Pass
-        requires one { pass.table ≡ N.table }
+    fn work_by(&self, role: Role, pass: StorePass<N>) -> StorePass<N>
         ensures works { Works (C.moments self.now.clock.now) N.start pass result }
+        ensures did { Did (telling E.L.Source E.L.Sink)
+            (origin_of C.Clock N.Named self.now.clock.now) role pass result }
     {
         let mut pass = pass;
         match role {
@@ -94,10 +102,11 @@ where
 
     // Puts the points that links bring. Whatever ends a link, but a spent pass, ends that link
     // alone.
-    #[tactic(auto, using(crate::proofs::WorkLemmas::works_same, crate::proofs::WorkLemmas::works_then))]
-    fn receive(&self, pass: Pass) -> Pass
-        requires one { pass.table ≡ N.table }
+    #[tactic(auto, using(crate::proofs::DeedLemmas::receives_none, crate::proofs::DeedLemmas::receives_more, crate::proofs::WorkLemmas::works_same, crate::proofs::WorkLemmas::works_then))]
+    fn receive(&self, pass: StorePass<N>) -> StorePass<N>
         ensures works { Works (C.moments self.now.clock.now) N.start pass result }
+        ensures did { Receives (telling E.L.Source E.L.Sink)
+            (origin_of C.Clock N.Named self.now.clock.now) pass result }
     {
         let mut pass = pass;
         for _link in self.rt.forever() {
@@ -113,19 +122,21 @@ where
         unreachable!()
     }
 
-    fn receive_link(&self, pass: Pass, link: E::L) -> ServedLines
-        requires one { pass.table ≡ N.table }
+    fn receive_link(&self, pass: StorePass<N>, link: E::L) -> ServedLines<N>
         ensures works { Works (C.moments self.now.clock.now) N.start pass result.pass }
+        ensures did { ServesLineOf (telling E.L.Source E.L.Sink)
+            (origin_of C.Clock N.Named self.now.clock.now) link pass result.pass }
     {
         let mut link = link;
         serve_lines(self.rt, self.alloc, self.store, pass, &mut link, self.clock)
     }
 
     // Answers the requests that links bring, and goes on likewise.
-    #[tactic(auto, using(crate::proofs::WorkLemmas::works_same, crate::proofs::WorkLemmas::works_then))]
-    fn render(&self, pass: &mut Pass, answer_bytes: u64)
-        requires one { pass.old.table ≡ N.table }
+    #[tactic(auto, using(crate::proofs::DeedLemmas::renders_none, crate::proofs::DeedLemmas::renders_more, crate::proofs::WorkLemmas::works_same, crate::proofs::WorkLemmas::works_then))]
+    fn render(&self, pass: &mut StorePass<N>, answer_bytes: u64)
         ensures works { Works (C.moments self.now.clock.now) N.start pass.old pass.new }
+        ensures did { Renders (telling E.L.Source E.L.Sink)
+            (origin_of C.Clock N.Named self.now.clock.now) pass.old pass.new }
     {
         for _link in self.rt.forever() {
             let Some(link) = self.net.next_http() else {
@@ -138,9 +149,10 @@ where
         unreachable!()
     }
 
-    fn render_link(&self, pass: &mut Pass, link: E::L, answer_bytes: u64) -> HttpEnd
-        requires one { pass.old.table ≡ N.table }
+    fn render_link(&self, pass: &mut StorePass<N>, link: E::L, answer_bytes: u64) -> HttpEnd
         ensures works { Works (C.moments self.now.clock.now) N.start pass.old pass.new }
+        ensures did { ServesHttpOf (telling E.L.Source E.L.Sink)
+            (origin_of C.Clock N.Named self.now.clock.now) link pass.old pass.new }
     {
         let mut link = link;
         serve_http(
@@ -180,6 +192,8 @@ where
     requires some { 0 < length workers.old }
     requires ready { All (IsReady N.table) workers.old }
     ensures workers { AllWork (C.moments clock.now) N.start workers.old workers.new }
+    ensures do_all { AllDo (telling E.L.Source E.L.Sink) (origin_of C.Clock N.Named clock.now)
+        workers.old workers.new }
 {
     let threads = workers.len();
     let link_workers = AtomicUsize::new(count_link_workers(workers));
@@ -190,7 +204,9 @@ where
         threads,
         &|_, worker: &mut Worker|
             requires { IsReady N.table worker.now }
-            ensures { WorksBy (C.moments clock.entry.now) N.start worker.old.pass worker.new.pass }
+            ensures works { WorksBy (C.moments clock.entry.now) N.start worker.old.pass worker.new.pass }
+            ensures does { DoesRole (telling E.L.Source E.L.Sink)
+                (origin_of C.Clock N.Named clock.entry.now) worker.old worker.new }
         {
             let server = Server {
                 rt,

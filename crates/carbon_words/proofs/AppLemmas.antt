@@ -1,15 +1,20 @@
 -- Commands of `clap`, step by step.
-use Rattle.std.proofs.Common.{◌∙◌, ◌≡◌, ap, ap₂, codes, false, refl, true}
-use Rattle.clap.specs.Words.{AddsArg, AddsSubcommand, App, Rule, Shape, Text, app_of, rule_of, shape_of, with_rule, with_subcommand}
+use Rattle.std.proofs.Common.{◌∙◌, ◌≡◌, ap, ap₂, false, true}
+use Rattle.clap.specs.Words.{AddsArg, AddsSubcommand, App, Text, app_of, rule_of, with_rule, with_subcommand}
 use Rattle.clap.specs.declared.builder.Arg.{Arg}
 use Rattle.clap.specs.declared.builder.Command.{Command}
 use Rattle.clap.proofs.SimpleLemmas.{plain_fields}
-use Rattle.carbon_words.specs.CommandLine.{number_rule, option_rule, with_number, with_option}
+use Rattle.carbon_words.specs.CommandLine.{number_rule, option_rule, repeatable_rule, with_number, with_option, with_repeatable}
 
 -- a command with an option more
 pub option_added : (name : Text) (arg : Arg) (old new : Command) (app : App) → AddsArg old arg new → arg.global ≡ false
     → rule_of arg ≡ option_rule name → app_of old ≡ app → app_of new ≡ with_option name app
 option_added name arg old new app added local rule before = added.shape local ∙ ap₂ with_rule before rule
+
+-- a command with an option more that may be given several times
+pub repeatable_added : (name : Text) (arg : Arg) (old new : Command) (app : App) → AddsArg old arg new → arg.global ≡ false
+    → rule_of arg ≡ repeatable_rule name → app_of old ≡ app → app_of new ≡ with_repeatable name app
+repeatable_added name arg old new app added local rule before = added.shape local ∙ ap₂ with_rule before rule
 
 -- a command with a number more
 pub number_added : (name : Text) (arg : Arg) (old new : Command) (app : App) → AddsArg old arg new → arg.global ≡ false

@@ -1,2 +1,4 @@
 pub mod AppLemmas
+pub mod HostLemmas
+pub mod ListLemmas
 pub mod ParseLemmas

@@ -1,5 +1,5 @@
 -- What a parse of the words comes to.
-use Rattle.std.proofs.Common.{◌∙◌, ◌≡◌, List, [], ◌∷◌, Option, Some, None, ap, ap₂, inl, inr, refl, subst, sym, true}
+use Rattle.std.proofs.Common.{◌≡◌, List, [], ◌∷◌, Option, Some, None, ap, ap₂, inl, inr, refl, sym, true}
 use Rattle.std.specs.Prelude.{◌≢◌, IfErr, IfOk, Ok, Err, Result, option_map}
 use Rattle.clap.specs.Words.{FailsBy, HasMatchesOf, Kinds, Row, Text, fault_of, is_simple, is_simple_and_free, kind_of, subcommand_of, subcommand_rows_of}
 use Rattle.clap.specs.declared.ArgMatches.{ArgMatches}

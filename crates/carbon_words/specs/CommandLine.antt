@@ -8,15 +8,19 @@ use Rattle.drain_order.specs.declared.strategy.Strategy.TheVariants.{Max, Sorted
 use Rattle.clap.specs.Faults.{fault_of}
 use Rattle.clap.specs.Kinds.{Kinds}
 use Rattle.clap.specs.Simple.{App, Shape, new_app, new_rule, on_top, subcommand_of, subcommand_rows_of, with_rule, with_subcommand}
-use Rattle.clap.specs.Walk.{Row, Rule, Text, first_of}
+use Rattle.clap.specs.Walk.{Row, Rule, Text, all_of, first_of}
+use Rattle.clap.specs.declared.builder.action.ArgAction.TheVariants.{Append}
 use Rattle.clap.specs.declared.parser.matches.ArgMatches.{ArgMatches}
 use Rattle.carbon_words.specs.declared.command.Command.{Command}
 use Rattle.carbon_words.specs.declared.command.Command.TheVariants.{Sample, Script, Serve}
 use Rattle.carbon_words.specs.declared.command.DrainOptions.{DrainOptions}
 use Rattle.carbon_words.specs.declared.command.Options.{Options}
+use Rattle.carbon_words.specs.declared.command.PortHosts.{PortHosts}
 use Rattle.carbon_words.specs.declared.command.SampleOptions.{SampleOptions}
 use Rattle.carbon_words.specs.declared.command.ServeOptions.{ServeOptions}
+use Rattle.carbon_words.specs.declared.hosts.Hosts.{Hosts}
 use Rattle.carbon_words.specs.declared.reading.Choice.{Choice}
+use Rattle.carbon_words.specs.HostTexts.{all_hosts, hosts_by}
 
 -- ---- which words are commands
 
@@ -24,8 +28,15 @@ use Rattle.carbon_words.specs.declared.reading.Choice.{Choice}
 abbrev pub option_rule : Text → Rule
 option_rule name = record (new_rule name) { long = Some name }
 
+-- one that may be given several times
+abbrev pub repeatable_rule : Text → Rule
+repeatable_rule name = record (option_rule name) { action = Some Append }
+
 abbrev pub with_option : Text → App → App
 with_option name app = with_rule app (option_rule name)
+
+abbrev pub with_repeatable : Text → App → App
+with_repeatable name app = with_rule app (repeatable_rule name)
 
 -- a number that has to stand
 abbrev pub number_rule : Text → Rule
@@ -48,7 +59,9 @@ script_app = command_app (codes "script")
 -- the words behind `serve`
 unfoldable pub serve_app : App
 serve_app =
-    with_option (codes "creates")
+    with_repeatable (codes "http-host")
+    (with_repeatable (codes "line-host")
+    (with_option (codes "creates")
     (with_option (codes "pace")
     (with_option (codes "drainers")
     (with_option (codes "answer-bytes")
@@ -57,7 +70,7 @@ serve_app =
     (with_option (codes "renderers")
     (with_option (codes "receivers")
     (with_option (codes "http-port")
-    (with_option (codes "line-port") (command_app (codes "serve")))))))))))
+    (with_option (codes "line-port") (command_app (codes "serve")))))))))))))
 
 -- the words behind `sample`: its start, and how many metric lines it has
 unfoldable pub sample_app : App
@@ -127,11 +140,22 @@ drain_options_in rows =
     (number_in (choice 0 1000000 0) (codes "pace") rows))
     (number_in (choice 1 16 1) (codes "drainers") rows)
 
+-- the addresses that an option says, given once for each of them; all of the machine where it is left out
+unfoldable pub hosts_in : Text → List Row → Option Hosts
+hosts_in name rows = option_map_or hosts_by (all_of name rows) (Some all_hosts)
+
+-- at which addresses the ports are open
+unfoldable pub port_hosts_in : List Row → Option PortHosts
+port_hosts_in rows =
+    option_and_then (λ lines. option_map (λ http. record { lines = lines; http = http }) (hosts_in (codes "http-host") rows))
+    (hosts_in (codes "line-host") rows)
+
 -- what `serve` may say besides
 unfoldable pub serve_options_in : List Row → Option ServeOptions
 serve_options_in rows =
     option_and_then (λ lines. option_and_then (λ http. option_and_then (λ receivers. option_and_then (λ renderers.
-    option_and_then (λ patience. option_and_then (λ links. option_and_then (λ bytes. option_map (λ drains. record {
+    option_and_then (λ patience. option_and_then (λ links. option_and_then (λ bytes. option_and_then (λ drains.
+    option_map (λ hosts. record {
       line_port = lines;
       http_port = http;
       receivers = receivers;
@@ -140,7 +164,9 @@ serve_options_in rows =
       links = links;
       answer_bytes = bytes;
       drains = drains;
+      hosts = hosts;
     })
+    (port_hosts_in rows))
     (drain_options_in rows))
     (number_in (choice 1048576 1099511627776 268435456) (codes "answer-bytes") rows))
     (number_in (choice 0 1000000000 0) (codes "links") rows))

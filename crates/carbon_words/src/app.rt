@@ -1,9 +1,9 @@
 //! What `clap` is told of the command line.
 ghost use Rattle.std.specs.Prelude.{◌≡◌, false, IfOk};
 ghost use Rattle.clap.specs.Words.{app_of, rule_of};
-ghost use Rattle.carbon_words.specs.CommandLine.{carbon, command_app, number_rule, option_rule, sample_app, serve_app};
+ghost use Rattle.carbon_words.specs.CommandLine.{carbon, command_app, number_rule, option_rule, repeatable_rule, sample_app, serve_app};
 
-use clap::{Arg, Command};
+use clap::{Arg, ArgAction, Command};
 use std::alloc::{AllocError, Global};
 
 // An option that has a value, of this name.
@@ -12,6 +12,14 @@ fn option<'a>(alloc: Global, name: &'a str) -> Arg<'a>
     ensures local { result.global ≡ false }
 {
     Arg::new(alloc, name).long(name)
+}
+
+// An option that has a value, of this name. It may be given several times.
+fn repeatable<'a>(alloc: Global, name: &'a str) -> Arg<'a>
+    ensures rule { rule_of result ≡ repeatable_rule name.entry.now }
+    ensures local { result.global ≡ false }
+{
+    Arg::new(alloc, name).action(ArgAction::Append).long(name)
 }
 
 // A number that has to stand behind a command, under this name.
@@ -46,7 +54,9 @@ fn serve<'a>(alloc: Global) -> Result<Command<'a>, AllocError>
         .arg(option(alloc, "answer-bytes"))?
         .arg(option(alloc, "drainers"))?
         .arg(option(alloc, "pace"))?
-        .arg(option(alloc, "creates"))
+        .arg(option(alloc, "creates"))?
+        .arg(repeatable(alloc, "line-host"))?
+        .arg(repeatable(alloc, "http-host"))
 }
 
 // The words behind `sample`.

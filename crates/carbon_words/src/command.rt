@@ -1,4 +1,5 @@
 //! What a command line says.
+use crate::hosts::Hosts;
 use drain_order::Strategy;
 
 /// What every command may say.
@@ -29,6 +30,17 @@ pub struct ServeOptions {
     pub answer_bytes: u64,
     /// How what is pending goes to the disk.
     pub drains: DrainOptions,
+    /// At which addresses the ports are open.
+    pub hosts: PortHosts,
+}
+
+/// At which addresses the ports are open.
+#[derive(Clone, Copy, Debug, PartialEq, Eq)]
+pub struct PortHosts {
+    /// Those of the port for metric lines.
+    pub lines: Hosts,
+    /// Those of the port for HTTP.
+    pub http: Hosts,
 }
 
 /// How what is pending goes to the disk.

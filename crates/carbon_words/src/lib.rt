@@ -4,8 +4,11 @@
 mod app;
 mod arguments;
 mod command;
+mod host_reading;
+mod hosts;
 mod reading;
 
 pub use arguments::words;
-pub use command::{Command, DrainOptions, Options, SampleOptions, ServeOptions};
+pub use command::{Command, DrainOptions, Options, PortHosts, SampleOptions, ServeOptions};
+pub use hosts::{Hosts, MOST_HOSTS};
 pub use reading::{WordsFault, read_words};

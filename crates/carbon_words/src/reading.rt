@@ -2,10 +2,12 @@
 ghost use Rattle.std.specs.Prelude.{◌≡◌, ◌≢◌, ◌≤◌, [], IfOk, IfErr, IfSome, map, string_bytes};
 ghost use Rattle.clap.specs.Faults.{fault_of};
 ghost use Rattle.clap.specs.Words.{found_of, kind_of, rows_of, subcommand_rows_of};
-ghost use Rattle.carbon_words.specs.CommandLine.{FindsWords, HasCount, HasDrainers, HasLimit, HasWorkers, IsSound, between, carbon, command_in, command_met, command_of, drain_options_in, number_given, number_in, options_in, order_in, order_of, sample_options_in, serve_options_in};
+ghost use Rattle.carbon_words.specs.CommandLine.{FindsWords, HasCount, HasDrainers, HasLimit, HasWorkers, IsSound, between, carbon, command_in, command_met, command_of, drain_options_in, hosts_in, number_given, number_in, options_in, order_in, order_of, port_hosts_in, sample_options_in, serve_options_in};
 
 use crate::app::carbon;
-use crate::command::{Command, DrainOptions, Options, SampleOptions, ServeOptions};
+use crate::command::{Command, DrainOptions, Options, PortHosts, SampleOptions, ServeOptions};
+use crate::host_reading::hosts_by;
+use crate::hosts::Hosts;
 use clap::error::ErrorKind;
 use clap::{ArgMatches, Error};
 use drain_order::Strategy;
@@ -173,6 +175,7 @@ fn serve_options_in(values: &ArgMatches<'_>) -> Option<ServeOptions>
     let links = number_in(values, "links", LINKS)?;
     let answer_bytes = number_in(values, "answer-bytes", ANSWER_BYTES)?;
     let drains = drain_options_in(values)?;
+    let hosts = port_hosts_in(values)?;
     Some(ServeOptions {
         line_port: line_port as u16,
         http_port: http_port as u16,
@@ -182,7 +185,17 @@ fn serve_options_in(values: &ArgMatches<'_>) -> Option<ServeOptions>
         links,
         answer_bytes,
         drains,
+        hosts,
     })
+}
+
+#[tactic(auto, unfolding(crate::specs::CommandLine::port_hosts_in))]
+fn port_hosts_in(values: &ArgMatches<'_>) -> Option<PortHosts>
+    ensures { result ≡ port_hosts_in (rows_of (found_of values.now)) }
+{
+    let lines = hosts_in(values, "line-host")?;
+    let http = hosts_in(values, "http-host")?;
+    Some(PortHosts { lines, http })
 }
 
 #[tactic(auto, unfolding(crate::specs::CommandLine::drain_options_in))]
@@ -211,6 +224,17 @@ fn sample_options_in(values: &ArgMatches<'_>) -> Option<SampleOptions>
         start,
         count: count as u32,
     })
+}
+
+// The addresses of an option.
+#[tactic(auto, unfolding(crate::specs::CommandLine::hosts_in))]
+fn hosts_in(values: &ArgMatches<'_>, name: &str) -> Option<Hosts>
+    ensures { result ≡ hosts_in name.now (rows_of (found_of values.now)) }
+{
+    match values.get_strs(name) {
+        Some(texts) => hosts_by(texts),
+        None => Some(Hosts::all()),
+    }
 }
 
 // The number of an option.

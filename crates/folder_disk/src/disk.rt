@@ -20,9 +20,10 @@ use std::time::Clock;
 /// the call that meets it, also where the name stands behind it, and of `names` where nobody asks for it. Every error counts as a fault of
 /// the disk, want of memory too.
 ///
-/// `create` writes over no file that is whole: where the name is taken it fails, but for a plain file that begins with 16 zero bytes or has
-/// zero bytes alone, as one that was being made when its process ended; and for a ring file of version 1 which was there, as it is, when
-/// `names` was called last, since a drain reads such a file and then makes it anew.
+/// `create` writes over no ring file that is whole: where a name that ends in `.ring` is taken it fails, but for a plain file that begins
+/// with 16 zero bytes or has zero bytes alone, as one that was being made when its process ended; and for a ring file of version 1 which was
+/// there, as it is, when `names` was called last, since a drain reads such a file and then makes it anew. Under any other name a plain file is
+/// made anew.
 ///
 /// The file of the last call stays open, so that calls for one file in a row open it once. Each write looks whether the name still leads to
 /// that file (it may do so through an inner folder that became a link meanwhile), and so does a read where the last look is a tenth of a
@@ -30,9 +31,9 @@ use std::time::Clock;
 /// that was cut. The next call looks into the folder anew.
 ///
 /// `sync` brings to the device what this disk wrote and made since the last one, and the names of what it made with the folders on their way,
-/// from its own folder on. Where that is more than four files it goes over the whole folder. A file that was removed or replaced meanwhile
-/// is a fault. Once the system failed to bring something to the device every further `sync` fails: it may have forgotten what was written,
-/// and would not say so again.
+/// from its own folder on. Where that is more than four files it goes over the whole folder, and so does the first one, for what an earlier
+/// process may have left. A file that was removed or replaced meanwhile is a fault. Once the system failed to bring something to the device
+/// every further `sync` fails: it may have forgotten what was written, and would not say so again.
 ///
 /// After a create that failed no other is tried for a twentieth of a second, and twice as long after each further one, up to a second; calls
 /// in between fail.

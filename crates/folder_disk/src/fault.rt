@@ -38,11 +38,11 @@ pub(crate) struct NamedFault {
 }
 
 impl NamedFault {
-    // What a sync comes to behind one at which the system failed.
-    pub(crate) fn forgotten(alloc: Global) -> NamedFault {
+    // A fault of the folder itself.
+    pub(crate) fn of_folder(alloc: Global, fault: FileFault) -> NamedFault {
         NamedFault {
             name: String::new(alloc),
-            fault: FileFault::Forgotten,
+            fault,
         }
     }
 

@@ -18,6 +18,9 @@ const LAST_METHOD: u8 = 8;
 // The name of the file by which a folder is tried.
 const TRIAL: &str = "carbon.trial";
 
+// The end of the name of a ring file.
+const RING_END: &str = ".ring";
+
 // The files in a folder, and the one that was used last, which stays open.
 #[derive(Drop)]
 pub(crate) struct FolderFiles<R> {
@@ -28,6 +31,8 @@ pub(crate) struct FolderFiles<R> {
     // when the names were listed last
     listed: Option<Moment>,
     unsynced: Unsynced,
+    // whether what an earlier process may have left is on the device
+    is_settled: bool,
     // whether the system failed to bring something to the device
     has_forgotten: bool,
 }
@@ -49,6 +54,7 @@ impl<R: Files<File = File> + AllocGlobal> FolderFiles<R> {
             kept: None,
             listed: None,
             unsynced,
+            is_settled: false,
             has_forgotten: false,
         }
     }
@@ -166,18 +172,22 @@ impl<R: Files<File = File> + AllocGlobal + Clock> FolderFiles<R> {
         }
     }
 
-    // The file under a name that is taken, where it was never whole, or is of version 1 and was there when the names were listed: such a one
-    // is read before a drain makes it anew, and one that came since was not.
+    // The file under a name that is taken, where it is no ring file, or may be made anew.
     fn made_anew(&self, name: &str) -> Result<OpenedFile, FileFault> {
         let file = self.open(name, Access::Writing)?;
+        if name.ends_with(RING_END) && !self.may_be_anew(&file)? {
+            return Err(FileFault::InTheWay);
+        }
+        Ok(file)
+    }
+
+    // Whether a ring file was never whole, or is of version 1 and was there when the names were listed: such a one is read before a drain
+    // makes it anew, and one that came since was not.
+    fn may_be_anew(&self, file: &OpenedFile) -> Result<bool, FileFault> {
         let length = file.length_under_name(&self.rt, self.links)?;
         let mut room = [0; FRONT_BYTES];
         let front = file.front(length, &mut room)?;
-        if is_unfinished(front) || (is_old(front) && self.was_listed(&file)?) {
-            Ok(file)
-        } else {
-            Err(FileFault::InTheWay)
-        }
+        Ok(is_unfinished(front) || (is_old(front) && self.was_listed(file)?))
     }
 
     // Whether a file was there, as it is, when the names were listed.
@@ -209,7 +219,7 @@ impl<R: Files<File = File> + AllocGlobal + Clone + Drop> FolderFiles<R> {
     // each further call fails.
     pub(crate) fn sync(&mut self) -> Result<(), NamedFault> {
         if self.has_forgotten {
-            return Err(NamedFault::forgotten(self.rt.alloc()));
+            return Err(NamedFault::of_folder(self.rt.alloc(), FileFault::Forgotten));
         }
         let outcome = self.sync_awaited();
         self.has_forgotten = matches!(
@@ -226,11 +236,30 @@ impl<R: Files<File = File> + AllocGlobal + Clone + Drop> FolderFiles<R> {
         if self.unsynced.is_more() {
             self.sync_every()?;
         } else {
+            self.settle()?;
             self.unsynced
                 .sync(&self.rt, self.folder.as_str(), self.links, &self.kept)?;
         }
+        self.is_settled = true;
         self.unsynced.clear();
         Ok(())
+    }
+
+    // Brings to the device what an earlier process may have left, once. Where there is no folder it left nothing.
+    fn settle(&self) -> Result<(), NamedFault> {
+        if self.is_settled || !self.has_folder()? {
+            return Ok(());
+        }
+        self.sync_every()
+    }
+
+    // Whether the folder is there.
+    fn has_folder(&self) -> Result<bool, NamedFault> {
+        match fs::metadata(&self.rt, self.folder.as_str()) {
+            Ok(_) => Ok(true),
+            Err(error) if error.kind() == ErrorKind::NotFound => Ok(false),
+            Err(error) => Err(NamedFault::of_folder(self.rt.alloc(), FileFault::System(error))),
+        }
     }
 }
 

@@ -15,7 +15,7 @@ use point_cache::Put;
 use schema_rules::Rules;
 use shard_set::{Setup, Started, start_all};
 use shared_history::{Pass, make};
-use shared_store::{Named, Parts, Store, has_room, make_pairs};
+use shared_store::{Named, Parts, Store, StorePass, has_room, make_pairs};
 use std::alloc::{AllocError, Global};
 use std::marker::Brand;
 use std::process::Abort;
@@ -131,12 +131,9 @@ fn serve_link<N: Named, R: Wait>(
     rt: &R,
     alloc: Global,
     store: &Store<MemDisk, N>,
-    pass: &mut Pass,
+    pass: &mut StorePass<N>,
     link: MemLink,
-) -> Came
-    requires { pass.old.table ≡ N.table }
-    ensures { pass.new.table ≡ N.table }
-{
+) -> Came {
     let mut link = link;
     let before = pass.left();
     let clock = FixedClock::new(u64::from(NOW));
@@ -174,13 +171,10 @@ fn assert_case<N: Named, R: Wait + Abort>(
     rt: &R,
     alloc: Global,
     store: &Store<MemDisk, N>,
-    pass: &mut Pass,
+    pass: &mut StorePass<N>,
     case: &Case<'_>,
     number: usize,
-) -> Result<(), Fail>
-    requires { pass.old.table ≡ N.table }
-    ensures { pass.new.table ≡ N.table }
-{
+) -> Result<(), Fail> {
     let link = link_of(alloc, case)?;
     let came = serve_link(rt, alloc, store, pass, link);
     assert_came(rt, alloc, &came, &case.row, number)
@@ -191,12 +185,9 @@ fn assert_links<N: Named, R: Wait + Abort>(
     rt: &R,
     alloc: Global,
     store: &Store<MemDisk, N>,
-    pass: &mut Pass,
+    pass: &mut StorePass<N>,
     cases: &[Case<'_>],
-) -> Result<(), Fail>
-    requires { pass.old.table ≡ N.table }
-    ensures { pass.new.table ≡ N.table }
-{
+) -> Result<(), Fail> {
     for (number, case) in cases.iter().enumerate() {
         assert_case(rt, alloc, store, pass, case, number)?;
     }
@@ -208,12 +199,9 @@ fn put_lines<N: Named, R: Wait + Abort>(
     rt: &R,
     alloc: Global,
     store: &Store<MemDisk, N>,
-    pass: &mut Pass,
+    pass: &mut StorePass<N>,
     lines: &[&[u8]],
-)
-    requires { pass.old.table ≡ N.table }
-    ensures { pass.new.table ≡ N.table }
-{
+) {
     for line in lines {
         put_line(rt, alloc, store, pass, line);
     }
@@ -224,12 +212,9 @@ fn put_line<N: Named, R: Wait + Abort>(
     rt: &R,
     alloc: Global,
     store: &Store<MemDisk, N>,
-    pass: &mut Pass,
+    pass: &mut StorePass<N>,
     line: &[u8],
-)
-    requires { pass.old.table ≡ N.table }
-    ensures { pass.new.table ≡ N.table }
-{
+) {
     let Ok(datum) = read_line(alloc, line, NOW) else {
         return;
     };
@@ -239,10 +224,7 @@ fn put_line<N: Named, R: Wait + Abort>(
 }
 
 // Drains all that is pending.
-fn drain<N: Named, R: Wait>(rt: &R, store: &Store<MemDisk, N>, pass: &mut Pass)
-    requires { pass.old.table ≡ N.table }
-    ensures { pass.new.table ≡ N.table }
-{
+fn drain<N: Named, R: Wait>(rt: &R, store: &Store<MemDisk, N>, pass: &mut StorePass<N>) {
     if has_room(pass) {
         let _ = store.drain_all(rt, pass, NOW);
     }
@@ -262,13 +244,14 @@ fn serve_store<N: Named, R: Wait + Abort>(
     requires new { AreNewPasses N.table passes.items }
 {
     let mut passes = passes;
-    let Some(mut pass) = passes.pop() else {
+    let Some(pass) = passes.pop() else {
         unreachable!()
     };
+    let mut pass = StorePass::new(pass);
     put_lines(rt, alloc, &store, &mut pass, lines);
     assert_links(rt, alloc, &store, &mut pass, cases)?;
     drain(rt, &store, &mut pass);
-    passes.push(pass)?;
+    passes.push(pass.into_pass())?;
     Ok(store.close(rt, passes).disks)
 }
 

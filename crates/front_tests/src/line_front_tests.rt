@@ -14,7 +14,7 @@ use outside_io::{FixedClock, MemDisk, MemLink, MemSink, MemSource};
 use schema_rules::Rules;
 use shard_set::{Setup, Started, start_all};
 use shared_history::{Pass, make};
-use shared_store::{Named, Parts, Store, Tally, make_pairs};
+use shared_store::{Named, Parts, Store, StorePass, Tally, make_pairs};
 use std::alloc::{AllocError, Global};
 use std::marker::Brand;
 use std::process::Abort;
@@ -70,11 +70,9 @@ fn serve_all<N: Named, R: Wait>(
     rt: &R,
     alloc: Global,
     store: &Store<MemDisk, N>,
-    pass: Pass,
+    pass: StorePass<N>,
     links: Vec<MemLink>,
-) -> Came
-    requires { pass.table ≡ N.table }
-{
+) -> Came {
     let clock = FixedClock::new(NOW);
     let mut pass = pass;
     let mut cause = LineCause::Closed;
@@ -110,6 +108,7 @@ fn run_store<N: Named, R: Wait>(
     let Some(pass) = passes.pop() else {
         return Err(Fail::new("there is a pass"));
     };
+    let pass = StorePass::new(pass);
     match Store::<MemDisk, N>::start(alloc, parts) {
         Ok(store) => Ok(serve_all(rt, alloc, &store, pass, links)),
         Err(_) => Err(Fail::new("there is memory for a store")),

@@ -10,8 +10,7 @@ use metric_path::MetricPath;
 use outside_io::{Clock, Disk};
 use path_glob::Glob;
 use render_answer::Text;
-use shared_history::Pass;
-use shared_store::Named;
+use shared_store::{Named, StorePass};
 use std::alloc::AllocError;
 use std::sync::Wait;
 
@@ -24,12 +23,11 @@ impl<'a, R: Wait, D: Disk, N: Named, C: Clock> Renderer<'a, R, D, N, C> {
     /// What comes of queries for names, which are read before the names are asked for.
     pub(crate) fn list(
         &self,
-        pass: &mut Pass,
+        pass: &mut StorePass<N>,
         listing: Listing,
         query: &[u8],
         form: &[u8],
     ) -> Result<Outcome, AllocError>
-        requires one { pass.old.table ≡ N.table }
         requires room { HasRoom pass.old }
         ensures comes { IfOk result
             (λ outcome. ComesOfQueries (origin_of C.Clock N.Named self.now.clock.now)
@@ -49,11 +47,10 @@ impl<'a, R: Wait, D: Disk, N: Named, C: Clock> Renderer<'a, R, D, N, C> {
     // What comes of these globs.
     fn list_found(
         &self,
-        pass: &mut Pass,
+        pass: &mut StorePass<N>,
         listing: Listing,
         globs: &[Glob],
     ) -> Result<Outcome, AllocError>
-        requires one { pass.old.table ≡ N.table }
         requires room { HasRoom pass.old }
         requires some { 0 < length globs.now }
         ensures comes { IfOk result
@@ -69,8 +66,7 @@ impl<'a, R: Wait, D: Disk, N: Named, C: Clock> Renderer<'a, R, D, N, C> {
     }
 
     /// What comes of a request for all names.
-    pub(crate) fn index(&self, pass: &mut Pass) -> Result<Outcome, AllocError>
-        requires one { pass.old.table ≡ N.table }
+    pub(crate) fn index(&self, pass: &mut StorePass<N>) -> Result<Outcome, AllocError>
         requires room { HasRoom pass.old }
         ensures comes { IfOk result
             (λ outcome. HasNames (origin_of C.Clock N.Named self.now.clock.now) IsIndexText
@@ -85,8 +81,7 @@ impl<'a, R: Wait, D: Disk, N: Named, C: Clock> Renderer<'a, R, D, N, C> {
     }
 
     // The names of all metrics, at the moment that the clock tells now.
-    fn names(&self, pass: &mut Pass) -> Result<Vec<MetricPath>, AllocError>
-        requires one { pass.old.table ≡ N.table }
+    fn names(&self, pass: &mut StorePass<N>) -> Result<Vec<MetricPath>, AllocError>
         requires room { HasRoom pass.old }
         ensures asks { IfOk result
             (λ names. AsksNames (origin_of C.Clock N.Named self.now.clock.now) names.items

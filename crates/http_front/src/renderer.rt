@@ -10,8 +10,7 @@ use crate::outcome::{Outcome, found, refused};
 use http_wire::{Endpoint, Request, query_of, route};
 use outside_io::{Clock, Disk};
 use render_plan::{QueryFault, RenderPlan};
-use shared_history::Pass;
-use shared_store::{Named, Store};
+use shared_store::{Named, Store, StorePass};
 use std::alloc::{AllocError, Global};
 use std::sync::Wait;
 
@@ -37,10 +36,9 @@ impl<'a, R: Wait, D: Disk, N: Named, C: Clock> Renderer<'a, R, D, N, C> {
     /// What comes of a request. Where memory runs out it has no answer.
     pub(crate) fn answer(
         &self,
-        pass: &mut Pass,
+        pass: &mut StorePass<N>,
         request: &Request<'_>,
     ) -> Result<Outcome, AllocError>
-        requires one { pass.old.table ≡ N.table }
         requires room { HasRoom pass.old }
         ensures comes { IfOk result (λ outcome. ComesOf (origin_of C.Clock N.Named self.now.clock.now)
             (seen request.now) outcome pass.old pass.new) }
@@ -61,8 +59,12 @@ impl<'a, R: Wait, D: Disk, N: Named, C: Clock> Renderer<'a, R, D, N, C> {
 
     // What comes of a query, at the moment that the clock tells now.
     #[tactic(auto, using(crate::proofs::AskLemmas::moment_fits))]
-    fn render(&self, pass: &mut Pass, query: &[u8], form: &[u8]) -> Result<Outcome, AllocError>
-        requires one { pass.old.table ≡ N.table }
+    fn render(
+        &self,
+        pass: &mut StorePass<N>,
+        query: &[u8],
+        form: &[u8],
+    ) -> Result<Outcome, AllocError>
         requires room { HasRoom pass.old }
         ensures comes { IfOk result
             (λ outcome. ComesOfQuery (origin_of C.Clock N.Named self.now.clock.now)
@@ -82,8 +84,12 @@ impl<'a, R: Wait, D: Disk, N: Named, C: Clock> Renderer<'a, R, D, N, C> {
 
     // What comes of a plan at this moment.
     #[tactic(auto, using(crate::proofs::AskLemmas::same_pass))]
-    fn ask(&self, pass: &mut Pass, plan: &RenderPlan, now: u32) -> Result<Outcome, AllocError>
-        requires one { pass.old.table ≡ N.table }
+    fn ask(
+        &self,
+        pass: &mut StorePass<N>,
+        plan: &RenderPlan,
+        now: u32,
+    ) -> Result<Outcome, AllocError>
         requires room { HasRoom pass.old }
         requires now { now ≤ 4_000_000_000 }
         ensures comes { IfOk result

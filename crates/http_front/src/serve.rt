@@ -15,8 +15,7 @@ use crate::renderer::Renderer;
 use crate::replying::reply;
 use http_wire::{Handed, Item, Refusal, Request, RequestReader};
 use outside_io::{Clock, Disk, Link, ReadEnd, Sink, write_all};
-use shared_history::Pass;
-use shared_store::{Named, Store, has_room};
+use shared_store::{Named, Store, StorePass, has_room};
 use std::alloc::Global;
 use std::sync::Wait;
 
@@ -31,12 +30,11 @@ pub fn serve_http<R: Wait, D: Disk, N: Named, L: Link, C: Clock>(
     rt: &R,
     alloc: Global,
     store: &Store<D, N>,
-    pass: &mut Pass,
+    pass: &mut StorePass<N>,
     link: &mut L,
     clock: &C,
     answer_bytes: u64,
 ) -> HttpEnd
-    requires one { pass.old.table ≡ N.table }
     ensures serves { ServesLink (origin_of C.Clock N.Named clock.now)
         (Rose (L.write_faults link.old) (L.write_faults link.new)) result (L.left link.old)
         (L.left link.new) (standing L.Sink pass.old link.old) (standing L.Sink pass.new link.new) }
@@ -74,8 +72,12 @@ impl<'a, R: Wait, D: Disk, N: Named, C: Clock> Renderer<'a, R, D, N, C> {
     ghost use Rattle.http_front.specs.Standing.{BreaksHere, BreaksOff, EndsThere, IsHandedOut, IsOpen, IsSilent, Proceeds, ServesHanded, ServesRequest, StopsHanded, StopsRefused, StopsRequest, TakesPiece};
 
     // Serves a link, and tells it where memory runs out.
-    fn serve<L: Link>(&self, pass: &mut Pass, buffers: &mut Buffers, link: &mut L) -> HttpEnd
-        requires one { pass.old.table ≡ N.table }
+    fn serve<L: Link>(
+        &self,
+        pass: &mut StorePass<N>,
+        buffers: &mut Buffers,
+        link: &mut L,
+    ) -> HttpEnd
         ensures ends { Ends (origin_of C.Clock N.Named self.now.clock.now)
             (TellsShort (Rose (L.write_faults link.old) (L.write_faults link.new))) result
             (L.left link.old) (L.left link.new) (standing L.Sink pass.old link.old)
@@ -94,8 +96,12 @@ impl<'a, R: Wait, D: Disk, N: Named, C: Clock> Renderer<'a, R, D, N, C> {
 
     // Reads a link, and serves what comes.
     #[tactic(auto, using(crate::proofs::EndLemmas::reached_start))]
-    fn serve_pieces<L: Link>(&self, pass: &mut Pass, buffer: &mut [u8], link: &mut L) -> HttpEnd
-        requires one { pass.old.table ≡ N.table }
+    fn serve_pieces<L: Link>(
+        &self,
+        pass: &mut StorePass<N>,
+        buffer: &mut [u8],
+        link: &mut L,
+    ) -> HttpEnd
         requires some { 0 < length buffer.old }
         ensures ends { Ends (origin_of C.Clock N.Named self.now.clock.now) IsSilent result
             (L.left link.old) (L.left link.new) (standing L.Sink pass.old link.old)
@@ -138,12 +144,11 @@ impl<'a, R: Wait, D: Disk, N: Named, C: Clock> Renderer<'a, R, D, N, C> {
     #[tactic(auto, using(crate::proofs::StandingLemmas::takes_start))]
     fn serve_piece<K: Sink>(
         &self,
-        pass: &mut Pass,
+        pass: &mut StorePass<N>,
         reader: &mut RequestReader,
         piece: &[u8],
         out: &mut K,
     ) -> Result<(), HttpEnd>
-        requires one { pass.old.table ≡ N.table }
         requires open { IsOpen reader.old.left }
         ensures takes { OnOk result (TakesPiece (origin_of C.Clock N.Named self.now.clock.now)
             reader.old.left (standing K.Sink pass.old out.old) piece.now reader.new.left
@@ -173,11 +178,10 @@ impl<'a, R: Wait, D: Disk, N: Named, C: Clock> Renderer<'a, R, D, N, C> {
     #[tactic(auto, using(crate::proofs::StandingLemmas::proceeds_start, crate::proofs::StandingLemmas::proceeds_none, crate::proofs::StandingLemmas::proceeds_more, crate::proofs::StandingLemmas::breaks_handed))]
     fn serve_waiting<K: Sink>(
         &self,
-        pass: &mut Pass,
+        pass: &mut StorePass<N>,
         reader: &mut RequestReader,
         out: &mut K,
     ) -> Result<(), HttpEnd>
-        requires one { pass.old.table ≡ N.table }
         ensures proceeds { OnOk result (Proceeds (origin_of C.Clock N.Named self.now.clock.now)
             reader.old.left (standing K.Sink pass.old out.old) reader.new.left
             (standing K.Sink pass.new out.new)) }
@@ -201,12 +205,11 @@ impl<'a, R: Wait, D: Disk, N: Named, C: Clock> Renderer<'a, R, D, N, C> {
     // Serves what was handed out.
     fn serve_handed<K: Sink>(
         &self,
-        pass: &mut Pass,
+        pass: &mut StorePass<N>,
         reader: &RequestReader,
         handed: Handed,
         out: &mut K,
     ) -> Result<(), HttpEnd>
-        requires one { pass.old.table ≡ N.table }
         requires handed { IsHandedOut handed reader.now }
         ensures serves { OnOk result (ServesHanded (origin_of C.Clock N.Named self.now.clock.now)
             handed reader.now.current (standing K.Sink pass.old out.old)
@@ -228,11 +231,10 @@ impl<'a, R: Wait, D: Disk, N: Named, C: Clock> Renderer<'a, R, D, N, C> {
     #[tactic(auto, using(crate::proofs::StandingLemmas::fails_request))]
     fn serve_request<K: Sink>(
         &self,
-        pass: &mut Pass,
+        pass: &mut StorePass<N>,
         request: &Request<'_>,
         out: &mut K,
     ) -> Result<(), HttpEnd>
-        requires one { pass.old.table ≡ N.table }
         ensures serves { OnOk result (ServesRequest (origin_of C.Clock N.Named self.now.clock.now)
             (seen request.now) false (standing K.Sink pass.old out.old)
             (standing K.Sink pass.new out.new)) }

@@ -10,20 +10,19 @@ use crate::session::LineSession;
 use crate::sink::NoSink;
 use line_service::{ServiceEnd, Stop};
 use outside_io::{Clock, Disk, Link};
-use shared_history::Pass;
-use shared_store::{Named, Store};
+use shared_store::{Named, Store, StorePass};
 use std::alloc::Global;
 use std::sync::Wait;
 
 /// What the service of a link came to.
 #[derive(Drop)]
-pub struct Served {
+pub struct Served<N: Named> {
     /// Why it ended.
     pub cause: LineCause,
     /// Its lines, by what became of each.
     pub counts: Counts,
     /// The pass that put them.
-    pub pass: Pass,
+    pub pass: StorePass<N>,
 }
 
 /// Serves a link that brings metric lines, until it ends: each line that is read as a point, at the
@@ -35,15 +34,13 @@ pub fn serve_lines<R: Wait, D: Disk, N: Named, L: Link, C: Clock>(
     rt: &R,
     alloc: Global,
     store: &Store<D, N>,
-    pass: Pass,
+    pass: StorePass<N>,
     link: &mut L,
     clock: &C,
-) -> Served
-    requires one { pass.table ≡ N.table }
+) -> Served<N>
     ensures ends { Ends (C.moments clock.now) N.start N.passes result.cause
         (L.left link.old) (L.left link.new) (new_session pass)
         (record { pass = result.pass; counts = result.counts }) }
-    ensures one { result.pass.table ≡ N.table }
     ensures reads { CountsReads L.Source link.old link.new (result.cause ≡ LineCause.ReadFault) }
     ensures written { WritesNone L.Sink link.old link.new }
 {

@@ -10,8 +10,7 @@ use metric_line::{Datum, LineFault, read_line};
 use metric_path::MetricPath;
 use outside_io::{Clock, Disk, Sink};
 use point_cache::Put;
-use shared_history::Pass;
-use shared_store::{MOST_CALL_ENTRIES, Named, Store};
+use shared_store::{MOST_CALL_ENTRIES, Named, Store, StorePass};
 use std::alloc::Global;
 use std::marker::Model;
 use std::sync::Wait;
@@ -22,7 +21,7 @@ pub(crate) struct LineSession<'a, R: Wait, D: Disk, N: Named, C: Clock> {
     pub(crate) rt: &'a R,
     pub(crate) store: &'a Store<D, N>,
     pub(crate) clock: &'a C,
-    pub(crate) pass: Pass,
+    pub(crate) pass: StorePass<N>,
     pub(crate) counts: Counts,
     pub(crate) alloc: Global,
     // The buffer for the points of a batch.
@@ -32,7 +31,6 @@ pub(crate) struct LineSession<'a, R: Wait, D: Disk, N: Named, C: Clock> {
 }
 
 impl<'a, R: Wait, D: Disk, N: Named, C: Clock> Model for LineSession<'a, R, D, N, C> {
-    ghost use Rattle.std.specs.Prelude.{◌≡◌};
     ghost use Rattle.line_front.specs.Sessions.{LinkValue};
 
     ghost Value = { LinkValue C };
@@ -41,8 +39,6 @@ impl<'a, R: Wait, D: Disk, N: Named, C: Clock> Model for LineSession<'a, R, D, N
       clock = s.clock.now;
       session = record { pass = s.pass; counts = s.counts };
     } };
-
-    ghost invariant = { λ s. s.pass.table ≡ N.table };
 }
 
 impl<'a, R: Wait, D: Disk, N: Named, C: Clock> LineSession<'a, R, D, N, C> {

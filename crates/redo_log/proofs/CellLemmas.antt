@@ -67,7 +67,10 @@ pub filled_all : (cells : Laid) (at count k : ℕ) (start now : List ℕ) → co
 filled_all cells at count k start now is low all bytes fit = record {
   within = omega arith;
   room = omega arith;
-  some = λ some room. omega arith;
+  full = elim (cases_lt k (length cells)) [
+    | inl less ↦ inr (omega (arith, less))
+    | inr every ↦ inl (omega (arith, every))
+  ];
   bytes = subst (λ (n : ℕ). take (at + entry_size * n) now ≡ take at start ++ entries_bytes (take n cells)) all bytes;
   fit = subst (λ (n : ℕ). All Fits (take n cells)) all fit;
 }

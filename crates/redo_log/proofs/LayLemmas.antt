@@ -1,9 +1,9 @@
 -- A patch that is laid behind an open gate, step by step.
-use Rattle.std.proofs.Common.{◌≡◌, ◌≢◌, ◌∙◌, inl, inr, ℕ, ◌+◌, ◌<◌, ◌≤◌, ◌==◌, Bool, true, false, cond, ◌&&◌, List, [], ◌∷◌, ◌++◌, length, drop, slice_get, Option, None, Some, IfSome, IsSomeAnd, refl, sym, ap, subst, arith}
+use Rattle.std.proofs.Common.{◌≡◌, ◌≢◌, ◌∙◌, inl, inr, ℕ, ◌+◌, ◌≤◌, ◌==◌, Bool, true, false, cond, ◌&&◌, List, [], ◌∷◌, ◌++◌, length, drop, Option, None, Some, IfSome, IsSomeAnd, refl, sym, ap, subst, arith}
 use Rattle.std.specs.Prelude.{⊤, nat_lt}
-use Rattle.std.proofs.lemmas.Bool.{cases_Bool, eqb-true}
+use Rattle.std.proofs.lemmas.Bool.{eqb-true}
 use Rattle.std.specs.Map.{keys_of}
-use Rattle.outside_io.specs.Image.{Image, ChangesOnly, SameImage, WhereKnown}
+use Rattle.outside_io.specs.Image.{Image, ChangesOnly, SameImage}
 use Rattle.metric_path.specs.FileName.{file_name_of}
 use Rattle.ring_format.specs.Layout.{layout_fault}
 use Rattle.ring_format.specs.Patch.{PatchValue}
@@ -12,16 +12,15 @@ use Rattle.ring_archive.proofs.AlikeLemmas.{fresh_alike}
 use Rattle.ring_writer.specs.PartWritten.{Awaits, ComesTo, IsPartWritten, StaysRing}
 use Rattle.ring_writer.proofs.PartLemmas.{part_laid, ring_file_begun}
 use Rattle.write_shelf.specs.Runs.{runs_in, runs_of, runs_on}
-use Rattle.write_shelf.specs.Shelf.{DrainValue}
 use Rattle.write_shelf.specs.declared.run.Run.{Run as ShelfRun}
 use Rattle.write_shelf.specs.declared.run.Run.TheVariants.{Create, Cells, Head}
 use Rattle.redo_log.specs.Body.{IsBody, body_bytes}
-use Rattle.redo_log.specs.Recovery.{HasLaid, HasRing, Holds, IsLaid, Lays, OpensAs, StandsWithin, StillHolds, StopsWithin, at_runs, is_open, resumed}
+use Rattle.redo_log.specs.Recovery.{HasLaid, Holds, IsLaid, Lays, OpensAs, StandsWithin, StillHolds, at_runs, is_open, resumed}
 use Rattle.redo_log.specs.Rows.{KeepsRings, LeavesClosed, LeavesEither, LeavesOpen, MayLeave}
 use Rattle.redo_log.specs.Steps.{Calls, IsOpen, IsReady, Leads, RedoValue, Stands, Touches, gate_name, log_name, on_way, with_next}
 use Rattle.redo_log.specs.declared.next_step.NextStep.{NextStep}
 use Rattle.redo_log.specs.declared.next_step.NextStep.TheVariants.{CreateLog, FirstPiece, Piece, SyncBody, OpenGate, SyncOpen, Run, SyncRuns, CloseGate, SyncClose}
-use Rattle.redo_log.proofs.RunRows.{over_under, part_ring, stays_both, stays_same, under_over}
+use Rattle.redo_log.proofs.RunRows.{over_under, part_ring, stays_same, under_over}
 use Rattle.redo_log.proofs.StepLemmas.{closed_is_gate, file_is_no_gate, file_is_no_log, log_is_no_gate}
 
 -- ---- what an image holds
@@ -221,28 +220,6 @@ next_plain patch left SyncClose next some cells late leads = absurd cc
 pub laying_next : (patch : PatchValue) (redo : RedoValue) (next : NextStep) → IsLaying patch redo → IfSome redo.drain (λ drain. Leads drain redo.next (Some next)) → IsLaying patch (with_next redo next)
 laying_next patch redo next laying leads =
     subst (λ (r : RedoValue). IfSome r.drain (λ drain. Leads drain r.next (Some next)) → IsLaying patch (with_next r next)) (sym laying.is) (next_plain patch laying.left laying.next next laying.some laying.cells laying.late) leads
-
--- ---- how many steps are left at most
-
-abbrev left_by : List ShelfRun → NextStep → ℕ
-left_by left CreateLog = 0
-left_by left FirstPiece = 0
-left_by left (Piece written) = 0
-left_by left SyncBody = 0
-left_by left OpenGate = 0
-left_by left SyncOpen = 0
-left_by left Run = 3 + length left
-left_by left SyncRuns = 3
-left_by left CloseGate = 2
-left_by left SyncClose = 1
-
-abbrev steps_of : Option DrainValue → NextStep → ℕ
-steps_of None next = 0
-steps_of (Some drain) next = left_by drain.left next
-
-abbrev pub steps_left : Option RedoValue → ℕ
-steps_left None = 0
-steps_left (Some redo) = steps_of redo.drain redo.next
 
 -- ---- what a step does
 

@@ -15,3 +15,5 @@ pub mod UnderwayLemmas
 pub mod RecoverLemmas
 pub mod EndLemmas
 pub mod ReadyLemmas
+pub mod ArmLemmas
+pub mod CountLemmas

@@ -1,12 +1,11 @@
 -- Calls that change nothing on a disk.
-use Rattle.std.proofs.Common.{◌≡◌, ◌∙◌, inl, inr, ⊎_elim, ℕ, ◌≤◌, refl, arith}
-use Rattle.outside_io.specs.Crash.{Crashes, Elapses, Follows, LeavesOnly}
+use Rattle.std.proofs.Common.{◌≡◌, ◌≤◌, refl}
+use Rattle.outside_io.specs.Crash.{Crashes, Follows}
 use Rattle.outside_io.specs.Faults.{Rose}
-use Rattle.outside_io.specs.Image.{Image, SameImage}
+use Rattle.outside_io.specs.Image.{SameImage}
 use Rattle.outside_io.specs.declared.disk.Disk.{Ghosts as DiskGhosts}
-use Rattle.outside_io.proofs.FrameLemmas.{rose_after}
 use Rattle.redo_log.specs.Frame.{GoesOn, LooksOnly, MayStay}
-use Rattle.redo_log.proofs.MomentLemmas.{leaves_both, leaves_more, within}
+use Rattle.redo_log.proofs.MomentLemmas.{within}
 
 -- one call
 pub looks_by : {D : Type 0} {d : DiskGhosts D} (a b : D) {failed : Type 0} → d.image b ≡ d.image a → GoesOn d a b failed → Follows SameImage (d.may_leave a) (d.may_leave b) → LooksOnly d a b failed

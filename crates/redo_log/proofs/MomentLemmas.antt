@@ -1,5 +1,5 @@
 -- What a crash may leave at the moments of a call.
-use Rattle.std.proofs.Common.{◌⊎◌, inl, inr, ⊎_elim, ℕ, Option, None, Some, IfSome, arith}
+use Rattle.std.proofs.Common.{inl, inr, ⊎_elim, ℕ, Option, None, Some, IfSome, arith}
 use Rattle.outside_io.specs.Crash.{Elapses, LeavesOnly}
 use Rattle.outside_io.specs.Image.{Image}
 use Rattle.redo_log.specs.Frame.{InEither}

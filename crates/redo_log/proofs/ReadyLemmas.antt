@@ -1,5 +1,5 @@
 -- A redo is ready for its next step again.
-use Rattle.std.proofs.Common.{◌≡◌, true, ℕ, List, [], ◌∷◌, Option, None, Some, IfSome, refl, sym, subst}
+use Rattle.std.proofs.Common.{ℕ, List, [], ◌∷◌, Option, None, Some, IfSome, sym, subst}
 use Rattle.outside_io.specs.Image.{Image, WhereKnown}
 use Rattle.ring_format.specs.Patch.{PatchValue}
 use Rattle.ring_writer.specs.PartWritten.{Awaits}

@@ -1,9 +1,7 @@
 -- What a start finds, and what it makes of a gate before which there is nothing to lay.
-use Rattle.std.proofs.Common.{◌≡◌, ◌≢◌, ◌∙◌, ◌↔◌, inl, inr, ⊎_elim, ℕ, ◌+◌, ◌*◌, ◌≤◌, ◌==◌, Bool, true, false, IsTrue, List, [], ◌∷◌, length, take, slice_get, Option, None, Some, IfSome, IsSomeAnd, refl, sym, ap, subst, arith, length-take}
-use Rattle.std.specs.Prelude.{option_map, replicate}
-use Rattle.std.proofs.lemmas.Bool.{eqb-false, lt-ltb}
-use Rattle.outside_io.specs.Crash.{Follows, LeavesOnly, Only, OnlyKnown}
-use Rattle.outside_io.specs.Image.{Image, ChangesOnly, ReadsFile, SameImage, Tears, WhereKnown, Writes}
+use Rattle.std.proofs.Common.{◌≡◌, ◌∙◌, ◌↔◌, ℕ, ◌≤◌, Bool, true, false, IsTrue, List, [], ◌∷◌, length, Option, None, Some, IfSome, IsSomeAnd, sym, subst, arith}
+use Rattle.outside_io.specs.Crash.{Follows, LeavesOnly, OnlyKnown}
+use Rattle.outside_io.specs.Image.{Image, ChangesOnly, SameImage, Tears, WhereKnown, Writes}
 use Rattle.outside_io.specs.declared.disk.Disk.{Ghosts as DiskGhosts}
 use Rattle.ring_format.specs.Head.{head_bytes}
 use Rattle.ring_format.specs.Layout.{LayoutValue}
@@ -11,12 +9,10 @@ use Rattle.ring_format.specs.LayoutFile.{file_size_of}
 use Rattle.ring_format.specs.Patch.{PatchValue}
 use Rattle.ring_archive.specs.Ring.{IsRingFile}
 use Rattle.ring_writer.proofs.CreatedLemmas.{length-head}
-use Rattle.redo_log.specs.Arm.{has_byte}
 use Rattle.redo_log.specs.Body.{IsBody}
-use Rattle.redo_log.specs.Frame.{GoesOn, LooksOnly, MayStay}
-use Rattle.redo_log.specs.Recovery.{HasHead, HasRing, Holds, IsBehindGate, IsDamaged, IsHeldBy, IsSettled, LaysAll, OpensAs, RecoverCrashes, RecoverLeaves, Recovers, is_open, resumed}
-use Rattle.redo_log.specs.Rows.{InRow}
-use Rattle.redo_log.specs.Steps.{IsClosed, RedoValue, gate_name, log_name}
+use Rattle.redo_log.specs.Frame.{GoesOn}
+use Rattle.redo_log.specs.Recovery.{HasRing, Holds, IsBehindGate, IsHeldBy, LaysAll, OpensAs, is_open}
+use Rattle.redo_log.specs.Steps.{RedoValue, gate_name, log_name}
 use Rattle.redo_log.proofs.BodyLaws.{one_patch}
 use Rattle.redo_log.proofs.LayLemmas.{gate_opens, nothing_laid, open_is}
 use Rattle.redo_log.proofs.MomentLemmas.{leaves_both, leaves_more, within}

@@ -1,10 +1,10 @@
 -- The call for a run keeps to the row of its step.
 use Rattle.std.proofs.Common.{◌≡◌, ◌≢◌, ◌∙◌, ℕ, Bool, true, false, cond, ◌==◌, List, [], ◌∷◌, length, drop, slice_get, Option, None, Some, IfSome, IsSomeAnd, inl, refl, sym, subst}
 use Rattle.outside_io.specs.Crash.{Follows}
-use Rattle.outside_io.specs.Image.{Image, ChangesOnly, SameImage, WhereKnown}
+use Rattle.outside_io.specs.Image.{Image, ChangesOnly, WhereKnown}
 use Rattle.ring_format.specs.Patch.{PatchValue}
 use Rattle.ring_archive.specs.Ring.{IsRingFile, ReadsAs, Rings, UnderPatch, value_of}
-use Rattle.ring_writer.specs.PartWritten.{Awaits, ComesTo, CrashesNext, FailsNext, IsPartWritten, RunCrashed, RunTorn, RunWritten, StaysRing, TearsRun, WritesNext}
+use Rattle.ring_writer.specs.PartWritten.{Awaits, ComesTo, CrashesNext, FailsNext, IsPartWritten, RunCrashed, StaysRing, TearsRun, WritesNext}
 use Rattle.ring_writer.proofs.PartLemmas.{not_both}
 use Rattle.write_shelf.specs.Shelf.{DrainValue, IsRunOf, OfNext, drain_with}
 use Rattle.write_shelf.specs.declared.run.Run.{Run as ShelfRun}

@@ -1,8 +1,8 @@
 -- What a call of the disk makes of what a redo needs of it.
-use Rattle.std.proofs.Common.{◌≡◌, ◌≢◌, ◌∙◌, ◌⊎◌, ℕ, ◌+◌, ◌*◌, ◌<◌, ◌≤◌, Bool, true, false, cond, ◌&&◌, ◌==◌, List, [], ◌∷◌, ◌++◌, length, take, drop, map, get_or, slice_get, All, Option, None, Some, IfSome, IsSomeAnd, Result, Ok, Err, inl, inr, refl, sym, ap, subst, arith, append_assoc, length-append, length-take, take_all}
+use Rattle.std.proofs.Common.{◌≡◌, ◌≢◌, ◌∙◌, ◌⊎◌, ℕ, ◌+◌, ◌*◌, ◌≤◌, Bool, true, false, cond, ◌&&◌, ◌==◌, List, [], ◌∷◌, ◌++◌, length, take, drop, map, get_or, slice_get, All, Option, None, Some, IfSome, IsSomeAnd, Result, Ok, Err, inl, inr, ⊎_elim, refl, sym, ap, subst, arith, append_assoc, length-append, length-take, take_all}
 use Rattle.std.specs.Prelude.{⊤, option_map, codes, OnOk, OnErr}
 use Rattle.std.proofs.Math.Seq.{take-add}
-use Rattle.std.proofs.lemmas.Bool.{cases_lt, eqb-true}
+use Rattle.std.proofs.lemmas.Bool.{eqb-true}
 use Rattle.std.proofs.lemmas.List.Elements.{All-append}
 use Rattle.std.proofs.lemmas.List.{drop_at, take_at, length-map, length-replicate}
 use Rattle.outside_io.specs.Image.{Image, ChangesOnly, Creates, IsTorn, IsWithinFile, Tears, WhereKnown, Writes, put_over}
@@ -15,7 +15,7 @@ use Rattle.write_shelf.specs.Shelf.{DrainValue, drain_with, marked}
 use Rattle.write_shelf.specs.declared.run.Run.{Run as ShelfRun}
 use Rattle.redo_log.specs.Body.{Fits, body_bytes, entries_bytes, entry_size, leading_bytes}
 use Rattle.redo_log.specs.Piece.{IsFirstPiece, IsNextPiece}
-use Rattle.redo_log.specs.Steps.{BeginsWith, Calls, Failed, HasWritten, IsClosed, IsGate, IsGateStep, IsNamed, IsOpen, IsReady, IsSyncStep, Leads, Stands, Taken, Touches, behind_cells, behind_run, body_front, gate_name, is_run, log_name, on_way, with_next}
+use Rattle.redo_log.specs.Steps.{BeginsWith, Calls, Failed, HasWritten, IsClosed, IsGate, IsGateStep, IsNamed, IsOpen, IsReady, IsSyncStep, Leads, Stands, Taken, Touches, behind_cells, behind_run, body_front, gate_name, is_run, log_name, on_way, piece_cells, with_next}
 use Rattle.redo_log.specs.declared.next_step.NextStep.{NextStep}
 use Rattle.redo_log.specs.declared.next_step.NextStep.TheVariants.{CreateLog, FirstPiece, Piece, SyncBody, OpenGate, SyncOpen, Run, SyncRuns, CloseGate, SyncClose}
 use Rattle.redo_log.proofs.BodyLemmas.{entries_both, length-body, length-entries}
@@ -559,11 +559,8 @@ cells_written : (b : Bool) (patch : PatchValue) (written : ℕ) → (written == 
 cells_written true patch written all within fits = subst (λ cells. All Fits cells) (take_all written patch.cells (omega (arith, eqb-true written (length patch.cells) all))) fits
 cells_written false patch written more within fits = (within, fits)
 
-piece_more : (patch : PatchValue) (from count len : ℕ) (out : List ℕ) → from ≤ length patch.cells → IsNextPiece patch from len count out → (from < from + count) ⊎ (from + count ≡ length patch.cells)
-piece_more patch from count len out low piece = elim (cases_lt from (length patch.cells)) [
-  | inl less ↦ inl (omega (arith, piece.some less))
-  | inr all ↦ inr (omega (arith, low, all, piece.within))
-]
+piece_more : (patch : PatchValue) (from count len : ℕ) (out : List ℕ) → IsNextPiece patch from len count out → (from + piece_cells ≤ from + count) ⊎ (from + count ≡ length patch.cells)
+piece_more patch from count len out piece = ⊎_elim (λ more. inl (omega (arith, more))) (λ all. inr all) piece.full
 
 pub next_piece_leads : (shelf : Option DrainValue) (patch : PatchValue) (written len count : ℕ) (out : List ℕ) (next : NextStep) → IfSome shelf (λ drain. patch ≡ drain.patch) → IfSome shelf (λ drain. HasWritten drain.patch (Piece written))
     → IsNextPiece patch written len count out → next ≡ behind_cells patch (written + count) → IfSome shelf (λ drain. Leads drain (Piece written) (Some next))
@@ -572,7 +569,7 @@ next_piece_leads (Some drain) patch written len count out next same fits piece b
     let is : IsNextPiece drain.patch written len count out = subst (λ (p : PatchValue). IsNextPiece p written len count out) same piece in
     let then_is : next ≡ behind_cells drain.patch (written + count) = behind ∙ ap (λ (p : PatchValue). behind_cells p (written + count)) same in
     let all : All Fits (take (written + count) drain.patch.cells) = subst (λ cells. All Fits cells) (sym (take-add written count drain.patch.cells)) (All-append Fits (take written drain.patch.cells) (take count (drop written drain.patch.cells)) fits.1 is.fit) in (
-      record { written = written + count; within = is.within; more = piece_more drain.patch written count len out fits.0 is; is = ap (λ (n : NextStep). Some n) then_is },
+      record { written = written + count; within = is.within; more = piece_more drain.patch written count len out is; is = ap (λ (n : NextStep). Some n) then_is },
       subst (HasWritten drain.patch) (sym then_is) (cells_written (written + count == length drain.patch.cells) drain.patch (written + count) refl is.within all),
     )
 
@@ -633,12 +630,6 @@ first_piece_leads None patch len count out next same piece behind = tt
 first_piece_leads (Some drain) patch len count out next same piece behind =
     let is : IsFirstPiece drain.patch len count out = subst (λ (p : PatchValue). IsFirstPiece p len count out) same piece in
     let then_is : next ≡ behind_cells drain.patch count = behind ∙ ap (λ (p : PatchValue). behind_cells p count) same in (
-      record { written = count; within = is.within; more = first_more drain.patch count len out is; is = ap (λ (n : NextStep). Some n) then_is },
+      record { written = count; within = is.within; more = is.full; is = ap (λ (n : NextStep). Some n) then_is },
       subst (HasWritten drain.patch) (sym then_is) (cells_written (count == length drain.patch.cells) drain.patch count refl is.within is.fit),
     )
-  where
-    first_more : (patch : PatchValue) (count len : ℕ) (out : List ℕ) → IsFirstPiece patch len count out → (0 < count) ⊎ (count ≡ length patch.cells)
-    first_more patch count len out piece = elim (cases_lt 0 (length patch.cells)) [
-      | inl less ↦ inl (piece.some (omega (arith, less)))
-      | inr all ↦ inr (omega (arith, all, piece.within))
-    ]

@@ -1,5 +1,5 @@
 -- A recovery on its way: what stands between two of its steps, over any disk.
-use Rattle.std.proofs.Common.{◌≡◌, ◌≢◌, ◌∙◌, inl, ⊎_elim, ℕ, ◌<◌, ◌≤◌, true, List, [], ◌∷◌, Option, None, Some, IfSome, IsSomeAnd, refl, sym, subst, arith}
+use Rattle.std.proofs.Common.{◌≡◌, ◌≢◌, ◌∙◌, inl, ⊎_elim, ℕ, ◌≤◌, true, List, [], ◌∷◌, Option, None, Some, IfSome, IsSomeAnd, refl, sym, subst, arith}
 use Rattle.outside_io.specs.Crash.{LeavesOnly, OnlyKnown}
 use Rattle.outside_io.specs.Image.{Image, SameImage, WhereKnown}
 use Rattle.outside_io.specs.declared.disk.Disk.{Ghosts as DiskGhosts}
@@ -15,8 +15,8 @@ use Rattle.redo_log.specs.Frame.{InEither, StaysInRows}
 use Rattle.redo_log.specs.Recovery.{Holds, IsBehindGate, LaysAll, OpensAs, at_runs, is_open, resumed}
 use Rattle.redo_log.specs.Rows.{InRow, LeavesClosed, MayLeave}
 use Rattle.redo_log.specs.Steps.{Failed, IsClosed, IsOpen, IsReady, Leads, RedoValue, Taken, gate_name, log_name}
-use Rattle.redo_log.specs.declared.redo_step.RedoStep.TheVariants.{Run, Finished, Nothing, DiskFault}
-use Rattle.redo_log.proofs.LayLemmas.{IsLaying, Onward, held_body, last_laid, last_opens, last_same, last_stands, laying_first, laying_next, onward_called, onward_failed, onward_none, onward_same, open_is, row_opens, self_row, steps_left}
+use Rattle.redo_log.specs.declared.redo_step.RedoStep.TheVariants.{Run, Finished, DiskFault}
+use Rattle.redo_log.proofs.LayLemmas.{IsLaying, Onward, held_body, last_laid, last_opens, last_same, last_stands, laying_first, laying_next, onward_called, onward_failed, onward_none, onward_same, open_is, row_opens, self_row}
 use Rattle.redo_log.proofs.MomentLemmas.{leaves_both, leaves_more}
 use Rattle.redo_log.proofs.RunRows.{stays_same}
 

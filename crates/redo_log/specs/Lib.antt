@@ -3,6 +3,7 @@ pub mod Piece
 pub mod Told
 pub mod LastRun
 pub mod Steps
+pub mod Count
 pub mod Ends
 pub mod Rows
 pub mod Frame

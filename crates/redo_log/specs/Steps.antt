@@ -1,11 +1,11 @@
 -- A patch on its way through the log to its file, step by step: what each step does to the disk, and what stands there before it.
-use Rattle.std.specs.Prelude.{◌≡◌, ◌≢◌, ◌⊎◌, ℕ, ◌<◌, ◌≤◌, ◌==◌, Bool, true, false, ◌&&◌, ⊤, List, [], ◌∷◌, ◌++◌, length, take, slice_get, All, Option, None, Some, IfSome, IsSomeAnd, Result, Ok, Err, if◌then◌else◌, codes}
+use Rattle.std.specs.Prelude.{◌≡◌, ◌≢◌, ◌⊎◌, ℕ, ◌+◌, ◌≤◌, ◌==◌, Bool, true, false, ◌&&◌, ⊤, List, [], ◌∷◌, ◌++◌, length, take, slice_get, All, Option, None, Some, IfSome, IsSomeAnd, Result, Ok, Err, if◌then◌else◌, codes}
 use Rattle.outside_io.specs.Image.{Image, ChangesOnly, Creates, SameImage, Tears, WhereKnown, Writes}
 use Rattle.outside_io.specs.declared.disk.DiskFailed.{DiskFailed}
 use Rattle.metric_path.specs.FileName.{file_name_of}
 use Rattle.ring_format.specs.Patch.{PatchValue}
 use Rattle.ring_writer.specs.PartWritten.{Awaits, FailsNext, WritesNext}
-use Rattle.write_shelf.specs.Shelf.{DrainValue, marked}
+use Rattle.write_shelf.specs.Shelf.{DrainValue, IsBegun, IsRunOf, OfNext, marked}
 use Rattle.redo_log.specs.Body.{Fits, body_bytes, entries_bytes, leading_bytes}
 use Rattle.redo_log.specs.declared.next_step.NextStep.{NextStep}
 use Rattle.redo_log.specs.declared.next_step.NextStep.TheVariants.{CreateLog, FirstPiece, Piece, SyncBody, OpenGate, SyncOpen, Run, SyncRuns, CloseGate, SyncClose}
@@ -33,11 +33,15 @@ on_way drain name next = record { drain = drain; name = name; next = next }
 abbrev pub behind_cells : PatchValue → ℕ → NextStep
 behind_cells patch written = if written == length patch.cells then SyncBody else Piece written
 
--- a piece goes on from so many cells to more, or there are no more
+-- a piece has at least so many cells, or all that are left
+abbrev pub piece_cells : ℕ
+piece_cells = 90
+
+-- a piece goes on from so many cells to more
 pub record IsPieceOn (patch : PatchValue) (from : ℕ) (behind : Option NextStep) : Type 0 where
   pub written : ℕ
   pub within : written ≤ length patch.cells
-  pub more : (from < written) ⊎ (written ≡ length patch.cells)
+  pub more : (from + piece_cells ≤ written) ⊎ (written ≡ length patch.cells)
   pub is : behind ≡ Some (behind_cells patch written)
 
 abbrev pub behind_run : DrainValue → NextStep
@@ -92,6 +96,13 @@ HasWritten patch SyncClose = All Fits patch.cells
 -- the name is that of the patch's file
 abbrev pub IsNamed : Option DrainValue → List ℕ → Type 0
 IsNamed shelf name = IfSome shelf (λ drain. name ≡ file_name_of drain.patch.path)
+
+-- a redo with a patch: the name is that of its file, and the next run is one of the patch's
+pub record IsGoing (redo : RedoValue) : Type 0 where
+  pub some : redo.drain ≢ None
+  pub named : IsNamed redo.drain redo.name
+  pub sound : OfNext redo.drain IsRunOf
+  pub begun : IfSome redo.drain IsBegun
 
 -- the steps that sync, and those that set the gate's byte
 abbrev pub IsSyncStep : NextStep → Option NextStep → Type 0

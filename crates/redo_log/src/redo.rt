@@ -1,11 +1,12 @@
 //! The redo.
-ghost use Rattle.std.specs.Prelude.{◌≡◌, ◌↔◌, ◌<◌, All, IfSome, IsTrue, None, length, option_and_then, option_map, string_bytes};
+ghost use Rattle.std.specs.Prelude.{◌≡◌, ◌↔◌, ◌+◌, ◌<◌, All, IfSome, IsTrue, None, length, option_and_then, option_map, string_bytes};
 ghost use Rattle.metric_path.specs.FileName.{file_name_of};
 ghost use Rattle.write_shelf.specs.Runs.{runs_of};
 ghost use Rattle.redo_log.specs.Body.{Fits};
+ghost use Rattle.redo_log.specs.Count.{StepsFall, pieces_of, steps_left};
 ghost use Rattle.redo_log.specs.Recovery.{at_runs};
 ghost use Rattle.redo_log.specs.Ends.{RedoEnds, redo_with, rest_of};
-ghost use Rattle.redo_log.specs.Steps.{IsReady};
+ghost use Rattle.redo_log.specs.Steps.{IsGoing, IsReady};
 ghost use Rattle.redo_log.specs.Rows.{InRow};
 ghost use Rattle.redo_log.specs.declared.redo_step.RedoStep.TheVariants.{DiskFault};
 ghost use Rattle.redo_log.specs.Frame.{GoesOn, StaysInRows};
@@ -42,8 +43,21 @@ impl Redo {
         Redo { steps: None }
     }
 
-    /// Puts a patch, with the name of its file, into an empty redo. A patch without runs leaves it empty.
+    /// Puts a patch, with the name of its file, into an empty redo. It has fewer than 5,000,000 steps. A patch
+    /// without runs leaves the redo empty.
     pub fn put(&mut self, patch: Patch, name: String)
+        requires empty { self.old ≡ None }
+        requires named { string_bytes name ≡ file_name_of patch.path }
+        ensures value { self.new ≡ redo_with patch (string_bytes name) (runs_of patch) }
+        ensures few { length (runs_of patch) < 5000000 }
+        ensures count { steps_left self.new < 5000000 }
+    {
+        steps_are_few(&patch);
+        self.put_steps(patch, name);
+    }
+
+    // Puts the steps of a patch into an empty redo.
+    fn put_steps(&mut self, patch: Patch, name: String)
         requires empty { self.old ≡ None }
         requires named { string_bytes name ≡ file_name_of patch.path }
         ensures value { self.new ≡ redo_with patch (string_bytes name) (runs_of patch) }
@@ -81,8 +95,9 @@ impl Redo {
 
     /// The patch, or `None` where the redo is empty.
     pub fn patch(&self) -> Option<&Patch>
-        ensures { option_map (λ patch. patch.now) result
+        ensures value { option_map (λ patch. patch.now) result
             ≡ option_and_then (λ redo. option_map (λ drain. drain.patch) redo.drain) self.now }
+        ensures going { IfSome self.now IsGoing }
     {
         match &self.steps {
             Some(steps) => Some(steps.patch()),
@@ -98,6 +113,7 @@ impl Redo {
         ensures ready { IfSome self.new (λ redo. IfSome (D.image disk.new) (IsReady redo)) }
         ensures rows { InRow self.old (D.image disk.old) (D.may_leave disk.old)
             → StaysInRows D.Disk self.old self.new disk.old disk.new }
+        ensures count { StepsFall result (steps_left self.old) (steps_left self.new) }
         ensures frame { GoesOn D.Disk disk.old disk.new (result ≡ DiskFault) }
     {
         let Some(mut steps) = self.steps.take() else {
@@ -107,6 +123,14 @@ impl Redo {
         self.steps = rest_of(steps, end);
         end
     }
+}
+
+// A patch has fewer than 5,000,000 steps. The function does nothing: what it ensures is the law.
+fn steps_are_few(patch: &Patch)
+    ensures { 7 + (pieces_of (length patch.now.cells) + length (runs_of patch.now)) < 5000000 }
+{
+    let _ = patch.cells();
+    let _ = patch.layout().archives();
 }
 
 // What is left behind a step that ended so.

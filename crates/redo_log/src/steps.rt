@@ -1,8 +1,9 @@
 //! A patch on its way.
 ghost use Rattle.std.specs.Prelude.{◌≡◌, ◌≢◌, All, IfSome, IsErr, None, Some, option_map, string_bytes};
-ghost use Rattle.redo_log.specs.Steps.{IsNamed, IsReady, Leads, StepEnds, is_run, on_way, with_next};
+ghost use Rattle.redo_log.specs.Steps.{IsGoing, IsNamed, IsReady, Leads, StepEnds, is_run, on_way, with_next};
 ghost use Rattle.redo_log.specs.Body.{Fits};
-ghost use Rattle.redo_log.specs.Ends.{TakeEnds};
+ghost use Rattle.redo_log.specs.Count.{StepsFall, steps_left};
+ghost use Rattle.redo_log.specs.Ends.{TakeEnds, rest_of};
 ghost use Rattle.redo_log.specs.Rows.{GoesInRow, KeepsRow};
 ghost use Rattle.redo_log.specs.declared.next_step.NextStep.TheVariants.{CreateLog, Run};
 ghost use Rattle.redo_log.specs.declared.redo_step.RedoStep.TheVariants.{DiskFault};
@@ -67,8 +68,11 @@ impl Steps {
 
     // The patch.
     pub(crate) fn patch(&self) -> &Patch
-        ensures { Some result.now ≡ option_map (λ drain. drain.patch) self.now.drain }
+        ensures value { Some result.now ≡ option_map (λ drain. drain.patch) self.now.drain }
+        ensures going { IsGoing self.now }
     {
+        // The next run is one of the patch.
+        let _ = self.shelf.next_run();
         patch_of(&self.shelf)
     }
 
@@ -78,6 +82,7 @@ impl Steps {
         ensures ends { StepEnds self.now result (D.image disk.old) (D.image disk.new) }
         ensures row { KeepsRow self.now result (D.image disk.old) (D.image disk.new)
             (D.may_leave disk.old) (D.may_leave disk.new) }
+        ensures some { self.now.drain ≢ None }
         ensures frame { GoesOn D.Disk disk.old disk.new (IsErr result) }
     {
         let (shelf, name, next) = (&self.shelf, self.name.as_str(), self.next);
@@ -113,6 +118,8 @@ impl Steps {
         ensures ends { TakeEnds result self.old self.new (D.image disk.old) (D.image disk.new) }
         ensures row { GoesInRow result self.old self.new (D.image disk.old) (D.image disk.new)
             (D.may_leave disk.old) (D.may_leave disk.new) }
+        ensures count { StepsFall result (steps_left (Some self.old))
+            (steps_left (rest_of result self.new)) }
         ensures frame { GoesOn D.Disk disk.old disk.new (result ≡ DiskFault) }
     {
         match self.call(disk) {

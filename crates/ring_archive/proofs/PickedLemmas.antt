@@ -1,6 +1,6 @@
 -- The values of many buckets, from the cells of their ring in memory.
-use Rattle.std.proofs.Common.{◌≡◌, ◌∙◌, ℕ, ℤ, ◌+◌, ◌*◌, ◌%◌, ◌<◌, ◌≤◌, ◌==◌, Bool, true, false, cond, List, [], ◌∷◌, length, map, min, Option, Some, None, refl, sym, ap, arith}
-use Rattle.std.specs.Prelude.{slice_get, filter}
+use Rattle.std.proofs.Common.{◌≡◌, ◌∙◌, ℕ, ℤ, ◌+◌, ◌*◌, ◌%◌, ◌<◌, ◌≤◌, ◌==◌, Bool, true, false, cond, List, [], ◌∷◌, ◌++◌, length, map, min, Option, Some, None, refl, sym, ap, ap₂, arith}
+use Rattle.std.specs.Prelude.{slice_get, filter, if◌then◌else◌}
 use Rattle.std.specs.List.{range_with_len}
 use Rattle.std.proofs.Math.ListN.{replicate}
 use Rattle.std.proofs.lemmas.Bool.Decides.{nat_tests}
@@ -14,7 +14,7 @@ use Rattle.ring_archive.specs.declared.round.Round.{Round}
 use Rattle.ring_archive.specs.Ring.{is_bucket, is_laid, ring_cell, stale_slots, stored_cell, stored_cells, value_for, value_of, values_from}
 use Rattle.ring_archive.specs.Held.{HoldsSlots, cell_behind, file_cell, held_cell, held_value, picked_value, slot_behind}
 use Rattle.ring_archive.proofs.HeldLemmas.{cell_of_ring, slots_room}
-use Rattle.ring_archive.proofs.RangeLists.{map_agrees, map_alike, map_moved, filter_agrees}
+use Rattle.ring_archive.proofs.RangeLists.{map_agrees, map_alike, map_more, map_moved, filter_agrees}
 use Rattle.ring_archive.proofs.SlotLemmas.{slot_steps_on}
 use Rattle.ring_archive.proofs.ValueLemmas.{no_bucket, empty_archive, value_there}
 
@@ -127,3 +127,22 @@ stored_there archives file round bytes count cells holds long within are =
     holds.cells k (omega (arith, long, room)) ∙ ap (λ (s : ℕ). stored_cell archives file (round.archive, s)) straight)
     ∙ map_moved (λ s. stored_cell archives file (round.archive, s)) 0 round.slot count
     ∙ ap (λ (a : ℕ). map (λ s. stored_cell archives file (round.archive, s)) (range_with_len a count)) (let e : round.slot + 0 ≡ round.slot = omega arith in e)
+
+-- ---- one bucket after another
+
+-- the place behind another, where the places of a ring are gone round
+pub place_more : (k place next points : ℕ) → place ≡ k % points → next ≡ (place + 1) % points → next ≡ (k + 1) % points
+place_more k place next points is behind =
+    behind ∙ ap (λ (n : ℕ). n % points) (let e : place + 1 ≡ 1 + k % points = omega (arith, is) in e) ∙ add-mod-mod 1 k points ∙ ap (λ (n : ℕ). n % points) (let e : 1 + k ≡ k + 1 = omega arith in e)
+
+-- one value more
+pub picked_more : (cells : Cells) (round : Round) (bytes : List ℕ) (first step k place : ℕ) (value : Option ℤ) (old new : List (Option ℤ)) → place ≡ k % round.points
+    → value ≡ (if first + k * step == 0 then None else value_for (first + k * step) (cell_behind cells round bytes place))
+    → old ≡ map (λ k. picked_value cells round bytes first step k) (range_with_len 0 k) → new ≡ old ++ value ∷ []
+    → new ≡ map (λ k. picked_value cells round bytes first step k) (range_with_len 0 (k + 1))
+unfolding picked_value
+picked_more cells round bytes first step k place value old new is here before more =
+    more
+    ∙ ap₂ (λ (xs : List (Option ℤ)) (v : Option ℤ). xs ++ v ∷ []) before
+    (here ∙ ap (λ (p : ℕ). if first + k * step == 0 then None else value_for (first + k * step) (cell_behind cells round bytes p)) is)
+    ∙ sym (map_more (λ (k : ℕ). picked_value cells round bytes first step k) k)

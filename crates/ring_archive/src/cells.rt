@@ -1,5 +1,5 @@
 //! The values of many buckets.
-ghost use Rattle.std.specs.Prelude.{◌≡◌, ◌+◌, ◌*◌, ◌==◌, ◌^◌, ◌<◌, ◌≤◌, true, None, if◌then◌else◌, IfOk, IsErrOf, length, map, min, replicate};
+ghost use Rattle.std.specs.Prelude.{◌≡◌, ◌+◌, ◌*◌, ◌%◌, ◌==◌, ◌^◌, ◌<◌, ◌≤◌, true, None, if◌then◌else◌, IfOk, IsErrOf, length, map, min, replicate};
 ghost use Rattle.std.specs.List.{range_with_len};
 ghost use Rattle.outside_io.specs.Frames.{ReadsOnly};
 ghost use Rattle.ring_archive.specs.Ring.{FitsFrom, value_for, values_from};
@@ -8,6 +8,7 @@ ghost use Rattle.ring_archive.specs.Held.{cell_behind, held_cell, held_value, pi
 ghost use Rattle.ring_format.specs.Cell.{IsVersion, cell_size_in};
 
 use crate::fault::RingFault;
+use crate::near::{index_of, laid_at};
 use crate::round::{Round, held_cell};
 use crate::view::{BasedArchive, RingView, value_for};
 use fixed_num::Milli;
@@ -177,25 +178,77 @@ fn laid_values(
         (λ k. picked_value patch.now.cells round bytes.now first step k) (range_with_len 0 count)) }
 {
     let mut values = Vec::with_capacity(alloc, count as usize)?;
+    let mut at = index_of(patch, round.archive, round.slot);
+    let mut place = 0;
     for k in 0..count {
-        let bucket = first + k * step;
-        values.push(picked_value(patch, round, bytes, bucket, k % round.points))?;
+        let picked = picked_value(patch, at, round, bytes, first + k * step, place);
+        values.push(picked.value)?;
+        at = picked.next;
+        place = place_behind(place, round.points);
     }
     Ok(values)
 }
 
-// The value of a bucket in the cell so many slots behind the first one in memory.
-fn picked_value(patch: &Patch, round: Round, bytes: &[u8], bucket: u32, place: u32) -> Option<Milli>
+// The place behind another, of so many that are gone round.
+fn place_behind(place: u32, points: u32) -> u32
+    requires { place < points }
+    ensures { result ≡ (place + 1) % points }
+{
+    if place == points - 1 {
+        return 0;
+    }
+    place + 1
+}
+
+// A value, and at which index of a patch the cell of the next slot most likely stands. Nothing rests on that.
+#[derive(Clone, Copy, Debug)]
+struct Picked {
+    value: Option<Milli>,
+    next: usize,
+}
+
+// The value of a bucket in the cell so many slots behind the first one in memory. Where the patch has one it is
+// looked for at an index first.
+#[tactic(auto, unfolding(crate::specs::Held::cell_behind))]
+fn picked_value(
+    patch: &Patch,
+    at: usize,
+    round: Round,
+    bytes: &[u8],
+    bucket: u32,
+    place: u32,
+) -> Picked
     requires slot { round.slot < round.points }
     requires place { place < round.points }
     requires version { IsVersion round.version }
     requires held { cell_size_in round.version * place + cell_size_in round.version
         ≤ length bytes.now }
-    ensures { result ≡ (if bucket == 0 then None else value_for bucket
+    ensures { result.value ≡ (if bucket == 0 then None else value_for bucket
         (cell_behind patch.now.cells round bytes.now place)) }
+{
+    let slot = round.slot_behind(place);
+    if let Some((held, value)) = laid_at(patch, at, round.archive, slot) {
+        return Picked {
+            value: value_in(bucket, (held, Some(value))),
+            next: at.saturating_add(1),
+        };
+    }
+    Picked {
+        value: value_in(bucket, round.cell_behind(patch, bytes, place)),
+        next: if slot == 0 {
+            index_of(patch, round.archive, 1)
+        } else {
+            at
+        },
+    }
+}
+
+// The value that a cell has for a bucket, which the bucket 0 never has.
+fn value_in(bucket: u32, cell: (u32, Option<Milli>)) -> Option<Milli>
+    ensures { result ≡ (if bucket == 0 then None else value_for bucket cell) }
 {
     if bucket == 0 {
         return None;
     }
-    value_for(bucket, round.cell_behind(patch, bytes, place))
+    value_for(bucket, cell)
 }

@@ -8,6 +8,7 @@
 mod cells;
 mod fault;
 mod laws;
+mod near;
 mod raw;
 mod round;
 mod stale;

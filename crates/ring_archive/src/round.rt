@@ -3,7 +3,7 @@ ghost use Rattle.std.specs.Prelude.{◌≡◌, ◌+◌, ◌*◌, ◌%◌, ◌<�
 ghost use Rattle.outside_io.specs.Frames.{ReadsOnly};
 ghost use Rattle.ring_archive.specs.Ring.{OnFile, cell_offset};
 ghost use Rattle.ring_archive.specs.View.{IsThere, OnRing};
-ghost use Rattle.ring_archive.specs.Held.{GoesRound, HoldsSlots, IsRoundOf, cell_behind, held_cell};
+ghost use Rattle.ring_archive.specs.Held.{GoesRound, HoldsSlots, IsRoundOf, cell_behind, held_cell, slot_behind};
 ghost use Rattle.ring_format.specs.Cell.{IsVersion, cell_size_in};
 
 use crate::fault::RingFault;
@@ -111,6 +111,19 @@ impl RingView<'_> {
 }
 
 impl Round {
+    // The slot so many slots behind the first one.
+    pub(crate) fn slot_behind(self, place: u32) -> u32
+        requires slot { self.slot < self.points }
+        requires place { place < self.points }
+        ensures { result ≡ slot_behind self place }
+    {
+        let before_end = self.points - self.slot;
+        if place < before_end {
+            return self.slot + place;
+        }
+        place - before_end
+    }
+
     // The cell so many slots behind the first one: the patch's, and else that in memory.
     #[tactic(auto, unfolding(crate::specs::Held::cell_behind))]
     pub(crate) fn cell_behind(self, patch: &Patch, bytes: &[u8], place: u32) -> (u32, Option<Milli>)
@@ -121,8 +134,7 @@ impl Round {
             ≤ length bytes.now }
         ensures { result ≡ cell_behind patch.now.cells self bytes.now place }
     {
-        let slot = (u64::from(self.slot) + u64::from(place)) % u64::from(self.points);
-        match patch.cell(self.archive, slot as u32) {
+        match patch.cell(self.archive, self.slot_behind(place)) {
             Some((bucket, value)) => (bucket, Some(value)),
             None => held_cell(self.version, bytes, place as usize),
         }

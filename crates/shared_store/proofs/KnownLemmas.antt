@@ -39,7 +39,7 @@ known_names start class list names finds = λ k d less.
     record { here = both.0; known = both.1 }
 
 -- what was known stays so
-known_on : (start : State) (class : ℕ) (before now : List Entry) (names : List (List ℕ)) → IsPrefix before now → AreKnownAfter start class before names → AreKnownAfter start class now names
+pub known_on : (start : State) (class : ℕ) (before now : List Entry) (names : List (List ℕ)) → IsPrefix before now → AreKnownAfter start class before names → AreKnownAfter start class now names
 known_on start class before now names begins known = λ k d less.
     let path : List ℕ = get_or names k d in
     let one = known k d less in record {

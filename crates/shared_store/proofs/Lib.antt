@@ -26,3 +26,4 @@ mod CreateLemmas
 mod PlannedLemmas
 mod WrittenLemmas
 mod KnownLemmas
+mod LearnLemmas

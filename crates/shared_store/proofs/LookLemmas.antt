@@ -1,5 +1,5 @@
 -- What a pass knows of a class once it has looked, and what the answers of a plan and of the write of a run tell.
-use Rattle.std.proofs.Common.{◌≡◌, ◌≢◌, ◌↔◌, ◌⊎◌, inl, inr, ◌∙◌, ℕ, ℤ, ◌<◌, ◌≤◌, ◌+◌, ◌*◌, Bool, true, false, All, List, [], ◌∷◌, ◌++◌, length, Option, Some, None, IfSome, IsSomeAnd, option_map, refl, sym, ap, subst, arith}
+use Rattle.std.proofs.Common.{◌≡◌, ◌≢◌, ◌↔◌, ◌⊎◌, inl, inr, ◌∙◌, ℕ, ℤ, ◌<◌, ◌≤◌, ◌+◌, ◌*◌, Bool, true, false, List, [], ◌∷◌, ◌++◌, length, Option, Some, None, IfSome, IsSomeAnd, option_map, refl, sym, ap, subst, arith}
 use Rattle.std.specs.Prelude.{IsSome}
 use Rattle.std.proofs.lemmas.List.{append_assoc}
 use Rattle.std.proofs.lemmas.Bool.{eq-eqb, false≢true}
@@ -238,7 +238,7 @@ both_ways f g = ((λ a. g.0 (f.0 a)), λ c. f.1 (g.1 c))
 
 module _ (table : TableId) (told : ℕ → Option Image) (start : State) (faults : ℕ → ℕ) (passes : ℕ) where
   -- the drains of the class are settled exactly where no drain is being written
-  settled_where : (shard : Inside) (failed : ℕ) (tail : TailValue) (old new : PassValue) → KeepsClass table told start faults shard failed tail
+  pub settled_where : (shard : Inside) (failed : ℕ) (tail : TailValue) (old new : PassValue) → KeepsClass table told start faults shard failed tail
       → Looked tail old new → (shard.shelf ≡ None) ↔ IsSettled tail.class new
   settled_where shard failed tail old new keeps look = (
     (λ none. is_settled tail old new look (keeps.settled.0 none)),

@@ -1,5 +1,5 @@
 -- A plan of a class whose two locks are held: what may be entered, what each of them keeps behind it, and what the pass is told.
-use Rattle.std.proofs.Common.{◌≡◌, ◌∙◌, ℕ, ◌≤◌, Bool, Option, IfSome, sym, ap, subst}
+use Rattle.std.proofs.Common.{◌≡◌, ◌∙◌, ℕ, ◌≤◌, [], Bool, Option, None, IfSome, sym, ap, subst}
 use Rattle.std.specs.Prelude.{is_some}
 use Rattle.atomic_table.specs.Seated.{TableId}
 use Rattle.outside_io.specs.Image.{Image}
@@ -17,13 +17,13 @@ use Rattle.shard_core.specs.declared.planned.Planned.{Planned}
 use Rattle.shard_core.specs.declared.planned.Planned.TheVariants as planned
 use Rattle.shared_store.specs.Desks.{KeepsClass}
 use Rattle.shared_store.specs.Locks.{KeepsDesk, KeepsFiles}
-use Rattle.shared_store.specs.Passes.{Enters, HasRoom, LooksAgain}
+use Rattle.shared_store.specs.Passes.{Enters, HasRoom, LooksAgain, SeesAll}
 use Rattle.shared_store.specs.Steps.{AfterPlan, PlansAs, plan_entry}
 use Rattle.shared_store.specs.Tails.{IsLegalTook, MayTell, OwesBegun, Tells, tail_begun, tail_told}
 use Rattle.shared_store.proofs.BothLemmas.{both_keep, desk_keeps, files_keep}
 use Rattle.shared_store.proofs.ClassLemmas.{few_runs, keeps_plan, plan_may, plan_owes}
 use Rattle.shared_store.proofs.AskPassLemmas.{enters_only, marks_class}
-use Rattle.shared_store.proofs.LookLemmas.{after_plan, begun_class, begun_list, looked, looks_again, told_class, told_enters, told_same, told_tail_class}
+use Rattle.shared_store.proofs.LookLemmas.{after_plan, begun_class, begun_list, looked, looks_again, settled_where, told_class, told_enters, told_same, told_tail_class}
 
 -- the tail once a plan is entered, and settled where nothing of its drain is to be written
 pub planned_tail : (plan : Planned) (now number : ℕ) (tail told ended : TailValue) (entry : Option Entry) (shelved : Bool) (shelf : Option DrainValue)
@@ -117,3 +117,24 @@ module _ (table : TableId) (half_of : ℕ → TableId) (told : ℕ → Option Im
             (looks_again ended pass mid new (told_same start passes tail (plan_entry pass.number tail.class now plan) pass mid did)
             no_more look saw (few_runs table told start earlier (both after there) later ended kept));
       }
+
+-- there was no memory for a plan: the desk and the files are as they were, and the pass saw that the class has no drain under way
+module _ (table : TableId) (half_of : ℕ → TableId) (told : ℕ → Option Image) (start : State) (earlier : ℕ → ℕ)
+    (desk : DeskInside) (files : FilesInside) (failed : ℕ) (half other : HalfValue) (tail : TailValue)
+    (here : files.class ≡ desk.class) (met : other.stand ≡ half.stand)
+    (of_desk : KeepsDesk table half_of start desk half tail) (of_files : KeepsFiles half_of told start earlier files failed other) where
+  pub told_refused : (passes of_class now : ℕ) (ended : TailValue) (pass mid new : PassValue) → files.shelf ≡ None → tail.class ≡ of_class
+      → SeesAll start passes tail pass mid → ended ≡ tail → IsNoMore (look_at ended.class mid.looks) ended → new ≡ pass_looking mid (look_now ended mid)
+      → PlansAs start passes of_class now planned.NoMemory pass new
+  told_refused passes of_class now ended pass mid new none of_one sees same later looks =
+      let no_more : IsNoMore (look_at tail.class mid.looks) tail = subst (λ (t : TailValue). IsNoMore (look_at t.class mid.looks) t) same later in
+      let is : new ≡ pass_looking mid (look_now tail mid) = subst (λ (t : TailValue). new ≡ pass_looking mid (look_now t mid)) same looks in
+      let keeps : KeepsClass table told start earlier (both desk files) failed tail =
+      both_keep table half_of told start earlier desk files failed half other tail here met of_desk of_files in
+      let look = looked tail mid new is in
+      subst (λ (k : ℕ). PlansAs start passes k now planned.NoMemory pass new) of_one (record {
+        enters = enters_only start passes [] pass mid new sees.enters (marks_class tail mid new is no_more).only;
+        after = (settled_where table told start earlier passes (both desk files) failed tail mid new keeps look).0 none;
+        looks = looks_again tail pass mid new (told_same start passes tail None pass mid sees) no_more look sees.class
+            (few_runs table told start earlier (both desk files) failed tail keeps);
+      })

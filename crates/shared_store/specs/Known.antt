@@ -1,8 +1,9 @@
 -- What is known beforehand of the names of the classes.
-use Rattle.std.specs.Prelude.{◌≡◌, ◌<◌, ℕ, All, List, [], Vec, get_or, length, map, slice_index_or}
+use Rattle.std.specs.Prelude.{◌≡◌, ◌≢◌, ◌<◌, ℕ, All, List, [], Vec, get_or, length, map, slice_index_or}
 use Rattle.std.specs.Cmp.Lexicographic.{slice_cmp}
 use Rattle.std.specs.List.Sorted.{IsStrictlySortedBy}
 use Rattle.std.specs.Ordering.{nat_cmp}
+use Rattle.std.specs.declared.cmp.Ordering.TheVariants.{Less}
 use Rattle.std.specs.Sync.Mutex.{mutex_guard_value}
 use Rattle.std.specs.declared.sync.MutexGuard.{MutexGuard}
 use Rattle.carbon_history.specs.declared.entry.Entry.{Entry}
@@ -13,7 +14,9 @@ use Rattle.carbon_model.specs.Replay.{replay}
 use Rattle.carbon_model.specs.RingFiles.{IsOfClass}
 use Rattle.render_need.specs.declared.need.Need.{Need}
 use Rattle.shared_history.specs.declared.view.Look.{Look}
+use Rattle.shared_history.specs.Parts.{PassValue}
 use Rattle.shared_history.specs.Views.{look_at}
+use Rattle.shared_store.specs.Asking.{OnlyLooks}
 use Rattle.shared_store.specs.Desks.{DeskValue}
 
 -- a need, and the names of each class that its glob was held against
@@ -36,6 +39,22 @@ pub record IsKnownAfter (start : State) (class : ℕ) (list : List Entry) (path 
 
 abbrev pub AreKnownAfter : State → ℕ → List Entry → List (List ℕ) → Type 0
 AreKnownAfter start class list names = All (IsKnownAfter start class list) names
+
+-- names of a class from one on, in byte order, that were known after these entries about it
+pub record IsPieceOf (start : State) (class : ℕ) (list : List Entry) (least : List ℕ) (names : List (List ℕ)) : Type 0 where
+  pub known : AreKnownAfter start class list names
+  pub order : IsInOrder names
+  pub behind : All (λ path. slice_cmp nat_cmp path least ≢ Less) names
+
+-- names of a class, in byte order, that were known when a pass last looked at it
+pub record KnowsOf (start : State) (looks : List Look) (class : ℕ) (names : List (List ℕ)) : Type 0 where
+  pub known : AreKnownAfter start class (look_at class looks).list names
+  pub order : IsInOrder names
+
+-- A pass looked at a class, and at no other.
+pub record LooksAlone (class : ℕ) (old new : PassValue) : Type 0 where
+  pub only : OnlyLooks old new
+  pub others : (other : ℕ) → other ≢ class → look_at other new.looks ≡ look_at other old.looks
 
 -- ---- names of all classes
 

@@ -52,3 +52,8 @@ pub record NamesUp (s : State) (names : List (List ℕ)) : Type 0 where
 pub record PutsNames (names sorted : List (List ℕ)) : Type 0 where
   pub in_order : IsStrictlySortedBy (slice_cmp nat_cmp) sorted
   pub all : (path : List ℕ) → Contains sorted path ↔ Contains names path
+
+-- the names of some classes in one list
+abbrev pub joined : List (List (List ℕ)) → List (List ℕ)
+joined [] = []
+joined (names ∷ others) = names ++ joined others

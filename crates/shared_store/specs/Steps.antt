@@ -1,5 +1,5 @@
 -- What the answers of the calls of a store tell.
-use Rattle.std.specs.Prelude.{◌≡◌, ◌≢◌, ◌↔◌, ◌⊎◌, ◌<◌, ℕ, ℤ, List, [], ◌∷◌, ◌++◌, All, length, Option, Some, None, IfSome, IsSomeAnd}
+use Rattle.std.specs.Prelude.{◌≡◌, ◌≢◌, ◌↔◌, ◌⊎◌, ◌<◌, ℕ, ℤ, List, [], ◌∷◌, ◌++◌, length, Option, Some, None, IfSome, IsSomeAnd}
 use Rattle.carbon_history.specs.Entries.{listed}
 use Rattle.carbon_history.specs.declared.entry.Entry.{Entry}
 use Rattle.carbon_history.specs.declared.entry.Entry.TheVariants as entry
@@ -7,7 +7,7 @@ use Rattle.carbon_history.specs.declared.entry.PutEnd.TheVariants as end
 use Rattle.metric_path.specs.Class.{class_of}
 use Rattle.point_cache.specs.declared.put.Put.{Put}
 use Rattle.point_cache.specs.declared.put.Put.TheVariants as put
-use Rattle.archive_update.specs.Batch.{archive_for, HaveNoHome}
+use Rattle.archive_update.specs.Batch.{HaveNoHome}
 use Rattle.carbon_model.specs.State.{State, picked, points_in}
 use Rattle.carbon_model.specs.Replay.{IsLegal, replay}
 use Rattle.shard_core.specs.declared.planned.Planned.{Planned}

@@ -13,12 +13,12 @@ use crate::finds::find_all;
 use crate::named::Named;
 use crate::order_desk::OrderDesk;
 use crate::store::Store;
+use crate::store_pass::StorePass;
 use crate::try_end::TryEnd;
 use crate::wanted::{Wanted, want_all};
 use outside_io::Disk;
 use render_need::Need;
 use series_set::SeriesRows;
-use shared_history::Pass;
 use std::alloc::{AllocError, Global};
 use std::sync::{MutexGuard, Wait};
 
@@ -98,10 +98,9 @@ impl<D: Disk, N: Named> Store<D, N> {
 
     #[tactic(auto, using(crate::proofs::AskPassLemmas::only_itself))]
     // The pass looks at all classes.
-    fn mark_all(desks: &mut Vec<MutexGuard<'_, ClassDesk<N>>>, pass: &mut Pass)
+    fn mark_all(desks: &mut Vec<MutexGuard<'_, ClassDesk<N>>>, pass: &mut StorePass<N>)
         requires sixteen { vec_len desks.old ≡ 16 }
         requires desks { AreDesksOf pass.old.seen desks.old.items }
-        requires one { pass.old.table ≡ N.table }
         ensures marks { MarksAll pass.old.seen pass.old pass.new }
         ensures desks { AreDesksOf pass.old.seen desks.new.items }
         ensures sixteen { vec_len desks.new ≡ 16 }
@@ -117,13 +116,12 @@ impl<D: Disk, N: Named> Store<D, N> {
         &self,
         rt: &impl Wait,
         desks: &mut Vec<MutexGuard<'_, ClassDesk<N>>>,
-        pass: &mut Pass,
+        pass: &mut StorePass<N>,
         attempt: u32,
         now: u32,
     )
         requires sixteen { vec_len desks.old ≡ 16 }
         requires desks { AreDesks desks.old.items }
-        requires one { pass.old.table ≡ N.table }
         requires may { MayAsk pass.old attempt }
         ensures enters { EntersBehind N.start N.passes (ask_by pass.old attempt now)
             pass.old pass.new }
@@ -142,13 +140,12 @@ impl<D: Disk, N: Named> Store<D, N> {
         &self,
         rt: &impl Wait,
         desks: &mut Vec<MutexGuard<'_, ClassDesk<N>>>,
-        pass: &mut Pass,
+        pass: &mut StorePass<N>,
         attempt: u32,
         now: u32,
     )
         requires sixteen { vec_len desks.old ≡ 16 }
         requires desks { AreDesks desks.old.items }
-        requires one { pass.old.table ≡ N.table }
         requires may { MayAsk pass.old attempt }
         ensures enters { EntersTries N.start N.passes now attempt pass.old pass.new }
         ensures desks { AreDesksOf pass.new.seen desks.new.items }
@@ -167,13 +164,12 @@ impl<D: Disk, N: Named> Store<D, N> {
         alloc: Global,
         held: Vec<MutexGuard<'_, ClassFiles<D, N>>>,
         desks: Vec<MutexGuard<'_, ClassDesk<N>>>,
-        pass: &mut Pass,
+        pass: &mut StorePass<N>,
         needs: &[Wanted<'_>],
         now: u32,
     ) -> Result<SeriesRows, TryEnd>
         requires desks { AreAllDesksOf pass.old.seen desks.items }
         requires held { IsHeld pass.old.seen held.items }
-        requires one { pass.old.table ≡ N.table }
         requires room { length (own_entries pass.old) + 1 ≤ 2 ^ 48 }
         requires needs { All AreEnds (needs_of needs.now) }
         requires known { AllKnow (KnowsIn N.start pass.old.seen) needs.now }
@@ -202,12 +198,11 @@ impl<D: Disk, N: Named> Store<D, N> {
         &self,
         rt: &impl Wait,
         alloc: Global,
-        pass: &mut Pass,
+        pass: &mut StorePass<N>,
         needs: &[Wanted<'_>],
         now: u32,
         attempt: u32,
     ) -> Result<SeriesRows, TryEnd>
-        requires one { pass.old.table ≡ N.table }
         requires may { MayAsk pass.old attempt }
         requires room { length (own_entries pass.old) + 2 ≤ 2 ^ 48 }
         requires needs { All AreEnds (needs_of needs.now) }
@@ -236,11 +231,10 @@ impl<D: Disk, N: Named> Store<D, N> {
         &self,
         rt: &impl Wait,
         alloc: Global,
-        pass: &mut Pass,
+        pass: &mut StorePass<N>,
         needs: &[Wanted<'_>],
         now: u32,
     ) -> Result<SeriesRows, AskFault>
-        requires one { pass.old.table ≡ N.table }
         requires room { HasRoom pass.old }
         requires needs { All AreEnds (needs_of needs.now) }
         requires known { AllKnow (KnowsBy N.start pass.old.looks) needs.now }
@@ -274,11 +268,10 @@ impl<D: Disk, N: Named> Store<D, N> {
         &self,
         rt: &impl Wait,
         alloc: Global,
-        pass: &mut Pass,
+        pass: &mut StorePass<N>,
         needs: &[Need],
         now: u32,
     ) -> Result<SeriesRows, AskFault>
-        requires one { pass.old.table ≡ N.table }
         requires room { HasRoom pass.old }
         requires needs { All AreEnds needs.now }
         requires now { now ≤ 4_000_000_000 }
@@ -297,8 +290,7 @@ impl<D: Disk, N: Named> Store<D, N> {
 
     #[tactic(auto, using(crate::proofs::AskPassLemmas::on_same))]
     // A question ends before its first try, for want of memory.
-    fn give_up(&self, rt: &impl Wait, pass: &mut Pass) -> AskFault
-        requires one { pass.old.table ≡ N.table }
+    fn give_up(&self, rt: &impl Wait, pass: &mut StorePass<N>) -> AskFault
         ensures fault { result ≡ AskFault.NoMemory }
         ensures enters { Enters N.start N.passes [] pass.old pass.new }
         ensures looks { LooksOn pass.old pass.new }

@@ -2,7 +2,8 @@
 ghost use Rattle.std.specs.Prelude.{◌≡◌, false, true};
 ghost use Rattle.shared_store.specs.Passes.{HasRoom, IsSpent};
 
-use shared_history::Pass;
+use crate::named::Named;
+use crate::store_pass::StorePass;
 
 /// How many entries a call makes at most: those of a question's three tries, and that of a disk
 /// that fails.
@@ -10,7 +11,7 @@ pub const MOST_CALL_ENTRIES: u64 = 4;
 
 /// Whether the pass has room for the entries of a call. Where it has none it is spent.
 #[tactic(auto, using(crate::proofs::RoomLemmas::enough, crate::proofs::RoomLemmas::too_few))]
-pub fn has_room(pass: &Pass) -> bool
+pub fn has_room<N: Named>(pass: &StorePass<N>) -> bool
     ensures room { result ≡ true → HasRoom pass.now }
     ensures spent { result ≡ false → IsSpent pass.now }
 {

@@ -2,9 +2,10 @@
 use crate::class_desk::ClassDesk;
 use crate::named::Named;
 use crate::order_desk::OrderDesk;
+use crate::store_pass::{StorePass, enter_ask, mark, see};
 use crate::wanted::Wanted;
 use shard_core::{FoundMetric, Looked};
-use shared_history::{Pass, agree, enter_ask, mark, see};
+use shared_history::agree;
 use std::alloc::AllocError;
 
 impl<N: Named> ClassDesk<N> {
@@ -28,8 +29,7 @@ impl<N: Named> ClassDesk<N> {
     }
 
     /// The pass looks at the class.
-    pub(crate) fn mark(&mut self, pass: &mut Pass)
-        requires one { pass.old.table ≡ N.table }
+    pub(crate) fn mark(&mut self, pass: &mut StorePass<N>)
         ensures marks { MarksClass self.old.class self.old.list pass.old pass.new }
         ensures desk { self.new ≡ self.old }
     {
@@ -38,9 +38,12 @@ impl<N: Named> ClassDesk<N> {
 
     /// The version of what is kept of a metric of the class that was looked at when the pass had seen what it
     /// sees now, `None` where nothing is. At `Err` it was drained since. The pass looks at the class.
-    pub(crate) fn recall(&mut self, pass: &mut Pass, looked: &Looked) -> Result<Option<u32>, u64>
+    pub(crate) fn recall(
+        &mut self,
+        pass: &mut StorePass<N>,
+        looked: &Looked,
+    ) -> Result<Option<u32>, u64>
         requires here { class_of looked.now.path ≡ self.old.class }
-        requires one { pass.old.table ≡ N.table }
         requires look { IsLookAt (replay N.start pass.old.seen) looked.now }
         ensures looks { OnlyLooks pass.old pass.new }
         ensures bare { result ≡ Ok None
@@ -92,8 +95,7 @@ impl<N: Named> OrderDesk<N> {
     ghost use Rattle.shared_store.specs.Passes.{Enters, SameLooks};
 
     /// The pass sees the whole history.
-    pub(crate) fn see_all(&mut self, pass: &mut Pass)
-        requires one { pass.old.table ≡ N.table }
+    pub(crate) fn see_all(&mut self, pass: &mut StorePass<N>)
         ensures enters { Enters N.start N.passes [] pass.old pass.new }
         ensures looks { SameLooks pass.old pass.new }
     {
@@ -101,8 +103,7 @@ impl<N: Named> OrderDesk<N> {
     }
 
     /// Enters a try of a question of the pass.
-    pub(crate) fn enter_try(&mut self, pass: &mut Pass, attempt: u32, now: u32)
-        requires one { pass.old.table ≡ N.table }
+    pub(crate) fn enter_try(&mut self, pass: &mut StorePass<N>, attempt: u32, now: u32)
         requires may { MayAsk pass.old attempt }
         ensures { EntersTry N.start N.passes self.old (ask_by pass.old attempt now) pass.old pass.new }
     {

@@ -5,11 +5,12 @@ ghost use Rattle.std.specs.Sync.Mutex.{mutex_guard_value};
 use crate::events::put_event;
 use crate::named::Named;
 use crate::order_desk::OrderDesk;
+use crate::store_pass::StorePass;
 use class_halves::DeskHalf;
 use metric_line::Datum;
 use point_cache::Put;
 use shard_core::Desk;
-use shared_history::{Pass, Tail};
+use shared_history::Tail;
 use std::marker::{Model, PhantomData};
 use std::sync::{Mutex, MutexGuard, Wait};
 
@@ -54,11 +55,10 @@ impl<N: Named> ClassDesk<N> {
         &mut self,
         rt: &impl Wait,
         order: &Mutex<OrderDesk<N>>,
-        pass: &mut Pass,
+        pass: &mut StorePass<N>,
         datum: &Datum,
     ) -> Put
         requires here { class_of datum.now.path ≡ self.old.class }
-        requires one { pass.old.table ≡ N.table }
         requires room { HasRoom pass.old }
         ensures enters { Enters N.start N.passes
             (listed (put_entry pass.old.number datum.now.path datum.now.time datum.now.value result))
@@ -77,11 +77,10 @@ impl<N: Named> ClassDesk<N> {
     pub(crate) fn put_under(
         &mut self,
         order: &mut OrderDesk<N>,
-        pass: &mut Pass,
+        pass: &mut StorePass<N>,
         datum: &Datum,
     ) -> Put
         requires here { class_of datum.now.path ≡ self.old.class }
-        requires one { pass.old.table ≡ N.table }
         requires room { HasRoom pass.old }
         ensures enters { Enters N.start N.passes
             (listed (put_entry pass.old.number datum.now.path datum.now.time datum.now.value result))

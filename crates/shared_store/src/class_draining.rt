@@ -6,9 +6,9 @@ use crate::class_files::ClassFiles;
 use crate::named::Named;
 use crate::order_desk::OrderDesk;
 use crate::step::Step;
+use crate::store_pass::StorePass;
 use outside_io::Disk;
 use shard_core::{Planned, Wrote};
-use shared_history::Pass;
 use std::sync::{Mutex, Wait};
 
 impl<D: Disk, N: Named> ClassFiles<D, N> {
@@ -22,11 +22,10 @@ impl<D: Disk, N: Named> ClassFiles<D, N> {
         rt: &impl Wait,
         desks: &[Mutex<ClassDesk<N>>],
         order: &Mutex<OrderDesk<N>>,
-        pass: &mut Pass,
+        pass: &mut StorePass<N>,
         now: u32,
     ) -> Step
         requires sixteen { length desks.now ≡ 16 }
-        requires one { pass.old.table ≡ N.table }
         requires room { HasRoom pass.old }
         ensures steps { StepsTo N.start N.passes self.old.class now result pass.old pass.new }
         ensures looks { LooksAgain self.old.class pass.old pass.new }
@@ -44,11 +43,10 @@ impl<D: Disk, N: Named> ClassFiles<D, N> {
         rt: &impl Wait,
         desks: &[Mutex<ClassDesk<N>>],
         order: &Mutex<OrderDesk<N>>,
-        pass: &mut Pass,
+        pass: &mut StorePass<N>,
     ) -> Step
         requires shelved { self.old.shelved ≡ true }
         requires sixteen { length desks.now ≡ 16 }
-        requires one { pass.old.table ≡ N.table }
         requires room { HasRoom pass.old }
         ensures steps { (now : ℕ)
             → StepsTo N.start N.passes self.old.class now result pass.old pass.new }
@@ -68,12 +66,11 @@ impl<D: Disk, N: Named> ClassFiles<D, N> {
         rt: &impl Wait,
         desks: &[Mutex<ClassDesk<N>>],
         order: &Mutex<OrderDesk<N>>,
-        pass: &mut Pass,
+        pass: &mut StorePass<N>,
         now: u32,
     ) -> Step
         requires shelved { self.old.shelved ≡ false }
         requires sixteen { length desks.now ≡ 16 }
-        requires one { pass.old.table ≡ N.table }
         requires room { HasRoom pass.old }
         ensures steps { StepsTo N.start N.passes self.old.class now result pass.old pass.new }
         ensures looks { LooksAgain self.old.class pass.old pass.new }

@@ -6,10 +6,10 @@ use crate::events::write_event;
 use crate::named::Named;
 use crate::order_desk::OrderDesk;
 use crate::runs::count_run;
+use crate::store_pass::{StorePass, mark};
 use class_halves::{FilesHalf, meet, renew};
 use outside_io::Disk;
 use shard_core::{Files, Wrote};
-use shared_history::{Pass, mark};
 use std::marker::{Model, PhantomData};
 use std::sync::{Mutex, Wait};
 
@@ -77,10 +77,9 @@ impl<D: Disk, N: Named> ClassFiles<D, N> {
         rt: &impl Wait,
         desks: &[Mutex<ClassDesk<N>>],
         order: &Mutex<OrderDesk<N>>,
-        pass: &mut Pass,
+        pass: &mut StorePass<N>,
     ) -> Wrote
         requires sixteen { length desks.now ≡ 16 }
-        requires one { pass.old.table ≡ N.table }
         requires room { HasRoom pass.old }
         ensures enters { Enters N.start N.passes
             (listed (write_entry pass.old.number self.old.class result)) pass.old pass.new }

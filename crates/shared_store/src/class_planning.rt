@@ -7,10 +7,10 @@ use crate::events::plan_event;
 use crate::named::Named;
 use crate::order_desk::OrderDesk;
 use crate::runs::settle_begun;
+use crate::store_pass::{StorePass, mark};
 use class_halves::{meet, renew};
 use outside_io::Disk;
 use shard_core::Planned;
-use shared_history::{Pass, mark};
 use std::sync::{Mutex, Wait};
 
 /// How often the patch of a drain is made with the desk given back, where points of its metric come meanwhile. Each
@@ -18,7 +18,7 @@ use std::sync::{Mutex, Wait};
 const TRIES_APART: u32 = 8;
 
 impl<D: Disk, N: Named> ClassFiles<D, N> {
-    ghost use Rattle.std.specs.Prelude.{◌≡◌, ◌≢◌, false, true, None, IfSome, length};
+    ghost use Rattle.std.specs.Prelude.{◌≡◌, ◌≢◌, ℕ, false, true, None, IfSome, length};
     ghost use Rattle.carbon_history.specs.Entries.{listed};
     ghost use Rattle.shared_store.specs.Passes.{Enters, HasRoom, LooksAgain};
     ghost use Rattle.shared_store.specs.Steps.{AfterPlan, PlansAs, plan_entry};
@@ -31,11 +31,10 @@ impl<D: Disk, N: Named> ClassFiles<D, N> {
         rt: &impl Wait,
         desks: &[Mutex<ClassDesk<N>>],
         order: &Mutex<OrderDesk<N>>,
-        pass: &mut Pass,
+        pass: &mut StorePass<N>,
         now: u32,
     ) -> Planned
         requires sixteen { length desks.now ≡ 16 }
-        requires one { pass.old.table ≡ N.table }
         requires room { HasRoom pass.old }
         ensures enters { Enters N.start N.passes
             (listed (plan_entry pass.old.number self.old.class now result)) pass.old pass.new }
@@ -60,12 +59,11 @@ impl<D: Disk, N: Named> ClassFiles<D, N> {
         rt: &impl Wait,
         desks: &[Mutex<ClassDesk<N>>],
         order: &Mutex<OrderDesk<N>>,
-        pass: &mut Pass,
+        pass: &mut StorePass<N>,
         now: u32,
     ) -> Option<Planned>
         requires shelved { self.old.shelved ≡ false }
         requires sixteen { length desks.now ≡ 16 }
-        requires one { pass.old.table ≡ N.table }
         requires room { HasRoom pass.old }
         ensures plans { IfSome result (λ planned. PlansAs N.start N.passes self.old.class now
             planned pass.old pass.new) }
@@ -90,12 +88,11 @@ impl<D: Disk, N: Named> ClassFiles<D, N> {
         rt: &impl Wait,
         desks: &[Mutex<ClassDesk<N>>],
         order: &Mutex<OrderDesk<N>>,
-        pass: &mut Pass,
+        pass: &mut StorePass<N>,
         now: u32,
     ) -> Option<Planned>
         requires shelved { self.old.shelved ≡ false }
         requires sixteen { length desks.now ≡ 16 }
-        requires one { pass.old.table ≡ N.table }
         requires room { HasRoom pass.old }
         ensures plans { IfSome result (λ planned. PlansAs N.start N.passes self.old.class now
             planned pass.old pass.new) }
@@ -106,8 +103,11 @@ impl<D: Disk, N: Named> ClassFiles<D, N> {
         let mut guard = lock_desk(rt, desks, self.files.class());
         let desk = &mut *guard;
         meet(&mut desk.half, &mut self.half);
-        let Ok(Some(metric)) = desk.desk.next() else {
-            return Some(self.plan_with(rt, desk, order, pass, now));
+        let metric = match desk.desk.next() {
+            Ok(Some(metric)) => metric,
+            // Nothing is pending, so the plan calls no disk.
+            Ok(None) => return Some(self.plan_with(rt, desk, order, pass, now)),
+            Err(_) => return Some(self.refuse_with(rt, desk, order, pass)),
         };
         drop(guard);
         let made = self.files.make(&metric, now);
@@ -133,11 +133,10 @@ impl<D: Disk, N: Named> ClassFiles<D, N> {
         rt: &impl Wait,
         desks: &[Mutex<ClassDesk<N>>],
         order: &Mutex<OrderDesk<N>>,
-        pass: &mut Pass,
+        pass: &mut StorePass<N>,
         now: u32,
     ) -> Planned
         requires sixteen { length desks.now ≡ 16 }
-        requires one { pass.old.table ≡ N.table }
         requires room { HasRoom pass.old }
         ensures enters { Enters N.start N.passes
             (listed (plan_entry pass.old.number self.old.class now result)) pass.old pass.new }
@@ -157,11 +156,10 @@ impl<D: Disk, N: Named> ClassFiles<D, N> {
         rt: &impl Wait,
         desk: &mut ClassDesk<N>,
         order: &Mutex<OrderDesk<N>>,
-        pass: &mut Pass,
+        pass: &mut StorePass<N>,
         now: u32,
     ) -> Planned
         requires class { desk.old.class ≡ self.old.class }
-        requires one { pass.old.table ≡ N.table }
         requires room { HasRoom pass.old }
         ensures enters { Enters N.start N.passes
             (listed (plan_entry pass.old.number self.old.class now result)) pass.old pass.new }
@@ -178,5 +176,27 @@ impl<D: Disk, N: Named> ClassFiles<D, N> {
         renew(&mut desk.half, &mut self.half, &desk.tail);
         mark(&mut desk.tail, pass);
         planned
+    }
+
+    // The end of a plan for which there was no memory, where the desk is locked. Nothing is entered, and no disk
+    // is called.
+    fn refuse_with(
+        &mut self,
+        rt: &impl Wait,
+        desk: &mut ClassDesk<N>,
+        order: &Mutex<OrderDesk<N>>,
+        pass: &mut StorePass<N>,
+    ) -> Planned
+        requires shelved { self.old.shelved ≡ false }
+        requires class { desk.old.class ≡ self.old.class }
+        ensures memory { result ≡ Planned.NoMemory }
+        ensures plans { (now : ℕ) → PlansAs N.start N.passes self.old.class now result
+            pass.old pass.new }
+        ensures class { (self.new.class ≡ self.old.class) × (desk.new.class ≡ desk.old.class) }
+    {
+        meet(&mut desk.half, &mut self.half);
+        order.lock(rt).see(pass, &mut desk.tail);
+        mark(&mut desk.tail, pass);
+        Planned::NoMemory
     }
 }

@@ -5,12 +5,13 @@ use crate::class_desk::{ClassDesk, lock_desk};
 use crate::class_files::ClassFiles;
 use crate::named::Named;
 use crate::order_desk::OrderDesk;
+use crate::store_pass::{StorePass, mark};
 use carbon_model::Values;
 use class_halves::{meet, renew};
 use outside_io::Disk;
 use ring_archive::RingFault;
 use shard_core::{LookFault, Looked};
-use shared_history::{Event, Pass, mark};
+use shared_history::Event;
 use std::sync::{Mutex, Wait};
 
 impl<D: Disk, N: Named> ClassFiles<D, N> {
@@ -30,12 +31,11 @@ impl<D: Disk, N: Named> ClassFiles<D, N> {
         rt: &impl Wait,
         desks: &[Mutex<ClassDesk<N>>],
         order: &Mutex<OrderDesk<N>>,
-        pass: &mut Pass,
+        pass: &mut StorePass<N>,
         looked: &Looked,
     ) -> Result<Values, LookFault>
         requires here { class_of looked.now.path ≡ self.old.class }
         requires sixteen { length desks.now ≡ 16 }
-        requires one { pass.old.table ≡ N.table }
         requires room { length (own_entries pass.old) + 1 ≤ 2 ^ 48 }
         requires look { IsLookAt (replay N.start pass.old.seen) looked.now }
         ensures reads { ReadsAt N.start N.told N.passes looked.now result pass.old pass.new }

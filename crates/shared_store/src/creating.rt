@@ -5,9 +5,9 @@ use crate::class_desk::ClassDesk;
 use crate::named::Named;
 use crate::order_desk::OrderDesk;
 use crate::store::Store;
+use crate::store_pass::StorePass;
 use metric_table::Known;
 use outside_io::Disk;
-use shared_history::Pass;
 use std::sync::{Mutex, Wait};
 
 // Whether there is no ring file of version 2 of a metric.
@@ -29,9 +29,8 @@ impl<N: Named> ClassDesk<N> {
         &mut self,
         rt: &impl Wait,
         order: &Mutex<OrderDesk<N>>,
-        pass: &mut Pass,
+        pass: &mut StorePass<N>,
     ) -> bool
-        requires one { pass.old.table ≡ N.table }
         ensures makes { result ≡ true
             → MakesFileNext (replay N.start pass.new.seen) self.old.class }
         ensures enters { Enters N.start N.passes [] pass.old pass.new }
@@ -57,9 +56,8 @@ impl<D: Disk, N: Named> Store<D, N> {
     /// none, or one of version 1 that is made anew, in all that the pass sees from now on. A drain that is
     /// being written, nothing pending and want of memory count as no. No disk is called, and the files of
     /// the class are waited for.
-    pub fn makes_file_next(&self, rt: &impl Wait, pass: &mut Pass, class: u32) -> bool
+    pub fn makes_file_next(&self, rt: &impl Wait, pass: &mut StorePass<N>, class: u32) -> bool
         requires class { class < 16 }
-        requires one { pass.old.table ≡ N.table }
         ensures makes { result ≡ true → MakesFileNext (replay N.start pass.new.seen) class }
         ensures enters { Enters N.start N.passes [] pass.old pass.new }
         ensures looks { SameLooks pass.old pass.new }
@@ -68,9 +66,8 @@ impl<D: Disk, N: Named> Store<D, N> {
     }
 
     // Whether nothing is kept in version 2 of the metric of a class that goes next.
-    fn next_is_new(&self, rt: &impl Wait, pass: &mut Pass, class: u32) -> bool
+    fn next_is_new(&self, rt: &impl Wait, pass: &mut StorePass<N>, class: u32) -> bool
         requires class { class < 16 }
-        requires one { pass.old.table ≡ N.table }
         ensures makes { result ≡ true → MakesFileNext (replay N.start pass.new.seen) class }
         ensures enters { Enters N.start N.passes [] pass.old pass.new }
         ensures looks { SameLooks pass.old pass.new }

@@ -8,10 +8,10 @@ use crate::drain_end::{DrainEnd, Stop};
 use crate::named::Named;
 use crate::order_desk::OrderDesk;
 use crate::store::Store;
+use crate::store_pass::StorePass;
 use metric_path::CLASSES;
 use outside_io::Disk;
 use shard_core::{Planned, Wrote};
-use shared_history::Pass;
 use std::sync::{Mutex, Wait};
 
 impl<N: Named> ClassDesk<N> {
@@ -24,9 +24,8 @@ impl<N: Named> ClassDesk<N> {
         &mut self,
         rt: &impl Wait,
         order: &Mutex<OrderDesk<N>>,
-        pass: &mut Pass,
+        pass: &mut StorePass<N>,
     ) -> usize
-        requires one { pass.old.table ≡ N.table }
         ensures count { result ≡ length ((replay N.start pass.new.seen).pending self.old.class) }
         ensures enters { Enters N.start N.passes [] pass.old pass.new }
         ensures looks { SameLooks pass.old pass.new }
@@ -45,8 +44,7 @@ impl<D: Disk, N: Named> Store<D, N> {
     /// Drains all that is pending at the moment `now`: for the classes in order it finishes the
     /// drain that is being written, and then drains as many metrics as were pending when it came to
     /// the class, and one more if one is left. It stops at the first fault.
-    pub fn drain_all(&self, rt: &impl Wait, pass: &mut Pass, now: u32) -> DrainEnd
-        requires one { pass.old.table ≡ N.table }
+    pub fn drain_all(&self, rt: &impl Wait, pass: &mut StorePass<N>, now: u32) -> DrainEnd
         requires room { HasRoom pass.old }
         ensures drains { DrainsTo N.start N.passes now result pass.old pass.new }
         ensures looks { LooksOn pass.old pass.new }
@@ -63,9 +61,14 @@ impl<D: Disk, N: Named> Store<D, N> {
 
     // Finishes the drain of a class that is being written. Then it drains as many metrics as were
     // pending, and tries one more, where another pass may have put points of it.
-    fn drain_class(&self, rt: &impl Wait, pass: &mut Pass, class: u32, now: u32) -> Result<(), Stop>
+    fn drain_class(
+        &self,
+        rt: &impl Wait,
+        pass: &mut StorePass<N>,
+        class: u32,
+        now: u32,
+    ) -> Result<(), Stop>
         requires class { class < 16 }
-        requires one { pass.old.table ≡ N.table }
         requires room { HasRoom pass.old }
         ensures drains { DrainsClassTo N.start N.passes class now result pass.old pass.new }
         ensures looks { LooksIn class pass.old pass.new }
@@ -89,9 +92,8 @@ impl<D: Disk, N: Named> Store<D, N> {
     }
 
     // How many metrics of a class have pending points.
-    fn pending(&self, rt: &impl Wait, pass: &mut Pass, class: u32) -> usize
+    fn pending(&self, rt: &impl Wait, pass: &mut StorePass<N>, class: u32) -> usize
         requires class { class < 16 }
-        requires one { pass.old.table ≡ N.table }
         ensures count { result ≡ length ((replay N.start pass.new.seen).pending class) }
         ensures enters { Enters N.start N.passes [] pass.old pass.new }
         ensures looks { SameLooks pass.old pass.new }
@@ -104,12 +106,11 @@ impl<D: Disk, N: Named> Store<D, N> {
     fn drain_next(
         &self,
         rt: &impl Wait,
-        pass: &mut Pass,
+        pass: &mut StorePass<N>,
         class: u32,
         now: u32,
     ) -> Result<bool, Stop>
         requires class { class < 16 }
-        requires one { pass.old.table ≡ N.table }
         requires room { HasRoom pass.old }
         requires whole { IsWhole class pass.old }
         ensures drains { DrainsNext N.start N.passes class now result pass.old pass.new }
@@ -125,9 +126,8 @@ impl<D: Disk, N: Named> Store<D, N> {
     }
 
     // Writes the drain that was begun to its end, where the pass has the room for it.
-    fn write_whole(&self, rt: &impl Wait, pass: &mut Pass, class: u32) -> Result<bool, Stop>
+    fn write_whole(&self, rt: &impl Wait, pass: &mut StorePass<N>, class: u32) -> Result<bool, Stop>
         requires class { class < 16 }
-        requires one { pass.old.table ≡ N.table }
         ensures whole { WritesTo N.start N.passes class result pass.old pass.new }
         ensures looks { LooksIn class pass.old pass.new }
     {
@@ -141,9 +141,8 @@ impl<D: Disk, N: Named> Store<D, N> {
     }
 
     // Writes the drain of a class that is being written to its end.
-    fn finish(&self, rt: &impl Wait, pass: &mut Pass, class: u32) -> Result<(), Stop>
+    fn finish(&self, rt: &impl Wait, pass: &mut StorePass<N>, class: u32) -> Result<(), Stop>
         requires class { class < 16 }
-        requires one { pass.old.table ≡ N.table }
         requires room { HasRoom pass.old }
         ensures writes { Finishes N.start N.passes class result pass.old pass.new }
         ensures looks { LooksIn class pass.old pass.new }

@@ -1,7 +1,8 @@
 //! What the lock of the order keeps.
 use crate::named::Named;
+use crate::store_pass::{StorePass, enter, see};
 use crate::tally::Tally;
-use shared_history::{Event, Order, Pass, Tail, agree, enter, see};
+use shared_history::{Event, Order, Tail, agree};
 use std::marker::{Model, PhantomData};
 
 /// The history, and the counts of its entries.
@@ -36,8 +37,8 @@ impl<N: Named> OrderDesk<N> {
     #[tactic(auto, using(crate::proofs::DeskLemmas::legal_entry, crate::proofs::DeskLemmas::tally_more))]
     /// Enters what the pass did in a class, as it may be done in the state after the entries of the
     /// tail.
-    pub(crate) fn enter(&mut self, pass: &mut Pass, tail: &mut Tail, event: &Event<'_>)
-        requires one { (pass.old.table ≡ N.table) × (tail.old.table ≡ N.table) }
+    pub(crate) fn enter(&mut self, pass: &mut StorePass<N>, tail: &mut Tail, event: &Event<'_>)
+        requires one { tail.old.table ≡ N.table }
         requires may { MayEnter pass.old tail.old (entry_by pass.old tail.old event.now) }
         requires legal { IsLegal (replay N.start tail.old.list) (entry_by pass.old tail.old event.now) }
         ensures tail { tail.new ≡ tail_with tail.old (entry_by pass.old tail.old event.now) }
@@ -50,8 +51,8 @@ impl<N: Named> OrderDesk<N> {
     }
 
     /// The pass sees the whole history, and enters nothing.
-    pub(crate) fn see(&mut self, pass: &mut Pass, tail: &mut Tail)
-        requires one { (pass.old.table ≡ N.table) × (tail.old.table ≡ N.table) }
+    pub(crate) fn see(&mut self, pass: &mut StorePass<N>, tail: &mut Tail)
+        requires one { tail.old.table ≡ N.table }
         ensures tail { tail.new ≡ tail.old }
         ensures all { SeesAll N.start N.passes tail.old pass.old pass.new }
     {
@@ -60,8 +61,13 @@ impl<N: Named> OrderDesk<N> {
     }
 
     /// Enters what the pass did, where that is entered, or else sees the whole history.
-    pub(crate) fn tell(&mut self, pass: &mut Pass, tail: &mut Tail, event: &Option<Event<'_>>)
-        requires one { (pass.old.table ≡ N.table) × (tail.old.table ≡ N.table) }
+    pub(crate) fn tell(
+        &mut self,
+        pass: &mut StorePass<N>,
+        tail: &mut Tail,
+        event: &Option<Event<'_>>,
+    )
+        requires one { tail.old.table ≡ N.table }
         requires may { IfSome (option_map (entry_by pass.old tail.old) event.now)
             (MayTell N.start pass.old tail.old) }
         ensures tail { tail.new
@@ -76,8 +82,7 @@ impl<N: Named> OrderDesk<N> {
     }
 
     /// The counts of all entries, which the pass sees.
-    pub(crate) fn tally(&mut self, pass: &mut Pass) -> Tally
-        requires one { pass.old.table ≡ N.table }
+    pub(crate) fn tally(&mut self, pass: &mut StorePass<N>) -> Tally
         ensures counts { result ≡ tally_of pass.new.seen }
         ensures enters { Enters N.start N.passes [] pass.old pass.new }
         ensures looks { SameLooks pass.old pass.new }

@@ -11,10 +11,10 @@ use crate::named::Named;
 use crate::order_desk::OrderDesk;
 use crate::put_counts::PutCounts;
 use crate::store::Store;
+use crate::store_pass::StorePass;
 use metric_line::Datum;
 use outside_io::Disk;
 use point_cache::Put;
-use shared_history::Pass;
 use std::alloc::{AllocError, Global};
 use std::sync::{MutexGuard, Wait};
 
@@ -29,11 +29,10 @@ fn classes_of(alloc: Global, points: &[Datum]) -> Result<Vec<u32>, AllocError>
 fn put_here<N: Named>(
     desk: &mut Option<MutexGuard<'_, ClassDesk<N>>>,
     order: &mut OrderDesk<N>,
-    pass: &mut Pass,
+    pass: &mut StorePass<N>,
     datum: &Datum,
 ) -> Put
     requires desk { IsDesk (class_of datum.now.path) desk.old }
-    requires one { pass.old.table ≡ N.table }
     requires room { HasRoom pass.old }
     ensures enters { Enters N.start N.passes
         (listed (put_entry pass.old.number datum.now.path datum.now.time datum.now.value result))
@@ -50,13 +49,12 @@ fn put_here<N: Named>(
 fn put_held<N: Named>(
     desks: &mut Vec<Option<MutexGuard<'_, ClassDesk<N>>>>,
     order: &mut OrderDesk<N>,
-    pass: &mut Pass,
+    pass: &mut StorePass<N>,
     datum: &Datum,
     class: u32,
 ) -> Put
     requires desks { (vec_len desks.old ≡ 16) × HoldsClass class desks.old.items }
     requires class { (class < 16) × (class_of datum.now.path ≡ class) }
-    requires one { pass.old.table ≡ N.table }
     requires room { HasRoom pass.old }
     ensures enters { Enters N.start N.passes
         (listed (put_entry pass.old.number datum.now.path datum.now.time datum.now.value result))
@@ -73,14 +71,13 @@ fn put_held<N: Named>(
 fn put_each<N: Named>(
     desks: &mut Vec<Option<MutexGuard<'_, ClassDesk<N>>>>,
     order: &mut OrderDesk<N>,
-    pass: &mut Pass,
+    pass: &mut StorePass<N>,
     points: &[Datum],
     classes: &[u32],
 ) -> PutCounts
     requires sixteen { vec_len desks.old ≡ 16 }
     requires held { HoldsClasses classes.now desks.old.items }
     requires classes { classes.now ≡ classes_in points.now }
-    requires one { pass.old.table ≡ N.table }
     requires room { HasRoomFor points.now pass.old }
     ensures puts { PutsFirst N.start N.passes points.now result pass.old pass.new }
     ensures looks { SameLooks pass.old pass.new }
@@ -135,8 +132,7 @@ impl<D: Disk, N: Named> Store<D, N> {
     }
 
     // No point is put, and the pass sees the whole history.
-    fn put_none(&self, rt: &impl Wait, pass: &mut Pass) -> PutCounts
-        requires one { pass.old.table ≡ N.table }
+    fn put_none(&self, rt: &impl Wait, pass: &mut StorePass<N>) -> PutCounts
         ensures puts { PutsNone N.start N.passes result pass.old pass.new }
         ensures looks { SameLooks pass.old pass.new }
     {
@@ -151,10 +147,9 @@ impl<D: Disk, N: Named> Store<D, N> {
         &self,
         rt: &impl Wait,
         alloc: Global,
-        pass: &mut Pass,
+        pass: &mut StorePass<N>,
         points: &[Datum],
     ) -> PutCounts
-        requires one { pass.old.table ≡ N.table }
         requires room { HasRoomFor points.now pass.old }
         ensures puts { PutsFirst N.start N.passes points.now result pass.old pass.new
             ⊎ PutsNone N.start N.passes result pass.old pass.new }

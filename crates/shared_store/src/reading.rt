@@ -11,13 +11,13 @@ use crate::class_files::ClassFiles;
 use crate::found_set::FoundSet;
 use crate::named::Named;
 use crate::store::Store;
+use crate::store_pass::StorePass;
 use crate::try_end::TryEnd;
 use carbon_model::Values;
 use outside_io::Disk;
 use series_fetch::Window;
 use series_set::{Series, SeriesRows, SeriesSet, readings};
 use shard_core::{LookFault, Looked};
-use shared_history::Pass;
 use std::alloc::{AllocError, Global};
 use std::sync::{MutexGuard, Wait};
 
@@ -63,10 +63,9 @@ impl<D: Disk, N: Named> Store<D, N> {
         &self,
         rt: &impl Wait,
         alloc: Global,
-        pass: &mut Pass,
+        pass: &mut StorePass<N>,
         looked: &Looked,
     ) -> Result<Values, TryEnd>
-        requires one { pass.old.table ≡ N.table }
         requires room { length (own_entries pass.old) + 1 ≤ 2 ^ 48 }
         requires look { IsLookAt (replay N.start pass.old.seen) looked.now }
         ensures { ReadsOne N.start N.told N.passes looked.now result pass.old pass.new }
@@ -79,8 +78,12 @@ impl<D: Disk, N: Named> Store<D, N> {
     }
 
     // The version of what is kept of a metric that was looked at. At `Err` it was drained since.
-    fn recall(&self, rt: &impl Wait, pass: &mut Pass, looked: &Looked) -> Result<Option<u32>, u64>
-        requires one { pass.old.table ≡ N.table }
+    fn recall(
+        &self,
+        rt: &impl Wait,
+        pass: &mut StorePass<N>,
+        looked: &Looked,
+    ) -> Result<Option<u32>, u64>
         requires look { IsLookAt (replay N.start pass.old.seen) looked.now }
         ensures looks { OnlyLooks pass.old pass.new }
         ensures bare { result ≡ Ok None
@@ -92,8 +95,12 @@ impl<D: Disk, N: Named> Store<D, N> {
     }
 
     // Reads a metric under the lock of the files of its class alone.
-    fn read_files(&self, rt: &impl Wait, pass: &mut Pass, looked: &Looked) -> Result<Values, TryEnd>
-        requires one { pass.old.table ≡ N.table }
+    fn read_files(
+        &self,
+        rt: &impl Wait,
+        pass: &mut StorePass<N>,
+        looked: &Looked,
+    ) -> Result<Values, TryEnd>
         requires room { length (own_entries pass.old) + 1 ≤ 2 ^ 48 }
         requires look { IsLookAt (replay N.start pass.old.seen) looked.now }
         ensures { ReadsOne N.start N.told N.passes looked.now result pass.old pass.new }
@@ -110,10 +117,9 @@ impl<D: Disk, N: Named> Store<D, N> {
         &self,
         rt: &impl Wait,
         held: &mut Vec<MutexGuard<'_, ClassFiles<D, N>>>,
-        pass: &mut Pass,
+        pass: &mut StorePass<N>,
         looked: &Looked,
     ) -> Result<Values, TryEnd>
-        requires one { pass.old.table ≡ N.table }
         requires room { length (own_entries pass.old) + 1 ≤ 2 ^ 48 }
         requires look { IsLookAt (replay N.start pass.old.seen) looked.now }
         requires held { AreFilesOf pass.old.seen held.old.items }
@@ -134,10 +140,9 @@ impl<D: Disk, N: Named> Store<D, N> {
         rt: &impl Wait,
         alloc: Global,
         held: &mut Vec<MutexGuard<'_, ClassFiles<D, N>>>,
-        pass: &mut Pass,
+        pass: &mut StorePass<N>,
         looked: &Looked,
     ) -> Result<Values, TryEnd>
-        requires one { pass.old.table ≡ N.table }
         requires room { length (own_entries pass.old) + 1 ≤ 2 ^ 48 }
         requires look { IsLookAt (replay N.start pass.old.seen) looked.now }
         requires held { IsHeld pass.old.seen held.old.items }
@@ -158,10 +163,9 @@ impl<D: Disk, N: Named> Store<D, N> {
         rt: &impl Wait,
         alloc: Global,
         held: &mut Vec<MutexGuard<'_, ClassFiles<D, N>>>,
-        pass: &mut Pass,
+        pass: &mut StorePass<N>,
         found: &[Looked],
     ) -> Result<SeriesSet, TryEnd>
-        requires one { pass.old.table ≡ N.table }
         requires room { length (own_entries pass.old) + 1 ≤ 2 ^ 48 }
         requires looks { All (IsShortLook (replay N.start pass.old.seen)) found.now }
         requires held { IsHeld pass.old.seen held.old.items }
@@ -184,10 +188,9 @@ impl<D: Disk, N: Named> Store<D, N> {
         rt: &impl Wait,
         alloc: Global,
         held: &mut Vec<MutexGuard<'_, ClassFiles<D, N>>>,
-        pass: &mut Pass,
+        pass: &mut StorePass<N>,
         sets: &[FoundSet],
     ) -> Result<SeriesRows, TryEnd>
-        requires one { pass.old.table ≡ N.table }
         requires room { length (own_entries pass.old) + 1 ≤ 2 ^ 48 }
         requires looks { All (All (IsShortLook (replay N.start pass.old.seen))) sets.now }
         requires held { IsHeld pass.old.seen held.old.items }

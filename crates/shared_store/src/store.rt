@@ -7,12 +7,12 @@ use crate::named::Named;
 use crate::order_desk::OrderDesk;
 use crate::room::Room;
 use crate::step::Step;
+use crate::store_pass::StorePass;
 use crate::tally::Tally;
 use metric_line::Datum;
 use outside_io::Disk;
 use point_cache::Put;
 use shard_core::{Planned, Wrote};
-use shared_history::Pass;
 use std::sync::{Mutex, MutexGuard, Wait};
 
 /// The desk and the files of each class, each behind a lock of its own, and their one history behind
@@ -72,8 +72,7 @@ impl<D: Disk, N: Named> Store<D, N> {
 
     /// Puts the point of a metric line: one entry with its outcome, or none where there is no
     /// memory, and then all is as before.
-    pub fn put(&self, rt: &impl Wait, pass: &mut Pass, datum: &Datum) -> Put
-        requires one { pass.old.table ≡ N.table }
+    pub fn put(&self, rt: &impl Wait, pass: &mut StorePass<N>, datum: &Datum) -> Put
         requires room { HasRoom pass.old }
         ensures enters { Enters N.start N.passes
             (listed (put_entry pass.old.number datum.now.path datum.now.time datum.now.value result))
@@ -87,9 +86,14 @@ impl<D: Disk, N: Named> Store<D, N> {
 
     /// Begins the drain of the metric of a class that goes next, at the moment `now`, unless one is
     /// being written: one entry where a metric was taken, and one where the disk failed.
-    pub fn plan_step(&self, rt: &impl Wait, pass: &mut Pass, class: u32, now: u32) -> Planned
+    pub fn plan_step(
+        &self,
+        rt: &impl Wait,
+        pass: &mut StorePass<N>,
+        class: u32,
+        now: u32,
+    ) -> Planned
         requires class { class < 16 }
-        requires one { pass.old.table ≡ N.table }
         requires room { HasRoom pass.old }
         ensures enters { Enters N.start N.passes
             (listed (plan_entry pass.old.number class now result)) pass.old pass.new }
@@ -102,9 +106,8 @@ impl<D: Disk, N: Named> Store<D, N> {
 
     /// Writes the next run of the drain of a class that is being written: one entry where the disk
     /// failed. No memory is taken.
-    pub fn write_step(&self, rt: &impl Wait, pass: &mut Pass, class: u32) -> Wrote
+    pub fn write_step(&self, rt: &impl Wait, pass: &mut StorePass<N>, class: u32) -> Wrote
         requires class { class < 16 }
-        requires one { pass.old.table ≡ N.table }
         requires room { HasRoom pass.old }
         ensures enters { Enters N.start N.passes
             (listed (write_entry pass.old.number class result)) pass.old pass.new }
@@ -117,9 +120,8 @@ impl<D: Disk, N: Named> Store<D, N> {
 
     /// One step of draining a class at the moment `now`: the next run of the drain that is being
     /// written, or else the begin of one.
-    pub fn drain_step(&self, rt: &impl Wait, pass: &mut Pass, class: u32, now: u32) -> Step
+    pub fn drain_step(&self, rt: &impl Wait, pass: &mut StorePass<N>, class: u32, now: u32) -> Step
         requires class { class < 16 }
-        requires one { pass.old.table ≡ N.table }
         requires room { HasRoom pass.old }
         ensures steps { StepsTo N.start N.passes class now result pass.old pass.new }
         ensures looks { LooksAgain class pass.old pass.new }
@@ -129,8 +131,7 @@ impl<D: Disk, N: Named> Store<D, N> {
     }
 
     /// The counts of all entries of the history so far, which the pass sees.
-    pub fn tally(&self, rt: &impl Wait, pass: &mut Pass) -> Tally
-        requires one { pass.old.table ≡ N.table }
+    pub fn tally(&self, rt: &impl Wait, pass: &mut StorePass<N>) -> Tally
         ensures counts { result ≡ tally_of pass.new.seen }
         ensures enters { Enters N.start N.passes [] pass.old pass.new }
         ensures looks { SameLooks pass.old pass.new }

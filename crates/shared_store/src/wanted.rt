@@ -11,7 +11,7 @@ use std::marker::Model;
 
 /// How much work the globs of one question may be, held against the names of all classes: under a second of a processor.
 /// A client that leaves meanwhile is computed for no longer.
-const MOST_WORK: u64 = 160_000_000;
+const MOST_WORK: u64 = 240_000_000;
 
 /// A need of a question, and of the names of each class those that its glob fits, where that was found out before the
 /// locks of all classes are taken.

@@ -23,7 +23,7 @@ use shard_set::{Setup, Started, start_all};
 use shared_history::{Pass, make};
 use shared_store::*;
 use std::alloc::{AllocError, Global};
-use std::marker::{Brand, Model, PhantomData};
+use std::marker::Brand;
 use std::sync::Wait;
 use std::test::Fail;
 use std::thread;
@@ -104,19 +104,8 @@ pub(crate) struct Job {
 
 #[derive(Drop)]
 struct Worker<N: Named> {
-    pass: Pass,
+    pass: StorePass<N>,
     job: Job,
-    of: PhantomData<N>,
-}
-
-impl<N: Named> Model for Worker<N> {
-    ghost use Rattle.std.specs.Prelude.{◌≡◌, ℕ};
-
-    ghost Value = { ℕ };
-
-    ghost view = { λ w. w.pass.number };
-
-    ghost invariant = { λ w. w.pass.table ≡ N.table };
 }
 
 fn digit(number: u32, unit: u32) -> u8
@@ -236,7 +225,7 @@ impl Job {
     }
 }
 
-fn has_room_for(pass: &Pass, points: &[Datum]) -> bool
+fn has_room_for<N: Named>(pass: &StorePass<N>, points: &[Datum]) -> bool
     ensures { result ≡ true → HasRoomFor points.now pass.now }
 {
     pass.left() >= points.len() as u64 + 4
@@ -486,9 +475,8 @@ fn workers_of<N: Named>(
             return Ok(workers);
         };
         workers.push(Worker {
-            pass,
+            pass: StorePass::new(pass),
             job,
-            of: PhantomData,
         })?;
     }
     Ok(workers)
@@ -500,8 +488,8 @@ fn left_of<N: Named>(alloc: Global, workers: Vec<Worker<N>>) -> Result<Left, All
     let mut passes = Vec::new(alloc);
     let mut jobs = Vec::new(alloc);
     for worker in workers {
-        let Worker { pass, job, of: _ } = worker;
-        passes.push(pass)?;
+        let Worker { pass, job } = worker;
+        passes.push(pass.into_pass())?;
         jobs.push(job)?;
     }
     Ok(Left { passes, jobs })

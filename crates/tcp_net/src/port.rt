@@ -1,11 +1,12 @@
 // A port that gives links.
-use crate::readiness::{Readiness, asked_for, wait_for};
-use libc::net::{POLLIN, SHUT_RDWR, shutdown};
+ghost use Rattle.std.specs.Prelude.{◌≡◌, ◌+◌, ◌*◌};
+
+use crate::listeners::Listeners;
+use crate::readiness::Readiness;
 use std::alloc::Global;
 use std::collections::VecDeque;
 use std::io::ErrorKind;
-use std::net::{IpAddr, Net, SocketAddr, TcpListener, TcpStream};
-use std::os::fd::AsRawFd;
+use std::net::{IpAddr, Net, TcpListener, TcpStream};
 use std::sync::Mutex;
 use std::sync::atomic::{AtomicBool, AtomicU64, Ordering};
 use std::time::{Clock, Duration};
@@ -18,14 +19,19 @@ const FAULT_PAUSE_MILLIS: u64 = 50;
 // How long a thread waits for another one that takes one of the last links.
 const TURN_PAUSE_MILLIS: u64 = 1;
 
-// How many connections a port that closes takes from the system, which keeps so many waiting, and how often it looks for one.
+// How many connections a port that closes takes from the system for each of its addresses, at which the system keeps so
+// many waiting, and how often it looks for one.
 const MOST_LAST: u64 = 129;
 
-const MOST_LAST_LOOKS: usize = 1_024;
+const MOST_LAST_LOOKS: u64 = 1_024;
 
-/// How many descriptors a net takes at most beside one for each link that is open: two of its own, its ports, and the
-/// connections that they take from the system at the stop.
-pub const NET_DESCRIPTORS: u64 = 2 + 2 + 2 * MOST_LAST;
+/// How many descriptors a net takes at most whose ports have so many addresses together, beside one for each link that is
+/// open: two of its own, and for each address its socket and the connections that are taken from the system at the stop.
+pub fn net_descriptors(addresses: u32) -> u64
+    ensures { result ≡ 2 + 130 * addresses }
+{
+    2 + (1 + MOST_LAST) * u64::from(addresses)
+}
 
 /// The ports that are open.
 #[derive(Clone, Copy, Debug, PartialEq, Eq)]
@@ -50,8 +56,7 @@ pub(crate) enum Demand {
 // A port, open or closed. Several threads may wait for its links at once.
 #[derive(Drop)]
 pub(crate) struct Port {
-    listener: TcpListener,
-    number: u16,
+    listeners: Listeners,
     // how many links it gives before it closes; 0: it never does
     links: u64,
     // how many calls have set out to give a link, and how many links have come
@@ -66,19 +71,16 @@ pub(crate) struct Port {
 }
 
 impl Port {
-    // Opens a port of this address; number 0 is any free one.
+    // Opens a port at these addresses; number 0 is any free one of the first, and then that one of the others.
     pub(crate) fn open<R: Net<Listener = TcpListener, Stream = TcpStream>>(
         rt: &R,
         alloc: Global,
-        address: IpAddr,
+        addresses: &[IpAddr],
         number: u16,
         links: u64,
     ) -> io::Result<Self> {
-        let listener = TcpListener::bind(rt, SocketAddr::from((address, number)))?;
-        let number = listener.local_addr()?.port();
         Ok(Port {
-            listener,
-            number,
+            listeners: Listeners::open(rt, alloc, addresses, number)?,
             links,
             begun: AtomicU64::new(0),
             given: AtomicU64::new(0),
@@ -90,7 +92,7 @@ impl Port {
     }
 
     pub(crate) fn number(&self) -> u16 {
-        self.number
+        self.listeners.number()
     }
 
     // The next link, or `None` where the port is closed and nothing is left of its queue, or all its links are given or
@@ -110,7 +112,7 @@ impl Port {
             if self.is_closed() {
                 return self.next_last(rt);
             }
-            if let Ok(stream) = self.accept() {
+            if let Ok(stream) = self.listeners.accept().and_then(as_link) {
                 self.count_given();
                 return Some(stream);
             }
@@ -130,14 +132,6 @@ impl Port {
             thread::sleep(rt, Duration::from_millis(TURN_PAUSE_MILLIS));
         }
         None
-    }
-
-    // A stream whose calls answer at once where they would have to wait, and whose small pieces are sent at once.
-    fn accept(&self) -> io::Result<TcpStream> {
-        let (stream, _) = self.listener.accept()?;
-        stream.set_nonblocking(true)?;
-        let _ = stream.set_nodelay(true);
-        Ok(stream)
     }
 
     // Whether a connection waits, and whether a thread is free for it. Where none is, that of the caller is from now on,
@@ -161,8 +155,7 @@ impl Port {
     }
 
     fn has_waiting(&self) -> bool {
-        let mut asked = [asked_for(&self.listener, POLLIN)];
-        wait_for(&mut asked, Some(Duration::ZERO)) == Readiness::Ready
+        self.listeners.wait_for_connection(Some(Duration::ZERO)) == Readiness::Ready
     }
 
     // Whether one more link may be waited for.
@@ -192,12 +185,13 @@ impl Port {
 
     // A connection that has failed while it waited is passed over. What comes meanwhile is not waited for without end.
     fn empty_queue(&self) {
-        if self.listener.set_nonblocking(true).is_err() {
+        if self.listeners.wait_no_more().is_err() {
             return;
         }
-        let mut left = MOST_LAST;
-        for _ in 0..MOST_LAST_LOOKS {
-            match self.accept() {
+        let count = self.listeners.count() as u64;
+        let mut left = MOST_LAST.saturating_mul(count);
+        for _ in 0..MOST_LAST_LOOKS.saturating_mul(count) {
+            match self.listeners.accept_at_once().and_then(as_link) {
                 Ok(stream) => self.keep(stream),
                 Err(fault) if fault.kind() == ErrorKind::WouldBlock => return,
                 Err(_) => continue,
@@ -217,13 +211,20 @@ impl Port {
     }
 
     // From now on the port refuses, and each thread that waits for a link of it is woken. Links that stand in the
-    // system's queue are lost.
+    // system's queues are lost.
     fn refuse(&self) {
         self.closed.store(true, Ordering::SeqCst);
-        shutdown(self.listener.as_raw_fd(), SHUT_RDWR);
+        self.listeners.refuse();
     }
 
     fn is_closed(&self) -> bool {
         self.closed.load(Ordering::SeqCst)
     }
+}
+
+// A stream whose calls answer at once where they would have to wait, and whose small pieces are sent at once.
+fn as_link(stream: TcpStream) -> io::Result<TcpStream> {
+    stream.set_nonblocking(true)?;
+    let _ = stream.set_nodelay(true);
+    Ok(stream)
 }

@@ -14,17 +14,18 @@ use outside_io::{Net, NetFailed};
 use std::alloc::{AllocError, Global};
 use std::io;
 use std::io::{Eprint, ErrorKind};
-use std::net::{TcpListener, TcpStream};
+use std::net::{IpAddr, TcpListener, TcpStream};
 use std::os::fd::AsRawFd;
 use std::sync::Arc;
 use std::time::Clock;
 
-/// Two TCP ports of one address, one for metric lines and one for HTTP.
+/// Two TCP ports, one for metric lines and one for HTTP, each at addresses of its own.
 ///
 /// Any number of threads may wait for the next link of a port at once, each in a call of its own. Each link then has
-/// its thread to itself: while as many links are open as there are threads, further connections wait, at most 128 on
-/// each port, and a connection past these is made to wait by the system of its sender. An accept that fails, as for
-/// want of descriptors, is tried again every 50 milliseconds, and is no fault of the net: only a `bind` that fails is.
+/// its thread to itself: while as many links are open as there are threads, further connections wait, at most 128 at
+/// each address of a port, and a connection past these is made to wait by the system of its sender. The addresses of a
+/// port take turns. An accept that fails, as for want of descriptors, is tried again every 50 milliseconds, and is no
+/// fault of the net: only a `bind` that fails is.
 #[derive(Drop)]
 pub struct TcpNet<R> {
     rt: R,
@@ -37,8 +38,8 @@ pub struct TcpNet<R> {
 impl<R: std::net::Net<Listener = TcpListener, Stream = TcpStream> + Clock + Copy + Eprint> TcpNet<
     R,
 > {
-    /// A net with these settings, and with no port bound yet. It takes two descriptors, each port and each link one
-    /// more, and so at the stop does each connection that waits on a port: `NET_DESCRIPTORS` at most beside the links.
+    /// A net with these settings, and with no port bound yet. It takes two descriptors, each address of a port and each
+    /// link one more, and so at the stop does each connection that waits: `net_descriptors` at most beside the links.
     pub fn new(alloc: Global, rt: R, settings: NetSettings) -> io::Result<Self>
         ensures { IfOk result (λ net. ⟦<TcpNet<R> as Net>⟧.faults net ≡ 0) }
     {
@@ -73,13 +74,13 @@ impl<R: std::net::Net<Listener = TcpListener, Stream = TcpStream> + Clock + Copy
         self.shared.bound()
     }
 
-    fn open(&self, number: u16, links: u64) -> io::Result<Port> {
-        Port::open(&self.rt, self.alloc, self.settings.address, number, links)
+    fn open(&self, addresses: &[IpAddr], number: u16, links: u64) -> io::Result<Port> {
+        Port::open(&self.rt, self.alloc, addresses, number, links)
     }
 
     fn open_both(&self, line_port: u16, http_port: u16, links: u64) -> io::Result<()> {
-        let lines = self.open(line_port, links)?;
-        let http = self.open(http_port, links)?;
+        let lines = self.open(&self.settings.line_addresses, line_port, links)?;
+        let http = self.open(&self.settings.http_addresses, http_port, links)?;
         if self.shared.keep(Ports { lines, http }) {
             Ok(())
         } else {
@@ -98,8 +99,10 @@ impl<R: std::net::Net<Listener = TcpListener, Stream = TcpStream> + Clock + Copy
         self.faults
     }
 
-    /// Opens the two ports; 0 is any free one, which `ports` tells. Where one of them cannot be had, neither stays
-    /// open, and the call may be made again. Once both are open, a further call fails and changes nothing else.
+    /// Opens the two ports; 0 is any free one of the port's first address, and then that one of its others, which `ports`
+    /// tells. Where one of them cannot be had at one of its addresses, neither stays open, and the call may be made again.
+    /// So it is where a port has no address, or more than 16. Once both are open, a further call fails and changes nothing
+    /// else.
     fn bind(&mut self, line_port: u16, http_port: u16, links: u64) -> Result<(), NetFailed> {
         if self.open_both(line_port, http_port, links).is_ok() {
             return Ok(());

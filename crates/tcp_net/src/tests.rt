@@ -1,4 +1,5 @@
 // The clock of the system, and both ends of connections in one process.
+mod addresses;
 mod kit;
 mod paces;
 mod questions;
@@ -11,7 +12,7 @@ use crate::tcp_link::TcpLink;
 use crate::{NetCloser, SystemClock, TcpNet};
 use kit::{
     Pair, bound_net, connect_and_end, connect_and_send, gives, is_refused, is_sent, millis,
-    millis_since, seconds, settings,
+    millis_since, new_net, seconds,
 };
 use libc::net::{SO_KEEPALIVE, SOL_SOCKET, getsockopt};
 use outside_io::{Clock, Net, NetFailed, ReadEnd, Sink, Source, WriteEnd};
@@ -182,7 +183,7 @@ fn each_port_gives_its_links_and_then_refuses(rt: HostRuntime) -> Result<(), Fai
 fn the_ports_are_those_that_are_asked_for(rt: HostRuntime) -> Result<(), Fail> {
     let (net, free) = bound_net(rt, 0)?;
     drop(net);
-    let mut net = TcpNet::new(rt.alloc(), rt, settings(0))?;
+    let mut net = new_net(rt, 0)?;
     assert!(rt; net.bind(free.lines, free.http, 0) == Ok(()) && net.ports() == Some(free));
     Ok(())
 }
@@ -195,7 +196,7 @@ fn is_not_bound(net: &mut TcpNet<HostRuntime>, http_port: u16) -> bool {
 #[test]
 fn a_port_in_use_and_a_second_bind_are_faults(rt: HostRuntime) -> Result<(), Fail> {
     let (mut net, ports) = bound_net(rt, 0)?;
-    let mut other = TcpNet::new(rt.alloc(), rt, settings(0))?;
+    let mut other = new_net(rt, 0)?;
     let found = [
         is_not_bound(&mut other, ports.http),
         is_not_bound(&mut net, 0),

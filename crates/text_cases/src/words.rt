@@ -1,7 +1,8 @@
 //! Words of the command line.
 
 use carbon_words::{
-    Command, DrainOptions, Options, SampleOptions, ServeOptions, WordsFault, read_words, words,
+    Command, DrainOptions, Hosts, Options, SampleOptions, ServeOptions, WordsFault, read_words,
+    words,
 };
 use case_lines::{Case, CaseFault};
 use drain_order::Strategy;
@@ -103,12 +104,24 @@ fn push_serve(told: &mut String, more: ServeOptions) -> Result<(), AllocError> {
         more.line_patience, more.links
     )?;
     write!(told, " answer {}", more.answer_bytes)?;
-    push_drains(told, more.drains)
+    push_drains(told, more.drains)?;
+    push_hosts(told, " lines-at", more.hosts.lines)?;
+    push_hosts(told, " http-at", more.hosts.http)
 }
 
 fn push_drains(told: &mut String, drains: DrainOptions) -> Result<(), AllocError> {
     write!(told, " drainers {}", drains.drainers)?;
     write!(told, " pace {} creates {}", drains.pace, drains.creates)
+}
+
+// The name of a port, and behind it its addresses with commas between them.
+fn push_hosts(told: &mut String, name: &str, hosts: Hosts) -> Result<(), AllocError> {
+    told.push_str(name)?;
+    for (place, address) in hosts.addresses().iter().enumerate() {
+        let separator = if place == 0 { " " } else { "," };
+        write!(told, "{separator}{address}")?;
+    }
+    Ok(())
 }
 
 fn push_sample(told: &mut String, more: SampleOptions) -> Result<(), AllocError> {

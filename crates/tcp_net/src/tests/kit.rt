@@ -47,11 +47,16 @@ pub(super) fn exchange_times() -> Result<ExchangeTimes, Fail> {
     }
 }
 
-pub(super) fn settings(line_patience: u32) -> NetSettings {
-    NetSettings {
-        address: LOCAL,
+pub(super) fn settings(rt: HostRuntime, line_patience: u32) -> io::Result<NetSettings> {
+    Ok(NetSettings {
+        line_addresses: vec![in rt.alloc(); LOCAL]?,
+        http_addresses: vec![in rt.alloc(); LOCAL]?,
         line_patience,
-    }
+    })
+}
+
+pub(super) fn new_net(rt: HostRuntime, line_patience: u32) -> io::Result<TcpNet<HostRuntime>> {
+    TcpNet::new(rt.alloc(), rt, settings(rt, line_patience)?)
 }
 
 pub(super) fn stop_times(grace_millis: u64, rest_millis: u64) -> StopTimes {
@@ -62,7 +67,11 @@ pub(super) fn stop_times(grace_millis: u64, rest_millis: u64) -> StopTimes {
 }
 
 pub(super) fn connect(rt: HostRuntime, port: u16) -> io::Result<TcpStream> {
-    TcpStream::connect(&rt, SocketAddr::from((LOCAL, port)))
+    connect_at(rt, LOCAL, port)
+}
+
+pub(super) fn connect_at(rt: HostRuntime, address: IpAddr, port: u16) -> io::Result<TcpStream> {
+    TcpStream::connect(&rt, SocketAddr::from((address, port)))
 }
 
 // The client's end of a connection over which a piece was sent.
@@ -135,7 +144,7 @@ pub(super) fn is_refused(rt: HostRuntime, ports: BoundPorts) -> bool {
 pub(super) type BoundNet = (TcpNet<HostRuntime>, BoundPorts);
 
 pub(super) fn bound_net(rt: HostRuntime, links: u64) -> io::Result<BoundNet> {
-    bind(TcpNet::new(rt.alloc(), rt, settings(0))?, links)
+    bind(new_net(rt, 0)?, links)
 }
 
 // A net that bound two free ports, which were not told before.
@@ -156,7 +165,7 @@ pub(super) struct Streams {
 }
 
 pub(super) fn connected_streams(rt: HostRuntime) -> io::Result<Streams> {
-    let port = Port::open(&rt, rt.alloc(), LOCAL, 0, 0)?;
+    let port = Port::open(&rt, rt.alloc(), &[LOCAL], 0, 0)?;
     let client = connect(rt, port.number())?;
     match port.next_stream(&rt) {
         Some(served) => Ok(Streams { client, served }),

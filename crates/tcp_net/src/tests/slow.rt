@@ -1,7 +1,7 @@
 // Other ends that are slow, silent or gone.
 use super::kit::{
-    Pair, bind, bound_net, connect, connect_and_send, gives, millis, millis_since, pause, read_out,
-    settings, sip,
+    Pair, bind, bound_net, connect, connect_and_send, gives, millis, millis_since, new_net, pause,
+    read_out, sip,
 };
 use crate::TcpNet;
 use crate::pace::{Allowance, ExchangeTimes};
@@ -128,7 +128,7 @@ fn millis_of_line(rt: HostRuntime, link: &mut TcpLink<HostRuntime>) -> io::Resul
 
 #[test]
 fn a_sender_of_lines_may_be_silent_for_so_long(rt: HostRuntime) -> Result<(), Fail> {
-    let (net, ports) = bind(TcpNet::new(rt.alloc(), rt, settings(1))?, 0)?;
+    let (net, ports) = bind(new_net(rt, 1)?, 0)?;
     let client = connect_and_send(rt, ports.lines, b"a 1 2\n")?;
     let (is_given, millis) = millis_of_silence(rt, &net)?;
     drop(client);

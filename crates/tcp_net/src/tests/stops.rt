@@ -18,7 +18,7 @@ use std::{io, thread};
 fn quick_net(rt: HostRuntime, links: u64) -> io::Result<BoundNet> {
     let times = stop_times(50, 300);
     bind(
-        TcpNet::with_times(rt.alloc(), rt, settings(0), times)?,
+        TcpNet::with_times(rt.alloc(), rt, settings(rt, 0)?, times)?,
         links,
     )
 }

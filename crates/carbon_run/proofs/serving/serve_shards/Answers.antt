@@ -11,7 +11,7 @@ pub serve_parts-requires-clause-fresh : goal.serve_parts-requires-clause-fresh
 serve_parts-requires-clause-fresh g c κs within =
     let shards = c.args.started.shards.items in
     let all : length (c.in-Ok-new.crew.served ++ c.in-Ok-new.crew.own ∷ []) ≡ passes_for c.args.options =
-    ap (λ passes. length passes) c.in-Ok-new.ensures ∙ omega (arith, c.passes_for.ensures, c.in-Ok.ensures.passes.0, c.in-Ok.passes.ok.0) in record {
+    ap (λ passes. length passes) c.in-Ok-new.ensures.all ∙ omega (arith, c.passes_for.ensures, c.in-Ok.ensures.passes.0, c.in-Ok.passes.ok.0) in record {
       same = refl;
       new = subst (λ (passes : ℕ). IsNewOrder passes 16 c.in-Ok.order) (c.passes_for.ensures ∙ sym all) c.in-Ok.ensures.order;
       sixteen_tails = omega (arith, c.in-Ok.ensures.tails.0, c.in-Ok.tails.ok.0);
@@ -24,6 +24,6 @@ serve_parts-requires-clause-fresh g c κs within =
 
 pub serve_parts-requires-clause-crew : goal.serve_parts-requires-clause-crew
 serve_parts-requires-clause-crew g c κs within = record {
-  new = subst (λ passes. AreNewPasses c.in-Ok.order.table passes) (sym c.in-Ok-new.ensures) c.in-Ok.ensures.passes.1;
+  new = subst (λ passes. AreNewPasses c.in-Ok.order.table passes) (sym c.in-Ok-new.ensures.all) c.in-Ok.ensures.passes.1;
   all = refl;
 }

@@ -7,8 +7,8 @@ none_left : (xs rest : List PassValue) (x : PassValue) → length xs ≡ 1 → x
 none_left xs [] x one same = refl
 none_left xs (y ∷ rest) x one same = absurd (omega (arith, one, ap (λ (ys : List PassValue). length ys) same, length-append rest (x ∷ [])))
 
-pub put_lines-requires : goal.put_lines-requires
-put_lines-requires g c =
+pub new-pass-requires : goal.new-pass-requires
+new-pass-requires g c =
     let none : c.pop.new.self.items ≡ [] = none_left c.args.passes.items c.pop.new.self.items c.in-Some.pass (omega (arith, c.args.passes.ok.0, c.requires.one)) c.in-Some.ensures.items in
     let one : c.args.passes.items ≡ c.in-Some.pass ∷ [] = c.in-Some.ensures.items ∙ ap (λ (ps : List PassValue). ps ++ c.in-Some.pass ∷ []) none in
     (c.requires.new 0 c.in-Some.pass (ap (λ (ps : List PassValue). slice_get ps 0) one)).same

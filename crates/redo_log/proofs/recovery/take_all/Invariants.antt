@@ -1,6 +1,6 @@
 -- The recovery is on its way.
 use Rattle.std.proofs.Common.{IsSomeAnd}
-use Rattle.redo_log.proofs.LayLemmas.{steps_left}
+use Rattle.redo_log.specs.Count.{steps_left}
 use Rattle.redo_log.proofs.UnderwayLemmas.{Underway}
 use Rattle.redo_log.proofs.recovery.take_all.Given as goal
 

@@ -1,4 +1,4 @@
-use Rattle.std.proofs.Common.{rules, ◌≡◌, ◌∙◌, ℕ, Bool, true, false, List, length, Some, slice_get, sym, subst, arith}
+use Rattle.std.proofs.Common.{rules, ◌≡◌, ℕ, Bool, true, false, List, length, Some, slice_get, sym, subst, arith}
 use Rattle.std.specs.Prelude.{slice_index_or}
 use Rattle.metric_line.specs.declared.datum.Datum.{Datum}
 use Rattle.shared_store.specs.Pieces.{CountsPut}
@@ -10,9 +10,6 @@ put_held-put-requires-clause-desks g c =
     let classes : List ℕ = c.args.classes.now in
     let i : ℕ = c.loop-i.i in
     (c.loop-i.invariant.sixteen, λ d within. c.loop-i.invariant.held (slice_index_or classes i 0) d within (stands_among c.args.points.now classes i c.requires.classes c.loop-i-test.true))
-
-pub put_held-put-requires-clause-one : goal.put_held-put-requires-clause-one
-put_held-put-requires-clause-one g c = c.loop-i.invariant.puts.enters.table ∙ c.requires.one
 
 pub put_held-put-requires-clause-room : goal.put_held-put-requires-clause-room
 put_held-put-requires-clause-room g c =

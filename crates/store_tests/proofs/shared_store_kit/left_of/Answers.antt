@@ -6,4 +6,4 @@ use Rattle.store_tests.proofs.shared_store_kit.left_of.Goals as goal
 pub loop-worker-preserved : goal.loop-worker-preserved
 loop-worker-preserved g c =
     subst (λ (passes : List PassValue). PassesOfTable g.N.Named.table passes) (sym c.in_ok-push.ensures.items)
-    (passes_more g.N.Named.table c.loop-worker.passes.items c.worker.inside.pass c.loop-worker.invariant c.worker.invariant)
+    (passes_more g.N.Named.table c.loop-worker.passes.items c.into_pass.result c.loop-worker.invariant c.into_pass.ensures.one)

@@ -14,11 +14,11 @@ add_workers-requires-clause-ready g c =
 pub returns-clause-musters : goal.returns-clause-musters
 returns-clause-musters g c =
     let first : MusterValue =
-    record { served = c.self.inside.places.items; own = c.self.inside.own; is_spent = false; places = vec_capacity c.self.inside.places - vec_len c.self.inside.places } in
+    record { served = c.self.inside.places.items; own = c.new.result; is_spent = false; places = vec_capacity c.self.inside.places - vec_len c.self.inside.places } in
     let none : c.self.inside.places.items ≡ [] = none_there c.self.inside.places.items (omega (arith, c.self.invariant.1.0, c.self.inside.places.ok.0)) in
     subst (λ (crew : CrewValue). Musters crew.served crew.own c.add_workers.new.self) c.self.view_is
-    (mustered (in_order c.self.inside.workers.items) c.self.inside.own first c.add_workers.new.self none refl refl c.add_workers.ensures)
+    (mustered (in_order c.self.inside.workers.items) c.self.inside.own first c.add_workers.new.self none c.new.ensures refl c.add_workers.ensures)
 
 pub returns-clause-places : goal.returns-clause-places
 returns-clause-places g c =
-    omega (arith, c.add_workers.ensures.places, reversed_few c.self.inside.workers.items, c.self.invariant.1.0, c.self.invariant.1.1, c.self.inside.workers.ok.0)
+    omega (arith, c.add_workers.ensures.places, reversed_few c.self.inside.workers.items, c.self.invariant.1.0, c.self.invariant.1.1.0, c.self.inside.workers.ok.0)

@@ -1,4 +1,4 @@
-use Rattle.std.proofs.Common.{◌∙◌, [], ◌∷◌, List, subst, arith}
+use Rattle.std.proofs.Common.{[], ◌∷◌, List, subst, arith}
 use Rattle.std.specs.Prelude.{All}
 use Rattle.carbon_serve.specs.Workers.{IsReady}
 use Rattle.carbon_serve.specs.declared.workers.Worker.{Worker}
@@ -11,7 +11,6 @@ loop-worker-preserved g c =
     let v = c.loop-worker.invariant in record {
       ready = all_front (IsReady g.N.Named.table) c.pop.new.self.items (c.in-Some.worker ∷ [])
           (subst (λ (workers : List Worker). All (IsReady g.N.Named.table) workers) c.in-Some.ensures.items v.ready);
-      own = c.add_worker.ensures.own.table ∙ v.own;
       places = omega (arith, v.places, c.add_worker.ensures.places, one_at_most c.in-Some.worker.pass, c.in-Some.ensures.cases);
       behind = behind_more c.loop-worker.workers.items c.pop.new.self.items c.args.workers.items c.in-Some.worker c.args.self.now c.loop-worker.self c.add_worker.new.self
           c.in-Some.ensures.items v.behind c.add_worker.ensures;

@@ -1,4 +1,4 @@
-use Rattle.std.proofs.Common.{◌≡◌, ◌≢◌, ◌∙◌, ℕ, Option, None, Some, sym, ap, subst}
+use Rattle.std.proofs.Common.{◌≡◌, ◌≢◌, ◌∙◌, Option, None, Some, ap, subst}
 use Rattle.shared_history.specs.Parts.{PassValue}
 use Rattle.carbon_serve.specs.Paces.{IsFree}
 use Rattle.carbon_serve.specs.Rounds.{TriesClass}

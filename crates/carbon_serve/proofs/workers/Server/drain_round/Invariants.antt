@@ -1,10 +1,11 @@
-use Rattle.std.proofs.Common.{◌≡◌, ◌<◌}
+use Rattle.std.proofs.Common.{◌<◌}
+use Rattle.carbon_serve.specs.Deeds.{DrainsOnly}
 use Rattle.carbon_serve.specs.Workers.{Works}
 use Rattle.carbon_serve.proofs.workers.Server.drain_round.Given as goal
 
 abbrev pub invariant-loop-turn : goal.invariant-loop-turn
 invariant-loop-turn g l = record {
   class : l.class < 16;
-  one : l.pass.table ≡ g.N.Named.table;
   works : Works (g.C.Clock.moments l.fn.self.clock.now) g.N.Named.start l.fn.pass l.pass;
+  only : DrainsOnly (g.C.Clock.moments l.fn.self.clock.now) l.fn.pass l.pass;
 }

@@ -8,6 +8,7 @@ use Rattle.shard_core.specs.Stepping.{IsAsBefore, IsNext}
 use Rattle.shard_core.specs.declared.next_metric.NextMetric.{NextMetric}
 use Rattle.shared_store.specs.Desks.{KeepsClass}
 use Rattle.shared_store.specs.Locks.{HoldsDesk, KeepsDesk}
+use Rattle.shared_store.specs.Steps.{PlansAs}
 use Rattle.shared_store.proofs.class_files.ClassFiles.plan_apart.Goals as goal
 use Rattle.shared_store.proofs.BothLemmas.{both_halves, both_keep}
 use Rattle.shared_store.proofs.DeskPutLemmas.{desk_part}
@@ -195,3 +196,9 @@ invariant_of-self-in-None g c =
     (same_files files there (c.in-None.ensures.keeps.halves.one ∙ (c.in-None.ensures.keeps.same.class ∙ sym here)) before.shelf
     (ap (λ x. g.D.Disk.image x) c.in-None.ensures.disk ∙ ap (λ (x : FilesInside). x.known) same))
     (c.meet-2.ensures.files ∙ c.meet.ensures.files) more c.self.invariant
+
+pub returns-in-Err-clause-plans : goal.returns-in-Err-clause-plans
+returns-in-Err-clause-plans g c =
+    let n = g.N.Named in
+    let self_class : c.self.inside.files.class ≡ c.args.self.now.class = search rules in
+    subst (λ (k : ℕ). PlansAs n.start n.passes k c.args.now c.refuse_with.result c.args.pass.now c.refuse_with.new.pass) self_class (c.refuse_with.ensures.plans c.args.now)

@@ -1,7 +1,7 @@
 use Rattle.std.proofs.Common.{◌≡◌, length}
 use Rattle.shared_store.specs.Asking.{OnlyLooks}
 use Rattle.shared_store.specs.Known.{AreInOrder, KnowsBy, lists_of}
-use Rattle.shared_store.proofs.store.Store.names_for.Given as goal
+use Rattle.shared_store.proofs.store.Store.learn_names.Given as goal
 
 abbrev pub invariant-loop-class : goal.invariant-loop-class
 invariant-loop-class g l = record {

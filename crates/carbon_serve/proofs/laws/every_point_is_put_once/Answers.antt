@@ -1,0 +1,12 @@
+use Rattle.std.proofs.Common.{List, ap}
+use Rattle.carbon_history.specs.declared.entry.Entry.{Entry}
+use Rattle.carbon_history.specs.Entries.{of_pass}
+use Rattle.http_front.specs.Origin.{origin_of}
+use Rattle.carbon_serve.specs.Deeds.{telling}
+use Rattle.carbon_serve.proofs.PutLemmas.{all_puts}
+use Rattle.carbon_serve.proofs.laws.every_point_is_put_once.Goals as goal
+
+pub returns : goal.returns
+returns g c clock duties number history course served turns =
+    all_puts (telling g.E.L.Source g.E.L.Sink) (origin_of g.C.Clock g.N.Named clock) number served course.fresh course.pass (of_pass number history) course.new.place
+    (ap (λ (es : List Entry). of_pass course.fresh.number es) course.new.seen) course.own turns

@@ -1,0 +1,63 @@
+-- What a crash leaves at the moments of arming.
+use Rattle.std.proofs.Common.{◌≡◌, ◌∙◌, inl, inr, ℕ, List, Option, None, Some, IfSome, refl, sym, subst}
+use Rattle.outside_io.specs.Crash.{Crashes, LeavesOnly, OnlyKnown}
+use Rattle.outside_io.specs.Image.{Image, ChangesOnly, Creates, SameImage, WhereKnown}
+use Rattle.outside_io.specs.declared.disk.Disk.{Ghosts as DiskGhosts}
+use Rattle.redo_log.specs.Arm.{IsShut, LeavesNothing, LeavesWithin, MayChange}
+use Rattle.redo_log.specs.Steps.{gate_name, log_name}
+use Rattle.redo_log.proofs.MomentLemmas.{leaves_both, leaves_more, within}
+use Rattle.redo_log.proofs.StepLemmas.{gate_is_no_log, log_is_no_gate}
+
+-- ---- one file
+
+-- it is created
+pub made_first : {D : Type 0} (d : DiskGhosts D) (a b : D) (name : List ℕ) → Crashes d.may_leave d.moment d.left_since (λ x y. ChangesOnly x y name) a b → LeavesOnly d.moment d.left_since a b (MayChange (d.may_leave a) name)
+made_first d a b name crash =
+    within d.moment d.left_since a b (MayChange (d.may_leave a) name) (d.may_leave a) (d.may_leave b) (d.only_now a) crash.time (λ left was. (left, was, λ other apart. refl)) crash.follows
+
+-- and brought to the device
+pub made_synced : {D : Type 0} (d : DiskGhosts D) (a b c : D) (name : List ℕ) → Crashes d.may_leave d.moment d.left_since (λ x y. ChangesOnly x y name) a b → Crashes d.may_leave d.moment d.left_since SameImage b c
+    → LeavesOnly d.moment d.left_since a c (MayChange (d.may_leave a) name)
+made_synced d a b c name crash synced =
+    leaves_both d.moment d.left_since a b c (MayChange (d.may_leave a) name) (made_first d a b name crash)
+    (within d.moment d.left_since b c (MayChange (d.may_leave a) name) (d.may_leave b) (d.may_leave c) (d.only_now b) synced.time crash.follows
+    (λ left may. let step = synced.follows left may in let before = crash.follows step.0 step.1 in (before.0, before.1, λ other apart. step.2 other ∙ before.2 other apart)))
+
+-- ---- both files
+
+shut_by : (held now : Option (List ℕ)) → now ≡ held → IsShut held → IsShut now
+shut_by held now same shut = subst IsShut (sym same) shut
+
+-- the log is being made
+log_within : (image before left : Image) → IsShut (image gate_name) → SameImage image before → ChangesOnly before left log_name → LeavesNothing image left
+log_within image before left shut same only = record {
+  nothing = inl (shut_by (image gate_name) (left gate_name) (only gate_name gate_is_no_log ∙ same gate_name) shut);
+  rings = λ name no_log no_gate. only name no_log ∙ same name;
+}
+
+-- the gate is being made
+gate_within : (image mid before left : Image) → Creates image mid log_name 16 → SameImage mid before → ChangesOnly before left gate_name → LeavesNothing image left
+gate_within image mid before left made same only = record {
+  nothing = inr (only log_name log_is_no_gate ∙ same log_name ∙ made.0);
+  rings = λ name no_log no_gate. only name no_gate ∙ same name ∙ made.1 name no_log;
+}
+
+log_known : (a : Option Image) (may_leave : Image → Type 0) (left : Image) → IfSome a (λ image. IsShut (image gate_name)) → OnlyKnown a may_leave → MayChange may_leave log_name left → LeavesWithin a left
+log_known None may_leave left shut only change = tt
+log_known (Some image) may_leave left shut only change = log_within image change.0 left shut (only change.0 change.1) change.2
+
+gate_known : (a b : Option Image) (may_leave : Image → Type 0) (left : Image) → WhereKnown a b (λ x y. Creates x y log_name 16) → OnlyKnown b may_leave → MayChange may_leave gate_name left → LeavesWithin a left
+gate_known None b may_leave left made only change = tt
+gate_known (Some image) None may_leave left made only change = absurd made
+gate_known (Some image) (Some mid) may_leave left made only change = gate_within image mid change.0 left made (only change.0 change.1) change.2
+
+pub files_first : {D : Type 0} (d : DiskGhosts D) (a b : D) → IfSome (d.image a) (λ image. IsShut (image gate_name)) → OnlyKnown (d.image a) (d.may_leave a) → LeavesOnly d.moment d.left_since a b (MayChange (d.may_leave a) log_name)
+    → LeavesOnly d.moment d.left_since a b (LeavesWithin (d.image a))
+files_first d a b shut only leaves = leaves_more d.moment d.left_since a b (MayChange (d.may_leave a) log_name) (LeavesWithin (d.image a)) (λ left change. log_known (d.image a) (d.may_leave a) left shut only change) leaves
+
+pub files_both : {D : Type 0} (d : DiskGhosts D) (a b c : D) → IfSome (d.image a) (λ image. IsShut (image gate_name)) → OnlyKnown (d.image a) (d.may_leave a) → LeavesOnly d.moment d.left_since a b (MayChange (d.may_leave a) log_name)
+    → WhereKnown (d.image a) (d.image b) (λ x y. Creates x y log_name 16) → OnlyKnown (d.image b) (d.may_leave b) → LeavesOnly d.moment d.left_since b c (MayChange (d.may_leave b) gate_name)
+    → LeavesOnly d.moment d.left_since a c (LeavesWithin (d.image a))
+files_both d a b c shut only first made durable second =
+    leaves_both d.moment d.left_since a b c (LeavesWithin (d.image a)) (files_first d a b shut only first)
+    (leaves_more d.moment d.left_since b c (MayChange (d.may_leave b) gate_name) (LeavesWithin (d.image a)) (λ left change. gate_known (d.image a) (d.image b) (d.may_leave b) left made durable change) second)
