@@ -498,6 +498,9 @@ Files:
                       The archives of new metrics. Read at the start.
   conf/storage-aggregation.conf
                       Their methods and factors. Read at the start.
+  conf/aggregation-rules.conf
+                      What `serve` makes of points as they come. Read at its
+                      start.
   data                The ring files, data/CLASS/NAME.ring.
 
 Environment:

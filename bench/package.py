@@ -37,6 +37,7 @@ usr/lib/systemd/system/carbon.service
 usr/share/doc/carbon/FORMATS.md
 usr/share/doc/carbon/OPERATING.md
 usr/share/doc/carbon/README.md
+usr/share/doc/carbon/examples/aggregation-rules.conf
 usr/share/doc/carbon/examples/collectd.conf
 usr/share/doc/carbon/examples/import_whisper.py
 usr/share/man/man1/carbon.1.gz

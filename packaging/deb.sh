@@ -70,7 +70,9 @@ put_files() {
     for name in README.md docs/OPERATING.md docs/FORMATS.md; do
         put 644 "$top/$name" "/usr/share/doc/carbon/${name##*/}"
     done
-    put 644 "$top/examples/collectd.conf" /usr/share/doc/carbon/examples/collectd.conf
+    for name in collectd.conf aggregation-rules.conf; do
+        put 644 "$top/examples/$name" "/usr/share/doc/carbon/examples/$name"
+    done
     put 755 "$top/examples/import_whisper.py" /usr/share/doc/carbon/examples/import_whisper.py
 }
 

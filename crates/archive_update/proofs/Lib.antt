@@ -11,3 +11,5 @@ pub mod WindowLemmas
 pub mod NearLemmas
 pub mod KnownLemmas
 pub mod CarryLemmas
+pub mod RisingLemmas
+pub mod BucketLemmas

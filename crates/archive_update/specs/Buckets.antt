@@ -22,3 +22,9 @@ abbrev pub with_latest : List (ℕ × ℤ) → ℕ × ℤ → List (ℕ × ℤ)
 with_latest [] w = w ∷ []
 with_latest (x ∷ []) w = if x.0 == w.0 then w ∷ [] else x ∷ w ∷ []
 with_latest (x ∷ y ∷ rest) w = x ∷ with_latest (y ∷ rest) w
+
+-- buckets with a later one, unless it is the last of them
+abbrev pub with_bucket : List ℕ → ℕ → List ℕ
+with_bucket [] bucket = bucket ∷ []
+with_bucket (x ∷ []) bucket = if bucket == x then x ∷ [] else x ∷ bucket ∷ []
+with_bucket (x ∷ y ∷ rest) bucket = x ∷ with_bucket (y ∷ rest) bucket

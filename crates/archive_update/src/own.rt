@@ -1,6 +1,7 @@
 //! What points write into their own archive.
 ghost use Rattle.std.specs.Prelude.{◌≡◌, ◌<◌, ◌≤◌, ◌-◌, true, All, IfOk, OnOk, length};
 ghost use Rattle.fixed_num.specs.Moment.{is_moment};
+ghost use Rattle.point_cache.specs.Points.{IsRising};
 ghost use Rattle.archive_update.specs.Batch.{bucket_of, bucket_writes, step_of};
 ghost use Rattle.archive_update.specs.Buckets.{IsOwn, with_latest};
 ghost use Rattle.archive_update.specs.Spans.{IsOldestOf};
@@ -21,6 +22,7 @@ pub(crate) fn bucket_writes(
     points: &[(u32, Milli)],
 ) -> Result<Vec<(u32, Milli)>, AllocError>
     requires archive { archive < length layout.now.archives }
+    requires rising { IsRising points.now }
     requires moments { All (λ p. is_moment p.0 ≡ true) points.now }
     ensures writes { IfOk result
         (λ writes. writes.items ≡ bucket_writes layout.now.archives now archive points.now) }
@@ -30,6 +32,9 @@ pub(crate) fn bucket_writes(
 {
     let step = layout.archive(archive).step;
     let span = HomeSpan::new(layout.archives(), archive as usize, now);
+    if !span.meets(points) {
+        return Ok(Vec::new(alloc));
+    }
     let mut writes = Vec::with_capacity(alloc, points.len())?;
     for point in points {
         if span.holds(point.0) {
@@ -70,7 +75,8 @@ struct HomeSpan {
 }
 
 impl HomeSpan {
-    ghost use Rattle.std.specs.Prelude.{◌≡◌, ◌<◌, ◌^◌, ℕ, length};
+    ghost use Rattle.std.specs.Prelude.{◌≡◌, ◌<◌, ◌^◌, ℕ, false, All, length};
+    ghost use Rattle.point_cache.specs.Points.{IsRising};
     ghost use Rattle.archive_update.specs.Batch.{archive_for, is_home};
     ghost use Rattle.archive_update.specs.Spans.{is_within};
 
@@ -84,6 +90,17 @@ impl HomeSpan {
             since: oldest_reached(archives[archive], now),
             until: oldest_of_finer(archives, archive, now),
         }
+    }
+
+    // Whether points in rising time may have one of its times: not where all are later, or all earlier.
+    fn meets(self, points: &[(u32, Milli)]) -> bool
+        requires { IsRising points.now }
+        ensures { result ≡ false → All (λ p. is_within p.0 self ≡ false) points.now }
+    {
+        let count = points.len();
+        count > 0
+            && u64::from(points[0].0) < self.until
+            && self.since <= u64::from(points[count - 1].0)
     }
 
     fn holds(self, time: u32) -> bool

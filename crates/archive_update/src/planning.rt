@@ -73,6 +73,7 @@ fn plan_all<D: Disk>(
     now: u32,
 ) -> Result<(), RingFault>
     requires layout { patch.old.layout ≡ view.now.layout }
+    requires rising { IsRising points.now }
     requires moments { All (λ p. is_moment p.0 ≡ true) points.now }
     requires file { IsThere view.now patch.old.fresh (D.image disk.old) }
     ensures plans { OnOk result
@@ -106,6 +107,7 @@ fn plan_archive<D: Disk>(
 ) -> Result<(), RingFault>
     requires layout { patch.old.layout ≡ view.now.layout }
     requires archive { archive < length view.now.layout.archives }
+    requires rising { IsRising points.now }
     requires moments { All (λ p. is_moment p.0 ≡ true) points.now }
     requires file { IsThere view.now patch.old.fresh (D.image disk.old) }
     ensures plans { OnOk result

@@ -5,7 +5,7 @@ ghost use Rattle.outside_io.specs.Frames.{ReadsOnly};
 ghost use Rattle.ring_archive.specs.Ring.{ReadsAs, Rings};
 ghost use Rattle.ring_archive.specs.View.{IsBased, IsThere, OnRing};
 ghost use Rattle.archive_update.specs.Batch.{bucket_of, buckets_of_writes, itself, level_writes, rolled_from, step_of, value_from_finer};
-ghost use Rattle.archive_update.specs.Buckets.{AreShown, IsOwn, IsShown};
+ghost use Rattle.archive_update.specs.Buckets.{AreShown, IsOwn, IsShown, with_bucket};
 ghost use Rattle.archive_update.specs.Laid.{IsAlike};
 ghost use Rattle.archive_update.specs.Rolled.{AreNear, HasCoarser, HoldsWindow, IsFiner, IsInWindow, IsRead, IsReached, Level, RollsUp, rolled_write, known_from, most_values, places_in};
 
@@ -119,20 +119,34 @@ fn coarse_buckets(
         (λ buckets. All (IsShown (step_of layout.now.archives archive)) buckets.items) }
 {
     let step = layout.archive(archive).step;
-    let mut buckets = buckets_with(alloc, step, own)?;
-    buckets.dedup();
+    let mut buckets = Vec::with_capacity(alloc, own.len())?;
+    for write in own {
+        put_bucket(&mut buckets, step, write.0)?;
+    }
     Ok(buckets)
 }
 
-// The bucket of each write.
-fn buckets_with(alloc: Global, step: u32, own: &[(u32, Milli)]) -> Result<Vec<u32>, AllocError>
-    requires { 0 < step }
-    ensures { IfOk result
-        (λ buckets. buckets.items ≡ map (λ write. bucket_of step write.0) own.now) }
+// Puts the bucket of a time behind others, unless it is the last of them.
+fn put_bucket(buckets: &mut Vec<u32>, step: u32, time: u32) -> Result<(), AllocError>
+    requires step { 0 < step }
+    requires whole { All (λ bucket. bucket % step ≡ 0) buckets.old.items }
+    ensures { OnOk result (buckets.new.items ≡ with_bucket buckets.old.items (bucket_of step time)) }
 {
-    own.iter()
-        .map(|write| write.0 - write.0 % step)
-        .collect(alloc)
+    let count = buckets.len();
+    if count > 0 && is_in_bucket(buckets[count - 1], step, time) {
+        return Ok(());
+    }
+    buckets.push(time - time % step)?;
+    Ok(())
+}
+
+// Whether a time is in a bucket: most are told without a division.
+fn is_in_bucket(bucket: u32, step: u32, time: u32) -> bool
+    requires step { 0 < step }
+    requires whole { bucket % step ≡ 0 }
+    ensures { IsTrue result ↔ bucket ≡ bucket_of step time }
+{
+    bucket <= time && time - bucket < step
 }
 
 // What these buckets of the archive behind `finer` get from it.

@@ -5,7 +5,7 @@ use crate::command::{DiskSetting, Setting};
 use crate::disk_case::{DiskCase, kept};
 use crate::fault::CaseFault;
 use crate::text::{first_word, number, numbers, unescaped};
-use outside_io::{MemDisk, MemSink, MemSource};
+use outside_io::{MemDisk, MemLink, MemSink, MemSource};
 use std::alloc::{AllocError, Global};
 
 /// How many classes there are, each with a disk of its own.
@@ -25,6 +25,8 @@ pub struct Case {
     failing_reads: Vec<u64>,
     most_written: u64,
     failing_writes: Vec<u64>,
+    // what connections of metric lines bring
+    links: Vec<Vec<u8>>,
     /// The folder of the rule files.
     pub conf: DiskCase,
     disks: Vec<DiskCase>,
@@ -33,7 +35,7 @@ pub struct Case {
 impl Case {
     ghost use Rattle.std.specs.Prelude.{◌≡◌, IfOk, vec_len};
 
-    /// The word `script`, no input and no files; and nothing fails.
+    /// The word `script`, no input, no connections and no files; and nothing fails.
     pub fn new(alloc: Global) -> Result<Case, AllocError> {
         Ok(Case {
             words: words_of(alloc, "script")?,
@@ -44,6 +46,7 @@ impl Case {
             failing_reads: Vec::new(alloc),
             most_written: u64::MAX,
             failing_writes: Vec::new(alloc),
+            links: Vec::new(alloc),
             conf: DiskCase::new(alloc),
             disks: empty_disks(alloc)?,
         })
@@ -63,6 +66,7 @@ impl Case {
             Setting::FailRead => self.failing_reads = numbers(alloc, text)?,
             Setting::MostWritten => self.most_written = number(text)?,
             Setting::FailWrite => self.failing_writes = numbers(alloc, text)?,
+            Setting::Link => self.add_link(alloc, text)?,
         }
         Ok(())
     }
@@ -107,6 +111,12 @@ impl Case {
         Ok(())
     }
 
+    fn add_link(&mut self, alloc: Global, text: &str) -> Result<(), CaseFault> {
+        let bytes = unescaped(alloc, text)?;
+        self.links.push(bytes)?;
+        Ok(())
+    }
+
     fn put_rules(&mut self, alloc: Global, name: &str, text: &str) -> Result<(), CaseFault> {
         let bytes = unescaped(alloc, text)?;
         self.conf.put(alloc, name, bytes)?;
@@ -148,6 +158,15 @@ impl Case {
         Ok(sink.at_most(self.most_written as usize))
     }
 
+    /// The connections of metric lines for a run.
+    pub fn links(&self, alloc: Global) -> Result<Vec<MemLink>, AllocError> {
+        let mut links = Vec::new(alloc);
+        for bytes in &self.links {
+            links.push(link_of(alloc, bytes.clone()?))?;
+        }
+        Ok(links)
+    }
+
     /// The disks for a run.
     pub fn disks(&self, alloc: Global) -> Result<Vec<MemDisk>, AllocError>
         ensures { IfOk result (λ disks. vec_len disks ≡ 16) }
@@ -164,6 +183,14 @@ impl Case {
             Some(disk) => disk.disk(alloc),
             None => Ok(MemDisk::new(alloc, 0)),
         }
+    }
+}
+
+// A connection that brings these bytes and is closed then.
+fn link_of(alloc: Global, bytes: Vec<u8>) -> MemLink {
+    MemLink {
+        source: MemSource::new(alloc, bytes),
+        sink: MemSink::new(alloc),
     }
 }
 

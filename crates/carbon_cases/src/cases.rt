@@ -32,7 +32,7 @@ impl Cases {
     /// Does a line, and writes what it tells.
     pub fn take(
         &mut self,
-        rt: &(impl Threads + Wait + Sync),
+        rt: &(impl Threads + Wait + Copy + Send + Sync + Drop),
         alloc: Global,
         line: &str,
         page: &mut String,
@@ -74,7 +74,7 @@ impl Cases {
 
     fn run(
         &mut self,
-        rt: &(impl Threads + Wait + Sync),
+        rt: &(impl Threads + Wait + Copy + Send + Sync + Drop),
         alloc: Global,
         page: &mut String,
     ) -> Result<(), AllocError> {

@@ -44,6 +44,8 @@ pub enum Setting {
     MostWritten,
     /// The writes that fail.
     FailWrite,
+    /// One more connection of metric lines.
+    Link,
 }
 
 /// What a disk is given.
@@ -87,7 +89,7 @@ pub enum Question {
 // A word and its command.
 struct Row(&'static str, Command);
 
-const ROWS: [Row; 29] = [
+const ROWS: [Row; 30] = [
     Row("#", Command::Title),
     Row("same", Command::Same),
     Row("keep", Command::Keep),
@@ -103,6 +105,7 @@ const ROWS: [Row; 29] = [
     Row("fail-read", Command::Set(Setting::FailRead)),
     Row("most-written", Command::Set(Setting::MostWritten)),
     Row("fail-write", Command::Set(Setting::FailWrite)),
+    Row("link", Command::Set(Setting::Link)),
     Row("file", Command::SetDisk(DiskSetting::File)),
     Row("zeros", Command::SetDisk(DiskSetting::Zeros)),
     Row("ring", Command::SetDisk(DiskSetting::Ring)),

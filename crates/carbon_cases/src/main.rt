@@ -4,7 +4,7 @@
 //!
 //! | Line | What it does |
 //! |---|---|
-//! | `# TITLE` | begins a case: the word `script`, no input, no files, nothing fails |
+//! | `# TITLE` | begins a case: the word `script`, no input, no connections, no files, nothing fails |
 //! | `same` | directly behind it: the case has what the one before was given |
 //! | `keep` | the disks have the files that the last run left |
 //! | `words WORD..` | the words behind the program's name; `""` is one of no bytes, `_` stands for a blank |
@@ -13,7 +13,8 @@
 //! | `cut N..`, `cut each` | no read goes across these places; one more run for each place |
 //! | `most-read N`, `most-written N` | the most bytes that a read gives and a write takes |
 //! | `fail-read N..`, `fail-write N..` | the reads and the writes that fail, from 1 on |
-//! | `schemas TEXT`, `aggregations TEXT` | the rule files |
+//! | `link TEXT` | one more connection of metric lines, which brings these bytes and is closed |
+//! | `schemas TEXT`, `aggregations TEXT` | the rule files; the aggregation rules are `file conf aggregation-rules.conf TEXT` |
 //! | `file DISK NAME TEXT` | a file beforehand; `DISK` is a class, or `conf` |
 //! | `zeros DISK NAME LEN N..` | a file of zeros, but for numbers of four bytes at its front |
 //! | `ring DISK NAME METHOD FACTOR STEPxPOINTS..` | an empty ring file |
@@ -61,7 +62,7 @@ fn main(rt: HostRuntime) -> io::Result<ExitCode> {
 }
 
 // Does a line and prints what it tells.
-fn take_line<R: Print + Threads + Wait + Sync>(
+fn take_line<R: Print + Threads + Wait + Copy + Send + Sync + Drop>(
     rt: &R,
     alloc: Global,
     cases: &mut Cases,

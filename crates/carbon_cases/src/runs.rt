@@ -3,12 +3,13 @@
 use crate::case::Case;
 use crate::text::write_lines;
 use carbon_run::{Report, run};
-use outside_io::{ClosedNet, FixedClock, MemDisk, MemSink, MemSource};
+use gate_io::MemNet;
+use outside_io::{FixedClock, MemDisk, MemSink, MemSource};
 use std::alloc::{AllocError, Global};
 use std::sync::Wait;
 use std::thread::Threads;
 
-// The moment of the clock, which no command reads.
+// The moment of the clock, at which `serve` alone looks.
 const MOMENT: u64 = 1_700_000_000;
 
 /// A run that has ended.
@@ -26,7 +27,7 @@ pub struct Ran {
 
 /// Runs a case once, with one more cut of its input.
 fn run_once(
-    rt: &(impl Threads + Wait + Sync),
+    rt: &(impl Threads + Wait + Copy + Send + Sync + Drop),
     alloc: Global,
     case: &Case,
     cut: Option<usize>,
@@ -36,6 +37,7 @@ fn run_once(
     let mut out = case.sink(alloc)?;
     let mut conf = case.conf.disk(alloc)?;
     let clock = FixedClock::new(MOMENT);
+    let mut net = MemNet::new(*rt, case.links(alloc)?, Vec::new(alloc));
     let report = run(
         rt,
         alloc,
@@ -45,7 +47,7 @@ fn run_once(
         &mut conf,
         disks,
         &clock,
-        &mut ClosedNet,
+        &mut net,
     );
     Ok(Ran {
         report,
@@ -57,7 +59,7 @@ fn run_once(
 
 /// Runs a case and tells its status and what it wrote.
 pub fn run_case(
-    rt: &(impl Threads + Wait + Sync),
+    rt: &(impl Threads + Wait + Copy + Send + Sync + Drop),
     alloc: Global,
     case: &Case,
     page: &mut String,
@@ -72,7 +74,7 @@ pub fn run_case(
 
 // Runs a case once for each place inside its input, and tells those at which it ends otherwise.
 fn run_cut(
-    rt: &(impl Threads + Wait + Sync),
+    rt: &(impl Threads + Wait + Copy + Send + Sync + Drop),
     alloc: Global,
     case: &Case,
     uncut: &Ran,

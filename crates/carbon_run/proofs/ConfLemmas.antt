@@ -9,9 +9,11 @@ use Rattle.outside_io.specs.Image.{Image, LengthIs, ReadsFile}
 use Rattle.schema_rules.specs.declared.fault.RuleFault.{RuleFault}
 use Rattle.schema_rules.specs.declared.fault.RuleFault.TheVariants.{Fault}
 use Rattle.schema_rules.specs.RulesOf.{RulesValue, aggregations_result, file_sections, most_file_bytes, rules_result, schemas_result}
-use Rattle.carbon_run.specs.Conf.{Answers, IsRefused, ReadsFront, aggregations_name, bytes_of, front_of, rules_in, schemas_name}
+use Rattle.aggregate_rules.specs.RuleTexts.{RuleValue, file_rules}
+use Rattle.aggregate_rules.specs.declared.fault.AggCause.{AggCause}
+use Rattle.carbon_run.specs.Conf.{Answers, AnswersAgg, IsRefused, IsRefusedAgg, ReadsFront, agg_rules_in, agg_rules_name, aggregations_name, bytes_of, front_of, rules_in, schemas_name}
 use Rattle.carbon_run.specs.declared.conf.ConfFault.{ConfFault}
-use Rattle.carbon_run.specs.declared.conf.ConfFault.TheVariants.{DiskFault, Refused, NoMemory}
+use Rattle.carbon_run.specs.declared.conf.ConfFault.TheVariants.{DiskFault, Refused, RefusedAgg, NoMemory}
 
 -- ---- the rules of fronts
 
@@ -32,7 +34,20 @@ pub rules_of_fronts : (schemas aggregations : List ℕ) → rules_result (front_
 unfolding rules_result schemas_result aggregations_result
 rules_of_fronts schemas aggregations = rw (front_sections schemas) (rw (front_sections aggregations) refl)
 
+agg_front_has : (file : List ℕ) → (most_file_bytes < length file) ⊎ (length file ≤ most_file_bytes) → file_rules (front_of file) ≡ file_rules file
+unfolding file_rules front_of
+agg_front_has file (inl long) = rw (lt-ltb most_file_bytes (length file) long) (rw (long_front most_file_bytes file long) refl)
+agg_front_has file (inr fits) = ap file_rules (take_all (most_file_bytes + 1) file (omega (arith, fits)))
+
+-- the aggregation rules of a file's front are those of the file
+pub agg_rules_of_front : (file : List ℕ) → file_rules (front_of file) ≡ file_rules file
+agg_rules_of_front file = agg_front_has file (cases_lt most_file_bytes (length file))
+
 -- ---- the rules of a folder
+
+-- a file that was read by its name
+pub front_named : (known : Option Image) (name wanted bytes : List ℕ) → name ≡ wanted → ReadsFront known name bytes → ReadsFront known wanted bytes
+front_named known name wanted bytes same front = subst (λ (n : List ℕ). ReadsFront known n bytes) same front
 
 pub rules_known : (known now : Option Image) (schemas aggregations : List ℕ) (answer : Result RulesValue RuleFault) → now ≡ known → ReadsFront known schemas_name schemas
     → ReadsFront now aggregations_name aggregations → rules_result schemas aggregations ≡ answer → IfSome known (λ image. rules_in image ≡ answer)
@@ -45,9 +60,25 @@ rules_known (Some image) now schemas aggregations answer same first second read 
 pub refused_known : (fault : ConfFault) (known now : Option Image) (schemas aggregations : List ℕ) → now ≡ known → ReadsFront known schemas_name schemas
     → ReadsFront now aggregations_name aggregations → Answers (rules_result schemas aggregations) fault → IfSome known (IsRefused fault)
 refused_known (Refused file cause) known now schemas aggregations same first second told = rules_known known now schemas aggregations (Err (Fault file cause)) same first second told
+refused_known (RefusedAgg cause) known now schemas aggregations same first second told = absurd told
 refused_known DiskFault known now schemas aggregations same first second told = absurd told
 refused_known NoMemory None now schemas aggregations same first second told = tt
 refused_known NoMemory (Some image) now schemas aggregations same first second told = tt
+
+-- ---- the aggregation rules of a folder
+
+pub agg_rules_known : (known : Option Image) (text : List ℕ) (answer : Result (List RuleValue) AggCause) → ReadsFront known agg_rules_name text
+    → file_rules text ≡ answer → IfSome known (λ image. agg_rules_in image ≡ answer)
+agg_rules_known None text answer front read = tt
+agg_rules_known (Some image) text answer front read = sym (agg_rules_of_front (bytes_of image agg_rules_name)) ∙ rw (sym front) read
+
+pub agg_refused_known : (fault : ConfFault) (known : Option Image) (text : List ℕ) → ReadsFront known agg_rules_name text → AnswersAgg (file_rules text) fault
+    → IfSome known (IsRefusedAgg fault)
+agg_refused_known (Refused file cause) known text front told = absurd told
+agg_refused_known (RefusedAgg cause) known text front told = agg_rules_known known text (Err cause) front told
+agg_refused_known DiskFault known text front told = absurd told
+agg_refused_known NoMemory None text front told = tt
+agg_refused_known NoMemory (Some image) text front told = tt
 
 -- ---- the front of a file
 

@@ -1,3 +1,4 @@
+mod CommandLemmas
 pub mod ConfLemmas
 pub mod FrontLemmas
 pub mod RunLemmas

@@ -24,12 +24,14 @@ use Rattle.carbon_script.specs.Sessions.{Ends, SessionValue}
 use Rattle.carbon_script.specs.declared.serve.ScriptEnd.{ScriptEnd}
 use Rattle.carbon_script.specs.declared.serve.ScriptEnd.TheVariants as end
 use Rattle.carbon_script.specs.declared.serve.Scripted.{Scripted as ServedScript}
+use Rattle.carbon_words.specs.declared.command.Command.{Command}
+use Rattle.carbon_words.specs.declared.command.Command.TheVariants as commands
 use Rattle.carbon_words.specs.declared.reading.WordsFault.{WordsFault}
 use Rattle.carbon_words.specs.declared.reading.WordsFault.TheVariants as words
 use Rattle.carbon_run.specs.Conf.{IsRefused}
 use Rattle.carbon_run.specs.declared.conf.ConfFault.{ConfFault}
 use Rattle.carbon_run.specs.declared.conf.ConfFault.TheVariants as conf
-use Rattle.carbon_run.specs.Texts.{conf_fault_line, damaged_line, disk_fault_line, limit_line, no_memory_line, read_fault_line, rule_fault_line, usage_line}
+use Rattle.carbon_run.specs.Texts.{agg_fault_line, conf_fault_line, damaged_line, disk_fault_line, limit_line, no_memory_line, read_fault_line, rule_fault_line, usage_line}
 
 -- The streams of a run: what is left of the input, and what was written, before it and after it. Before the input may stand a front, whose lines are
 -- served as those of the input are, and what they say is not written.
@@ -88,18 +90,34 @@ TellsWords words.NoMemory answer before after = TellsAlone 8 no_memory_line answ
 -- how a fault of the rule files is told
 abbrev pub TellsConf : ConfFault → ℕ → Option (List ℕ) → Option (List ℕ) → Type 0
 TellsConf (conf.Refused file cause) answer before after = TellsAlone 3 (rule_fault_line file cause) answer before after
+TellsConf (conf.RefusedAgg cause) answer before after = TellsAlone 3 (agg_fault_line cause) answer before after
 TellsConf conf.DiskFault answer before after = TellsAlone 5 conf_fault_line answer before after
 TellsConf conf.NoMemory answer before after = TellsAlone 8 no_memory_line answer before after
 
 abbrev pub IsConfDisk : ConfFault → Type 0
 IsConfDisk (conf.Refused file cause) = ⊥
+IsConfDisk (conf.RefusedAgg cause) = ⊥
 IsConfDisk conf.DiskFault = Unit {0}
 IsConfDisk conf.NoMemory = ⊥
 
+-- a server reads the aggregation rules too, behind the two rule files that every command reads
+abbrev pub ReadsAgg : Command → Type 0
+ReadsAgg (commands.Script said) = ⊥
+ReadsAgg (commands.Sample said more) = ⊥
+ReadsAgg (commands.Serve said more) = Unit {0}
+
+-- the fault is none of the aggregation rules, or the command reads them
+abbrev pub IsFaultFor : Command → ConfFault → Type 0
+IsFaultFor command (conf.Refused file cause) = Unit {0}
+IsFaultFor command (conf.RefusedAgg cause) = ReadsAgg command
+IsFaultFor command conf.DiskFault = Unit {0}
+IsFaultFor command conf.NoMemory = Unit {0}
+
 -- There are no rules: a rule file is refused by its first fault, the folder's count of failed calls rose, or memory ran out. That alone is told,
 -- nothing was put, drained or asked, and the disks and the input are as they were.
-pub record NoRules {D : Type 0} (d : Ghosts D) (folder folder' : D) (streams : Streams) (given : List D) (answer : Answer D) : Type 0 where
+pub record NoRules {D : Type 0} (d : Ghosts D) (command : Command) (folder folder' : D) (streams : Streams) (given : List D) (answer : Answer D) : Type 0 where
   pub fault : ConfFault
+  pub own : IsFaultFor command fault
   pub first : IfSome (d.image folder) (IsRefused fault)
   pub cause : IsConfDisk fault → Rose (d.faults folder) (d.faults folder')
   pub tells : TellsConf fault answer.status streams.written streams.written'

@@ -3,8 +3,10 @@ use Rattle.std.specs.Prelude.{ℕ, List, ◌++◌, codes, decimal}
 use Rattle.schema_rules.specs.declared.fault.RuleFile.{RuleFile}
 use Rattle.schema_rules.specs.declared.fault.RuleCause.{RuleCause}
 use Rattle.schema_rules.specs.declared.fault.RuleCause.TheVariants.{TooLong, Line, BadPattern, BadRetention, BadLayout, BadFactor, BadMethod}
+use Rattle.aggregate_rules.specs.declared.fault.AggCause.{AggCause}
+use Rattle.aggregate_rules.specs.declared.fault.AggCause.TheVariants as agg
 use Rattle.shared_store.specs.declared.tally.Tally.{Tally}
-use Rattle.carbon_run.specs.Conf.{rule_file_name}
+use Rattle.carbon_run.specs.Conf.{agg_rules_name, rule_file_name}
 
 unfoldable pub usage_line : List ℕ
 usage_line = codes "carbon: usage\n"
@@ -107,3 +109,12 @@ cause_text (BadMethod number) = section_text number bad_method
 -- the line of a refused rule file, by its name and the cause
 abbrev pub rule_fault_line : RuleFile → RuleCause → List ℕ
 rule_fault_line file cause = carbon_word ++ (rule_file_name file ++ (cause_text cause ++ codes "\n"))
+
+-- ---- refused aggregation rules
+
+unfoldable pub agg_cause_text : AggCause → List ℕ
+agg_cause_text agg.TooLong = too_long_word
+agg_cause_text (agg.Line number) = line_word ++ decimal number
+
+abbrev pub agg_fault_line : AggCause → List ℕ
+agg_fault_line cause = carbon_word ++ (agg_rules_name ++ (agg_cause_text cause ++ codes "\n"))

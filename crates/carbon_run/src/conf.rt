@@ -1,10 +1,14 @@
-//! Reading the two rule files from the folder of the configuration.
+//! Reading the rule files from the folder of the configuration.
 ghost use Rattle.std.specs.Prelude.{◌≡◌, ◌≤◌, Ok, IfOk, IfErr, IfSome, IsErrOf, length};
 ghost use Rattle.outside_io.specs.Frames.{ReadsOnly};
 ghost use Rattle.schema_rules.specs.RulesOf.{rules_result};
+ghost use Rattle.aggregate_rules.specs.RuleTexts.{file_rules};
 ghost use Rattle.outside_io.specs.Image.{IsWithinFile, ReadsFile};
-ghost use Rattle.carbon_run.specs.Conf.{Answers, IsOfReading, IsRefused, ReadsFront, rule_file_name, rules_in};
+ghost use Rattle.carbon_run.specs.Conf.{AnswersAgg, Answers, IsOfReading, IsOfRules, IsRefused, IsRefusedAgg, ReadsFront, agg_rules_in, agg_rules_name, rule_file_name, rules_in};
+ghost use Rattle.carbon_run.specs.Runs.{IsFaultFor, ReadsAgg};
 
+use aggregate_rules::{AggCause, AggFault, AggRules};
+use carbon_words::Command;
 use outside_io::{Disk, DiskFailed};
 use schema_rules::{RuleCause, RuleFault, RuleFile, Rules};
 use std::alloc::{AllocError, Global};
@@ -22,24 +26,61 @@ pub(crate) enum ConfFault {
     /// A rule file is refused.
     #[error("a rule file is refused")]
     Refused(RuleFile, RuleCause),
+    /// The file of the aggregation rules is refused.
+    #[error("the file of the aggregation rules is refused")]
+    RefusedAgg(AggCause),
     /// There was no memory.
     #[error("there was no memory")]
     NoMemory,
 }
 
-/// Reads `storage-schemas.conf` and `storage-aggregation.conf`, of which an absent one counts as empty. Both are read before
-/// either is judged.
-pub(crate) fn read_rules<D: Disk>(alloc: Global, conf: &mut D) -> Result<Rules, ConfFault>
+/// The rules of a run.
+#[derive(Drop)]
+pub(crate) struct RunRules {
+    /// Which layouts new ring files have.
+    pub rules: Rules,
+    /// What a server gathers of the points that come; of another command none.
+    pub agg_rules: AggRules,
+}
+
+/// Reads the rule files that a command looks at: `storage-schemas.conf` and `storage-aggregation.conf`, and behind them of a
+/// server `aggregation-rules.conf`. An absent one counts as empty.
+pub(crate) fn read_conf<D: Disk>(
+    alloc: Global,
+    conf: &mut D,
+    command: &Command,
+) -> Result<RunRules, ConfFault>
+    ensures rules { IfOk result
+        (λ read. IfSome (D.image conf.old) (λ image. rules_in image ≡ Ok read.rules)) }
+    ensures gathers { IfOk result (λ read. ReadsAgg command.now
+        → IfSome (D.image conf.old) (λ image. agg_rules_in image ≡ Ok read.agg_rules)) }
+    ensures refused { IfErr result (λ fault. IfSome (D.image conf.old) (IsRefused fault)) }
+    ensures own { IfErr result (IsFaultFor command.now) }
+    ensures frame { ReadsOnly D.Disk conf.old conf.new (IsErrOf result ConfFault.DiskFault) }
+{
+    let rules = match read_rules(alloc, conf) {
+        Ok(rules) => rules,
+        Err(fault) => return Err(fault),
+    };
+    match agg_rules_for(alloc, conf, command) {
+        Ok(agg_rules) => return Ok(RunRules { rules, agg_rules }),
+        Err(fault) => return Err(fault),
+    }
+}
+
+// Both files are read before either is judged.
+fn read_rules<D: Disk>(alloc: Global, conf: &mut D) -> Result<Rules, ConfFault>
     ensures rules { IfOk result
         (λ rules. IfSome (D.image conf.old) (λ image. rules_in image ≡ Ok rules)) }
     ensures refused { IfErr result (λ fault. IfSome (D.image conf.old) (IsRefused fault)) }
+    ensures own { IfErr result IsOfRules }
     ensures frame { ReadsOnly D.Disk conf.old conf.new (IsErrOf result ConfFault.DiskFault) }
 {
-    let schemas = match read_front(alloc, conf, RuleFile::Schemas) {
+    let schemas = match read_front(alloc, conf, name_of(RuleFile::Schemas)) {
         Ok(schemas) => schemas,
         Err(fault) => return Err(fault),
     };
-    let aggregations = match read_front(alloc, conf, RuleFile::Aggregations) {
+    let aggregations = match read_front(alloc, conf, name_of(RuleFile::Aggregations)) {
         Ok(aggregations) => aggregations,
         Err(fault) => return Err(fault),
     };
@@ -61,15 +102,69 @@ fn rules_of(alloc: Global, schemas: &[u8], aggregations: &[u8]) -> Result<Rules,
     }
 }
 
+// The aggregation rules for a command: only a server looks at their file.
+fn agg_rules_for<D: Disk>(
+    alloc: Global,
+    conf: &mut D,
+    command: &Command,
+) -> Result<AggRules, ConfFault>
+    ensures gathers { IfOk result (λ rules. ReadsAgg command.now
+        → IfSome (D.image conf.old) (λ image. agg_rules_in image ≡ Ok rules)) }
+    ensures refused { IfErr result (λ fault. IfSome (D.image conf.old) (IsRefusedAgg fault)) }
+    ensures own { IfErr result (IsFaultFor command.now) }
+    ensures frame { ReadsOnly D.Disk conf.old conf.new (IsErrOf result ConfFault.DiskFault) }
+{
+    match command {
+        Command::Script(_) => no_agg_rules(alloc),
+        Command::Sample(_, _) => no_agg_rules(alloc),
+        Command::Serve(_, _) => read_agg_rules(alloc, conf),
+    }
+}
+
+fn no_agg_rules(alloc: Global) -> Result<AggRules, ConfFault>
+    ensures { IfErr result (λ fault. fault ≡ ConfFault.NoMemory) }
+{
+    match AggRules::read(alloc, b"") {
+        Ok(rules) => return Ok(rules),
+        Err(_) => return Err(ConfFault::NoMemory),
+    }
+}
+
+fn read_agg_rules<D: Disk>(alloc: Global, conf: &mut D) -> Result<AggRules, ConfFault>
+    ensures rules { IfOk result
+        (λ rules. IfSome (D.image conf.old) (λ image. agg_rules_in image ≡ Ok rules)) }
+    ensures refused { IfErr result (λ fault. IfSome (D.image conf.old) (IsRefusedAgg fault)) }
+    ensures frame { ReadsOnly D.Disk conf.old conf.new (IsErrOf result ConfFault.DiskFault) }
+{
+    let text = match read_front(alloc, conf, name_of_agg_rules()) {
+        Ok(text) => text,
+        Err(fault) => return Err(fault),
+    };
+    match agg_rules_of(alloc, text.as_slice()) {
+        Ok(rules) => return Ok(rules),
+        Err(fault) => return Err(fault),
+    }
+}
+
+// The aggregation rules of a file of these bytes.
+fn agg_rules_of(alloc: Global, text: &[u8]) -> Result<AggRules, ConfFault>
+    ensures rules { IfOk result (λ rules. file_rules text.now ≡ Ok rules) }
+    ensures fault { IfErr result (AnswersAgg (file_rules text.now)) }
+{
+    match AggRules::read(alloc, text) {
+        Ok(rules) => return Ok(rules),
+        Err(AggFault::Fault(cause)) => return Err(ConfFault::RefusedAgg(cause)),
+        Err(AggFault::NoMemory) => return Err(ConfFault::NoMemory),
+    }
+}
+
 // The bytes of a rule file as far as they tell its rules, none where it is not there. Of a file that is too long no more is
 // read than tells that it is.
-fn read_front<D: Disk>(alloc: Global, conf: &mut D, file: RuleFile) -> Result<Vec<u8>, ConfFault>
-    ensures bytes { IfOk result
-        (λ bytes. ReadsFront (D.image conf.old) (rule_file_name file) bytes.items) }
+fn read_front<D: Disk>(alloc: Global, conf: &mut D, name: &str) -> Result<Vec<u8>, ConfFault>
+    ensures bytes { IfOk result (λ bytes. ReadsFront (D.image conf.old) name.now bytes.items) }
     ensures fault { IfErr result IsOfReading }
     ensures frame { ReadsOnly D.Disk conf.old conf.new (IsErrOf result ConfFault.DiskFault) }
 {
-    let name = name_of(file);
     let size = match conf.length(name) {
         Ok(Some(size)) => size,
         Ok(None) => return Ok(Vec::new(alloc)),
@@ -124,4 +219,13 @@ pub(crate) fn name_of(file: RuleFile) -> &'static str
         RuleFile::Schemas => "storage-schemas.conf",
         RuleFile::Aggregations => "storage-aggregation.conf",
     }
+}
+
+/// The name of the file of the aggregation rules.
+#[tactic(auto, unfolding(crate::specs::Conf::agg_rules_name))]
+pub(crate) fn name_of_agg_rules() -> &'static str
+    ensures value { result.now ≡ agg_rules_name }
+    ensures short { length result.now ≤ 24 }
+{
+    "aggregation-rules.conf"
 }

@@ -3,9 +3,10 @@ ghost use Rattle.std.specs.Io.KnownBytes.{Appends};
 ghost use Rattle.outside_io.specs.Frames.{CountsWrites};
 ghost use Rattle.outside_io.specs.Sink.{AppendsFront};
 ghost use Rattle.carbon_run.specs.Runs.{TellsAlone};
-ghost use Rattle.carbon_run.specs.Texts.{usage_line, read_fault_line, no_memory_line, limit_line, damaged_line, damaged_word, disk_fault_line, disk_fault_word, conf_fault_line, no_port_line, rule_fault_line, tally_line};
+ghost use Rattle.carbon_run.specs.Texts.{usage_line, read_fault_line, no_memory_line, limit_line, agg_fault_line, damaged_line, damaged_word, disk_fault_line, disk_fault_word, conf_fault_line, no_port_line, rule_fault_line, tally_line};
 
 use crate::line::Line;
+use aggregate_rules::AggCause;
 use itoa::Buffer;
 use outside_io::{Sink, WriteFault, write_all};
 use schema_rules::{RuleCause, RuleFile};
@@ -163,6 +164,22 @@ pub(crate) fn tell_rule_fault<K: Sink>(out: &mut K, file: RuleFile, cause: RuleC
         (K.written out.new) }
     ensures writes { CountsWrites K.Sink out.old out.new (result ≡ 7) }
 {
-    let line = Line::of_fault(file, cause);
+    tell_refused(out, &Line::of_fault(file, cause))
+}
+
+/// Tells why the aggregation rules are refused: status 3, or 7 where that could not be written.
+pub(crate) fn tell_agg_fault<K: Sink>(out: &mut K, cause: AggCause) -> u8
+    ensures told { TellsAlone 3 (agg_fault_line cause) result (K.written out.old)
+        (K.written out.new) }
+    ensures writes { CountsWrites K.Sink out.old out.new (result ≡ 7) }
+{
+    tell_refused(out, &Line::of_agg_fault(cause))
+}
+
+// Tells that a file is refused, by this line.
+fn tell_refused<K: Sink>(out: &mut K, line: &Line) -> u8
+    ensures told { TellsAlone 3 line.now result (K.written out.old) (K.written out.new) }
+    ensures writes { CountsWrites K.Sink out.old out.new (result ≡ 7) }
+{
     tell(out, 3, line.text())
 }

@@ -3,14 +3,15 @@ ghost use Rattle.std.specs.Prelude.{◌≡◌, ◌≤◌, ◌+◌, ◌++◌, len
 ghost use Rattle.carbon_run.specs.Texts.{carbon_word, cause_text, section_text};
 ghost use Rattle.carbon_run.specs.Conf.{rule_file_name};
 
-use crate::conf::name_of;
+use crate::conf::{name_of, name_of_agg_rules};
 use crate::line::Line;
+use aggregate_rules::AggCause;
 use schema_rules::{RuleCause, RuleFile};
 
 impl Line {
     ghost use Rattle.std.specs.Prelude.{◌≡◌, ◌≤◌, ◌+◌, ◌++◌, [], length, decimal};
-    ghost use Rattle.carbon_run.specs.Conf.{rule_file_name};
-    ghost use Rattle.carbon_run.specs.Texts.{carbon_word, cause_text, line_word, rule_fault_line, section_text, section_word, too_long_word};
+    ghost use Rattle.carbon_run.specs.Conf.{agg_rules_name, rule_file_name};
+    ghost use Rattle.carbon_run.specs.Texts.{agg_cause_text, agg_fault_line, carbon_word, cause_text, line_word, rule_fault_line, section_text, section_word, too_long_word};
 
     /// The line of a refused rule file, by its name and the cause.
     pub(crate) fn of_fault(file: RuleFile, cause: RuleCause) -> Line
@@ -19,6 +20,17 @@ impl Line {
         let mut line = Line::empty();
         line.push_front(file);
         line.push_cause(cause);
+        line.push(b"\n");
+        line
+    }
+
+    /// The line of refused aggregation rules, by the cause.
+    pub(crate) fn of_agg_fault(cause: AggCause) -> Line
+        ensures { result ≡ agg_fault_line cause }
+    {
+        let mut line = Line::empty();
+        line.push_agg_front();
+        line.push_agg_cause(cause);
         line.push(b"\n");
         line
     }
@@ -32,6 +44,28 @@ impl Line {
     {
         self.push(b"carbon: ");
         self.push(name_of(file).as_bytes());
+    }
+
+    #[tactic(auto, unfolding(crate::specs::Texts::carbon_word))]
+    fn push_agg_front(&mut self)
+        requires { length self.old ≡ 0 }
+        ensures text { self.new ≡ self.old ++ (carbon_word ++ agg_rules_name) }
+        ensures room { length self.new ≤ 32 }
+    {
+        self.push(b"carbon: ");
+        self.push(name_of_agg_rules().as_bytes());
+    }
+
+    #[tactic(auto, unfolding(crate::specs::Texts::agg_cause_text))]
+    fn push_agg_cause(&mut self, cause: AggCause)
+        requires { length self.old ≤ 32 }
+        ensures text { self.new ≡ self.old ++ agg_cause_text cause }
+        ensures room { length self.new ≤ 90 }
+    {
+        match cause {
+            AggCause::TooLong => self.push_too_long(),
+            AggCause::Line(number) => self.push_line_number(number),
+        }
     }
 
     #[tactic(auto, unfolding(crate::specs::Texts::cause_text, crate::specs::Texts::bad_pattern, crate::specs::Texts::bad_retentions, crate::specs::Texts::bad_layout, crate::specs::Texts::bad_factor, crate::specs::Texts::bad_method))]

@@ -16,6 +16,7 @@ ghost use Rattle.carbon_run.specs.Texts.{no_port_line};
 use crate::Report;
 use crate::fault_lines::{tell_disk_fault, tell_limit, tell_no_memory, tell_no_port, tell_tally};
 use crate::scripts::{report_no_memory, tell_refusal};
+use aggregate_rules::AggRules;
 use carbon_serve::{Crew, Duties, Pace, Served, serve};
 use carbon_words::ServeOptions;
 use metric_path::CLASSES;
@@ -42,6 +43,7 @@ pub(crate) fn run_server<
     disks: Vec<D>,
     setup: &Setup,
     options: ServeOptions,
+    agg_rules: &AggRules,
     out: &mut K,
     clock: &C,
     net: &mut E,
@@ -51,7 +53,8 @@ where
     requires disks { vec_len disks ≡ 16 }
     requires workers { HasWorkers options }
     ensures runs { ServeRuns D.Disk E.faults net.old net.new (settings_of setup.now)
-        (staff_of C.Clock E.L.Source E.L.Sink clock.now (duties_of options) (passes_for options))
+        (staff_of C.Clock E.L.Source E.L.Sink clock.now agg_rules.now (duties_of options)
+        (passes_for options))
         (unread (K.written out.old) (K.written out.new)) disks.items
         (answer_of result.status result.history result.disks.items) }
     ensures writes { CountsWrites K.Sink out.old out.new (result.status ≡ 7) }
@@ -59,7 +62,7 @@ where
     ensures net { E.faults net.old ≤ E.faults net.new }
 {
     match start_all(alloc, disks, setup) {
-        Ok(started) => bind_shards(rt, alloc, started, options, out, clock, net),
+        Ok(started) => bind_shards(rt, alloc, started, options, agg_rules, out, clock, net),
         Err(refused) => {
             let status = tell_refusal(&refused.refusal, out);
             Report::without_command(status, refused.disks)
@@ -79,6 +82,7 @@ fn bind_shards<
     alloc: Global,
     started: Started<D>,
     options: ServeOptions,
+    agg_rules: &AggRules,
     out: &mut K,
     clock: &C,
     net: &mut E,
@@ -92,7 +96,8 @@ where
         (unread (K.written out.old) (K.written out.new))
         (answer_of result.status result.history result.disks.items)
         ⊎ ServesShards
-        (staff_of C.Clock E.L.Source E.L.Sink clock.now (duties_of options) (passes_for options))
+        (staff_of C.Clock E.L.Source E.L.Sink clock.now agg_rules.now (duties_of options)
+        (passes_for options))
         (told_at started.shards.items) (opening_of started.shards.items)
         (faults_at started.shards.items) started.shards.items
         (unread (K.written out.old) (K.written out.new))
@@ -102,7 +107,7 @@ where
     ensures net { E.faults net.old ≤ E.faults net.new }
 {
     match net.bind(options.line_port, options.http_port, options.links) {
-        Ok(()) => serve_shards(rt, alloc, started, options, out, clock, net),
+        Ok(()) => serve_shards(rt, alloc, started, options, agg_rules, out, clock, net),
         Err(NetFailed) => report_no_port(started.shards, started.room, out),
     }
 }
@@ -119,6 +124,7 @@ fn serve_shards<
     alloc: Global,
     started: Started<D>,
     options: ServeOptions,
+    agg_rules: &AggRules,
     out: &mut K,
     clock: &C,
     net: &E,
@@ -129,7 +135,8 @@ where
         (faults_at started.shards.items) started.shards.items }
     requires workers { HasWorkers options }
     ensures serves { ServesShards
-        (staff_of C.Clock E.L.Source E.L.Sink clock.now (duties_of options) (passes_for options))
+        (staff_of C.Clock E.L.Source E.L.Sink clock.now agg_rules.now (duties_of options)
+        (passes_for options))
         (told_at started.shards.items) (opening_of started.shards.items)
         (faults_at started.shards.items) started.shards.items
         (unread (K.written out.old) (K.written out.new))
@@ -153,7 +160,7 @@ where
         pairs,
         shards,
     };
-    serve_parts::<Brand, R, D, K, C, E>(rt, alloc, parts, crew, room, out, clock, net)
+    serve_parts::<Brand, R, D, K, C, E>(rt, alloc, parts, crew, agg_rules, room, out, clock, net)
 }
 
 // A pass for each worker, and one for the run itself.
@@ -192,6 +199,7 @@ fn serve_parts<
     alloc: Global,
     parts: Parts<D>,
     crew: Crew,
+    agg_rules: &AggRules,
     room: Vec<D>,
     out: &mut K,
     clock: &C,
@@ -203,7 +211,7 @@ where
     requires crew { IsNewCrew N.table N.passes crew }
     requires room { (vec_len room ≡ 0) × (16 ≤ vec_capacity room) }
     ensures serves { ServesShards
-        (staff_of C.Clock E.L.Source E.L.Sink clock.now crew.duties N.passes)
+        (staff_of C.Clock E.L.Source E.L.Sink clock.now agg_rules.now crew.duties N.passes)
         N.told N.start N.faults parts.shards.items
         (unread (K.written out.old) (K.written out.new))
         (answer_of result.status result.history result.disks.items) }
@@ -211,7 +219,7 @@ where
     ensures all { vec_len result.disks ≡ 16 }
 {
     match Store::<D, N>::start(alloc, parts) {
-        Ok(store) => serve_store(rt, alloc, store, crew, out, clock, net),
+        Ok(store) => serve_store(rt, alloc, store, crew, agg_rules, out, clock, net),
         Err(parts) => report_no_memory(parts.shards, room, out),
     }
 }
@@ -229,6 +237,7 @@ fn serve_store<
     alloc: Global,
     store: Store<D, N>,
     crew: Crew,
+    agg_rules: &AggRules,
     out: &mut K,
     clock: &C,
     net: &E,
@@ -237,14 +246,14 @@ where
     E::L: Drop + Send,
     requires crew { IsNewCrew N.table N.passes crew }
     ensures serves { ServesAll D.Disk
-        (staff_of C.Clock E.L.Source E.L.Sink clock.now crew.duties N.passes)
+        (staff_of C.Clock E.L.Source E.L.Sink clock.now agg_rules.now crew.duties N.passes)
         N.told N.start N.faults
         (unread (K.written out.old) (K.written out.new))
         (answer_of result.status result.history result.disks.items) }
     ensures writes { CountsWrites K.Sink out.old out.new (result.status ≡ 7) }
     ensures all { vec_len result.disks ≡ 16 }
 {
-    let Served { end, closed } = serve(rt, alloc, store, crew, clock, net);
+    let Served { end, closed } = serve(rt, alloc, store, crew, clock, net, agg_rules);
     let Closed {
         history,
         tally,

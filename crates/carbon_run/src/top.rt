@@ -7,8 +7,10 @@ ghost use Rattle.carbon_run.specs.Commands.{Does, Outcome, beside, settings_by};
 ghost use Rattle.carbon_run.specs.Runs.{NoCommand, NoWords, TellsConf, TellsWords, answer_of, streams_of};
 
 use crate::Report;
-use crate::conf::{ConfFault, read_rules};
-use crate::fault_lines::{tell_conf_fault, tell_no_memory, tell_rule_fault, tell_usage};
+use crate::conf::{ConfFault, RunRules, read_conf};
+use crate::fault_lines::{
+    tell_agg_fault, tell_conf_fault, tell_no_memory, tell_rule_fault, tell_usage,
+};
 use crate::samples::run_sample;
 use crate::scripts::run_script;
 use crate::serving::run_server;
@@ -23,12 +25,13 @@ use std::thread::Threads;
 /// Runs carbon: does what the words of the command line say, and answers the program's exit status.
 ///
 /// `words` are those after the program's name, and there is one disk for each of the sixteen classes. Each command first reads the rule files
-/// `storage-schemas.conf` and `storage-aggregation.conf` of the folder `conf`, of which one that is absent counts as empty.
+/// `storage-schemas.conf` and `storage-aggregation.conf` of the folder `conf`, and `serve` behind them `aggregation-rules.conf`. One that is absent
+/// counts as empty.
 ///
 /// | Command | Does |
 /// |---|---|
 /// | `script` | runs the script that stands on the input over the ring files of the disks, and drains all at its end |
-/// | `serve` | binds the ports of the net, puts the metric lines and answers the requests that its links bring, and drains what is pending all the while; once the net is closed it drains all |
+/// | `serve` | binds the ports of the net, puts the metric lines and answers the requests that its links bring, puts what `aggregation-rules.conf` makes of each link's points, and drains what is pending all the while; once the net is closed it drains all |
 /// | `sample START COUNT` | runs, as `script` does, the script of so many metric lines that a generator makes from a start of 0 to 9,999,999,999, and writes what it says from its question on. COUNT is 1 to 1,000,000 |
 ///
 /// Behind the command options may stand, in any order, each once (`--line-host` and `--http-host` up to 16 times), as two words or as `--x=v`:
@@ -50,7 +53,7 @@ use std::thread::Threads;
 /// |---|---|
 /// | 0 | `script` and `sample`: the input was read to its end, and all that the script says was written. `serve`: the net was closed, and `stored S replaced R full F drains D` was written. All points are in the ring files |
 /// | 2 | the words are no command |
-/// | 3 | a rule file is refused: its first fault, and those of the schema file before those of the aggregation file |
+/// | 3 | a rule file is refused: its first fault, and those of the schema file before those of the aggregation file, those of `aggregation-rules.conf` last |
 /// | 4 | a ring file is damaged: the first of the least class, in byte order of its name |
 /// | 5 | a call of a disk failed, in a start or in the drain at the end, or one on the folder `conf` |
 /// | 6 | a read of the input failed |
@@ -109,7 +112,7 @@ where
             return Report::without_command(status, disks);
         }
     };
-    match read_rules(alloc, conf) {
+    match read_conf(alloc, conf, &command) {
         Ok(rules) => run_command(rt, alloc, command, rules, disks, input, out, clock, net),
         Err(fault) => {
             let status = tell_conf(&fault, out);
@@ -130,7 +133,7 @@ fn run_command<
     rt: &R,
     alloc: Global,
     command: Command,
-    rules: Rules,
+    rules: RunRules,
     disks: Vec<D>,
     input: &mut S,
     out: &mut K,
@@ -142,7 +145,7 @@ where
     requires all { vec_len disks ≡ 16 }
     requires sound { IsSound command }
     ensures does { Does D.Disk (beside N.faults (C.moments clock.now)
-        (telling N.L.Source N.L.Sink) net.old net.new) rules command
+        (telling N.L.Source N.L.Sink) net.old net.new) rules.rules rules.agg_rules command
         (streams_of S.Source K.Sink input.old input.new out.old out.new) disks.items
         (answer_of result.status result.history result.disks.items) }
     ensures reads { CountsReads S.Source input.old input.new (result.status ≡ 6) }
@@ -150,6 +153,7 @@ where
     ensures disks { vec_len result.disks ≡ 16 }
     ensures net { N.faults net.old ≤ N.faults net.new }
 {
+    let RunRules { rules, agg_rules } = rules;
     match command {
         Command::Script(options) => {
             run_script(rt, alloc, disks, &setup(rules, options), None, input, out)
@@ -164,6 +168,7 @@ where
                 disks,
                 &setup(rules, options),
                 more,
+                &agg_rules,
                 out,
                 clock,
                 net,
@@ -202,6 +207,7 @@ fn tell_conf<K: Sink>(fault: &ConfFault, out: &mut K) -> u8
 {
     match fault {
         ConfFault::Refused(file, cause) => tell_rule_fault(out, *file, *cause),
+        ConfFault::RefusedAgg(cause) => tell_agg_fault(out, *cause),
         ConfFault::DiskFault => tell_conf_fault(out),
         ConfFault::NoMemory => tell_no_memory(out),
     }

@@ -156,8 +156,8 @@ only_adds own start entries old new only adds = record {
   named = adds.named;
 }
 
-pub only_room : (own : TableId) (start : State) (old new : PassValue) → Adds start [] old new → HasRoom old → HasRoom new
-only_room own start old new adds room =
+pub still_room : (start : State) (old new : PassValue) → Adds start [] old new → HasRoom old → HasRoom new
+still_room start old new adds room =
     subst (λ (es : List Entry). length es + 4 ≤ 2 ^ 48) (sym (λ i. of_pass (adds.number i) (seen_same start old new adds i))) room
 
 pub only_enters : (own : TableId) (start : State) (passes : ℕ) (entries : List Entry) (old new : PassValue) → passes ≡ 1 → IsOnly own start old → Enters start passes entries old new → IsOnly own start new

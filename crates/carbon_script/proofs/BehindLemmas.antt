@@ -56,7 +56,7 @@ pub behind_unread : (told : ℕ → Option Image) (start : State) (front rest le
     → Service (Serves told start) (Stops told start) service.ReadFault front (unheard old) rest (unheard new) → EndsBehind told start end.ReadFault front left before left new before
 behind_unread told start front rest left before old new means served =
     within told start end.ReadFault front rest left before served.0 new served.1.0
-    (all_served told start (opening start) served.0 (unheard old) (unheard new) served.1.1 means)
+    (all_served told start (opening start) served.0 (unheard old) (unheard new) served.1.1.0 means, served.1.1.1)
 
 -- at the limit of an input
 pub behind_limit : (told : ℕ → Option Image) (start : State) (front rest left before : Option (List ℕ)) (old new : SessionValue) → Means start old (opening start)

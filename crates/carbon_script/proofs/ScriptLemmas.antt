@@ -126,8 +126,8 @@ pub ends_unread : (told : ℕ → Option Image) (start : State) (m : Machine) (l
 ends_unread told start m left left' from to means service = record {
   taken = service.0;
   consumed = service.1.0;
-  ends = all_served told start m service.0 from to service.1.1 means;
-  some = some_later told start (lines service.0) from to service.1.1;
+  ends = (all_served told start m service.0 from to service.1.1.0 means, service.1.1.1);
+  some = some_later told start (lines service.0) from to service.1.1.0;
 }
 
 -- the most bytes were taken
@@ -162,6 +162,7 @@ ends_done told start m x left left' from mid to means service finishes some =
             whole = refl;
           };
           means = summed.means;
+          room = summed.room;
           wrote = Appends-more from.written mid.written to.written followed.said (summary_text summed.next) followed.wrote summed.wrote;
         },
         record { ended = service.1.1.1.0; short = service.1.1.1.1 },

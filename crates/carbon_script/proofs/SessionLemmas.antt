@@ -30,7 +30,7 @@ use Rattle.carbon_script.specs.Texts.{bad_command, summary_of}
 use Rattle.carbon_script.specs.declared.counts.Counts.{Counts}
 use Rattle.carbon_script.specs.declared.reply.Shortage.{Shortage}
 use Rattle.carbon_script.specs.declared.reply.Shortage.TheVariants as short
-use Rattle.carbon_script.proofs.AloneLemmas.{all_own, only_adds, only_room}
+use Rattle.carbon_script.proofs.AloneLemmas.{all_own, only_adds, still_room}
 use Rattle.carbon_script.proofs.MachineLemmas.{means_same}
 
 -- ---- what is written
@@ -158,7 +158,7 @@ summarises own start reply old new tally only adds room counts tells clock same 
   clock = clock;
   counts = same;
   tells = subst (λ (n : ℕ). Tells reply (summary_of old.counts n))
-      (ap (λ (t : Tally). t.drains) counts ∙ counts_drains own start new.pass (only_adds own start [] old.pass new.pass only adds) (only_room own start old.pass new.pass adds room)) tells;
+      (ap (λ (t : Tally). t.drains) counts ∙ counts_drains own start new.pass (only_adds own start [] old.pass new.pass only adds) (still_room start old.pass new.pass adds room)) tells;
 }
 
 -- the summary of the code is that of the machine
@@ -174,6 +174,7 @@ finishes_said T start count (Ok text) (Ok x) old mid new before after drains sum
       count = count;
       drained = out.1.0;
       means = after_sum;
+      room = still_room start mid.pass new.pass sums.sees drains.0;
       wrote = subst (λ (t : List ℕ). Appends before after t) (sums.tells ∙ summary_is start mid new out.0 after_sum sums.counts) says;
     }
 finishes_said T start count (Ok text) (Err reason) old mid new before after drains sums says =
@@ -184,6 +185,7 @@ finishes_said T start count (Ok text) (Err reason) old mid new before after drai
       count = count;
       drained = out.1.0;
       means = after_sum;
+      room = still_room start mid.pass new.pass sums.sees drains.0;
       wrote = subst (λ (t : List ℕ). AppendsFront before after t) (sums.tells ∙ summary_is start mid new out.0 after_sum sums.counts) says.1;
     })
 finishes_said T start count (Err short.Room) result old mid new before after drains sums says = absurd sums.tells

@@ -1,5 +1,5 @@
 -- What a script comes to of which the replies to the first lines are not written.
-use Rattle.std.specs.Prelude.{◌≡◌, ◌⊎◌, ◌^◌, ℕ, List, Option, None, IfSome, length}
+use Rattle.std.specs.Prelude.{◌≡◌, ◌⊎◌, ◌<◌, ◌^◌, ℕ, List, Option, None, IfSome, length}
 use Rattle.std.specs.Io.KnownBytes.{Consumes}
 use Rattle.outside_io.specs.Image.{Image}
 use Rattle.line_frame.specs.Lines.{lines}
@@ -16,7 +16,7 @@ use Rattle.carbon_script.specs.declared.serve.Scripted.{Scripted}
 -- The script ended before all lines of the front were served, of which the bytes `taken` were read: at a line, or between two reads.
 abbrev pub BreaksOff : (ℕ → Option Image) → State → ScriptEnd → List ℕ → SessionValue → Type 0
 BreaksOff told start end.Done taken new = ⊥
-BreaksOff told start end.ReadFault taken new = ServesAll told start (opening start) taken None new None
+BreaksOff told start end.ReadFault taken new = ServesAll told start (opening start) taken None new None × (length taken < 2 ^ 40)
 BreaksOff told start end.WriteFault taken new = ⊥
 BreaksOff told start (end.DiskFault class) taken new = ⊥
 BreaksOff told start end.InputLimit taken new = ServesAll told start (opening start) taken None new None × (length taken ≡ 2 ^ 40)

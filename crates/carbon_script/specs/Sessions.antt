@@ -12,7 +12,7 @@ use Rattle.carbon_history.specs.Entries.{NamesPasses, about_class, drains}
 use Rattle.carbon_model.specs.State.{State}
 use Rattle.carbon_model.specs.Replay.{replay}
 use Rattle.shared_history.specs.Parts.{PassValue}
-use Rattle.shared_store.specs.Passes.{runs_in, settled_in}
+use Rattle.shared_store.specs.Passes.{HasRoom, runs_in, settled_in}
 use Rattle.carbon_script.specs.Command.{Command, Metric, Refused, Long, Clock, Ask, Plan, Write, DrainAll, Bad, command_of}
 use Rattle.carbon_script.specs.Script.{Does, DrainsFault, DrainsOut, DrainsPart, Eased, Machine, ScriptRun, Steps, ask_entries, opening, summary_text, with_entries}
 use Rattle.carbon_script.specs.declared.counts.Counts.{Counts}
@@ -124,12 +124,13 @@ Obeys told start (Err reason) old command before new after =
 
 -- ---- the end of the input
 
--- all that was still pending is drained, and the summary was written
+-- all that was still pending is drained, the pass has still room, and the summary was written
 pub record Summed (start : State) (machine : Machine) (before : Option (List ℕ)) (new : SessionValue) (after : Option (List ℕ)) : Type 0 where
   pub next : Machine
   pub count : ℕ
   pub drained : DrainsOut machine count next
   pub means : Means start new next
+  pub room : HasRoom new.pass
   pub wrote : Appends before after (summary_text next)
 
 -- or only a front of it could be
@@ -138,6 +139,7 @@ pub record IsHalfSummed (start : State) (machine : Machine) (before : Option (Li
   pub count : ℕ
   pub drained : DrainsOut machine count next
   pub means : Means start new next
+  pub room : HasRoom new.pass
   pub wrote : AppendsFront before after (summary_text next)
 
 -- some was drained, or all
@@ -218,20 +220,21 @@ StopsWith told start from reason taken left before new after =
     StopsAtLine told start from reason (lines taken) before new after
     ⊎ (StopsAtEnd told start from reason (lines taken) before new after × IsReadOut taken left)
 
--- all of it was run, and its text was written
+-- all of it was run, its text was written, and the pass had room for all that it entered and has some still
 pub record RunsWhole (told : ℕ → Option Image) (start : State) (from : Machine) (taken : List ℕ) (before : Option (List ℕ)) (new : SessionValue) (after : Option (List ℕ)) : Type 0 where
   pub last : Machine
   pub text : List ℕ
   pub run : ScriptRun told from taken last text
   pub means : Means start new last
+  pub room : HasRoom new.pass
   pub wrote : Appends before after text
 
 -- Where a script stands at each of its ends, of which the bytes `taken` were read. At the end of the input it is that of the whole script. At a failed
--- read and at the input's limit it is that of all lines that were taken, and nothing is drained besides; so too where memory ran out between two reads,
--- of what was taken before the last one. Else it was stopped, at a line or at the end.
+-- read, which comes before the input's limit, and at that limit it is that of all lines that were taken, and nothing is drained besides; so too where
+-- memory ran out between two reads, of what was taken before the last one. Else it was stopped, at a line or at the end.
 abbrev pub EndsAs : (ℕ → Option Image) → State → Machine → ScriptEnd → List ℕ → Option (List ℕ) → Option (List ℕ) → SessionValue → Option (List ℕ) → Type 0
 EndsAs told start from end.Done taken left before new after = RunsWhole told start from taken before new after × IsReadOut taken left
-EndsAs told start from end.ReadFault taken left before new after = ServesAll told start from taken before new after
+EndsAs told start from end.ReadFault taken left before new after = ServesAll told start from taken before new after × (length taken < 2 ^ 40)
 EndsAs told start from end.InputLimit taken left before new after = ServesAll told start from taken before new after × (length taken ≡ 2 ^ 40)
 EndsAs told start from end.WriteFault taken left before new after = StopsWith told start from stop.WriteFault taken left before new after
 EndsAs told start from (end.DiskFault class) taken left before new after =

@@ -19,9 +19,9 @@ use std::sync::Wait;
 /// How a script ended.
 #[derive(Clone, Copy, Debug, PartialEq, Eq)]
 pub enum ScriptEnd {
-    /// The input was read to its end, and the summary was written.
+    /// The input was read to its end, and the summary was written. The pass has room for another call.
     Done,
-    /// A read failed. All lines of what was taken were served.
+    /// A read failed, before as many bytes were taken as a script may have. All lines of what was taken were served.
     ReadFault,
     /// A write failed.
     WriteFault,

@@ -142,7 +142,7 @@ ends_work : (w : Origin) (tells : Option (List ℕ) → Option (List ℕ) → Ty
     → EndsAs w tells reason taken left from to → Works w.moments w.start from.pass to.pass
 ends_work w tells end.Closed taken left from to ends = serves_work w ends.0 from to ends.1.1.1
 ends_work w tells (end.Refused code) taken left from to ends = serves_work w _ from to ends.2.1.1
-ends_work w tells end.ReadFault taken left from to ends = serves_work w ends.0 from to ends.1.1
+ends_work w tells end.ReadFault taken left from to ends = serves_work w ends.0 from to ends.1.1.0
 ends_work w tells end.LinkLimit taken left from to ends = serves_work w ends.0 from to ends.1.1.0
 ends_work w tells end.WriteFault taken left from to ends =
     let part = ends.2.1 in

@@ -6,7 +6,9 @@ use Rattle.metric_line.specs.LineDatum.{datum_of}
 use Rattle.metric_line.specs.Point.{Point}
 use Rattle.carbon_model.specs.State.{State}
 use Rattle.shared_history.specs.Parts.{PassValue}
-use Rattle.line_front.specs.Links.{Ends, EndsAs, Handles, HandlesAll, HandlesFront, HandlesRead, SeesMore, SessionValue, new_session, put_entry}
+use Rattle.aggregate_rules.specs.RuleTexts.{RuleValue}
+use Rattle.line_front.specs.Links.{BringsFront, Ends, EndsAs, Handles, HandlesAll, HandlesFront, HandlesRead, HasPoint, Idles, IsRead, LacksMemory, LacksRoom, Puts, PutsFront, SessionValue, new_session}
+use Rattle.line_front.specs.Points.{PutsEach, PutsPoint, emitted_at_end, emitted_for, put_entry}
 use Rattle.line_front.specs.declared.counts.Counts.{Counts}
 use Rattle.line_front.specs.declared.ends.LineCause.{LineCause}
 use Rattle.line_front.specs.declared.ends.LineCause.TheVariants as cause
@@ -16,9 +18,24 @@ use Rattle.carbon_serve.proofs.WorkLemmas.{enters_works, one_told, sees_works, w
 same_session : (moments : ℕ → Type 0) (start : State) (old new : SessionValue) → new.pass ≡ old.pass → Works moments start old.pass new.pass
 same_session moments start old new same = subst (λ (pass : PassValue). Works moments start old.pass pass) (sym same) (works_same moments start old.pass)
 
-read_works : (moments : ℕ → Type 0) (start : State) (passes : ℕ) (read : Result Point LineFault) (old new : SessionValue) → HandlesRead start passes read old new → Works moments start old.pass new.pass
-read_works moments start passes (Ok point) old new puts =
+-- points that are put one after the other
+each_works : (moments : ℕ → Type 0) (start : State) (passes : ℕ) (points : List Point) (old new : PassValue) → PutsEach start passes points old new → Works moments start old new
+each_works moments start passes [] old new same = subst (λ (pass : PassValue). Works moments start old pass) (sym same) (works_same moments start old)
+each_works moments start passes (point ∷ points) old new puts =
+    let one : PutsPoint start passes point old puts.0 = puts.1.0 in
+    works_then moments start old puts.0 new
+    (enters_works moments start passes (put_entry old.number point one.end ∷ []) old puts.0 one.enters (one_told moments (put_entry old.number point one.end) tt))
+    (each_works moments start passes points puts.0 new puts.1.1)
+
+-- the point of a line
+put_works : (moments : ℕ → Type 0) (start : State) (passes : ℕ) (point : Point) (old new : SessionValue) → Puts start passes point old new → Works moments start old.pass new.pass
+put_works moments start passes point old new puts =
     enters_works moments start passes (put_entry old.pass.number point puts.end ∷ []) old.pass new.pass puts.enters (one_told moments (put_entry old.pass.number point puts.end) tt)
+
+read_works : (moments : ℕ → Type 0) (start : State) (passes : ℕ) (read : Result Point LineFault) (old new : SessionValue) → HandlesRead start passes read old new → Works moments start old.pass new.pass
+read_works moments start passes (Ok point) old new brings =
+    works_then moments start old.pass brings.put.pass new.pass (put_works moments start passes point old brings.put brings.puts)
+    (each_works moments start passes (emitted_for old.gathered point) brings.put.pass new.pass brings.emits)
 read_works moments start passes (Err fault) old new refused = same_session moments start old new (cc refused.1)
 
 line_works : (moments : ℕ → Type 0) (start : State) (passes : ℕ) (line : Line) (old new : SessionValue) → Handles moments start passes line old new → Works moments start old.pass new.pass
@@ -31,29 +48,58 @@ lines_work moments start passes [] old new same = same_session moments start old
 lines_work moments start passes (line ∷ others) old new all =
     works_then moments start old.pass all.0.pass new.pass (line_works moments start passes line old all.0 all.1.0) (lines_work moments start passes others all.0 new all.1.1)
 
-idle_works : (moments : ℕ → Type 0) (start : State) (passes : ℕ) (old new : SessionValue) → (new ≡ old) ⊎ SeesMore start passes old new → Works moments start old.pass new.pass
+idle_works : (moments : ℕ → Type 0) (start : State) (passes : ℕ) (old new : SessionValue) → Idles start passes old new → Works moments start old.pass new.pass
 idle_works moments start passes old new (inl same) = same_session moments start old new (cc same)
 idle_works moments start passes old new (inr sees) = sees_works moments start passes old.pass new.pass sees.enters
 
 front_works : (moments : ℕ → Type 0) (start : State) (passes : ℕ) (bytes : List ℕ) (old new : SessionValue) → HandlesFront moments start passes bytes old new → Works moments start old.pass new.pass
 front_works moments start passes bytes old new front = lines_work moments start passes front.handled old new front.front.each
 
-ends_work : (moments : ℕ → Type 0) (start : State) (passes : ℕ) (reason : LineCause) (taken : List ℕ) (left : Option (List ℕ)) (old new : SessionValue)
-    → EndsAs moments start passes reason taken left old new → Works moments start old.pass new.pass
-ends_work moments start passes cause.Closed taken left old new ends = lines_work moments start passes (lines taken) old new ends.0.each
-ends_work moments start passes cause.ReadFault taken left old new ends = lines_work moments start passes (lines taken) old new ends.each
-ends_work moments start passes cause.LinkLimit taken left old new ends = lines_work moments start passes (lines taken) old new ends.0.each
-ends_work moments start passes cause.Spent taken left old new ends = elim ends.0 [
-  | inl none ↦ same_session moments start old new (cc none.same)
-  | inr front ↦ front_works moments start passes taken old new front
-]
-ends_work moments start passes cause.NoMemory taken left old new ends = elim ends [
-  | inl whole ↦ lines_work moments start passes (lines whole.0) old new whole.1.1.each
-  | inr short ↦
-      works_then moments start old.pass short.mid.pass new.pass (front_works moments start passes taken old short.mid short.handles) (idle_works moments start passes short.mid new short.lacks.idles)
-]
+-- the first of some points
+some_works : (moments : ℕ → Type 0) (start : State) (passes : ℕ) (points : List Point) (old new : SessionValue) → PutsFront start passes points old new → Works moments start old.pass new.pass
+some_works moments start passes points old new some = each_works moments start passes some.first old.pass new.pass some.emits
 
-pub link_works : (moments : ℕ → Type 0) (start : State) (passes : ℕ) (reason : LineCause) (left left' : Option (List ℕ)) (old new : PassValue) (counts : Counts)
-    → Ends moments start passes reason left left' (new_session old) (record { pass = new; counts = counts }) → Works moments start old new
-link_works moments start passes reason left left' old new counts ends =
-    ends_work moments start passes reason ends.taken left' (new_session old) (record { pass = new; counts = counts }) ends.ends
+brings_works : (moments : ℕ → Type 0) (start : State) (passes : ℕ) (line : Line) (old new : SessionValue) → BringsFront moments start passes line old new → Works moments start old.pass new.pass
+brings_works moments start passes line old new brings =
+    works_then moments start old.pass brings.put.pass new.pass (put_works moments start passes brings.point old brings.put brings.puts)
+    (some_works moments start passes (emitted_for old.gathered brings.point) brings.put new brings.emits)
+
+-- a line for which there was no memory, or no room
+short_works : (moments : ℕ → Type 0) (start : State) (passes : ℕ) (line : Line) (old new : SessionValue) → LacksMemory moments start passes line old new → Works moments start old.pass new.pass
+short_works moments start passes line old new lacks = works_then moments start old.pass lacks.mid.pass new.pass (by lacks.begun) (idle_works moments start passes lacks.mid new lacks.idles)
+  where
+    by : (HasPoint moments line × (lacks.mid ≡ old)) ⊎ BringsFront moments start passes line old lacks.mid → Works moments start old.pass lacks.mid.pass
+    by (inl none) = same_session moments start old lacks.mid (cc none.1)
+    by (inr brings) = brings_works moments start passes line old lacks.mid brings
+
+full_works : (moments : ℕ → Type 0) (start : State) (passes : ℕ) (line : Line) (old new : SessionValue) → (new ≡ old) ⊎ LacksRoom moments start passes line old new → Works moments start old.pass new.pass
+full_works moments start passes line old new (inl same) = same_session moments start old new (cc same)
+full_works moments start passes line old new (inr lacks) = brings_works moments start passes line old new lacks.brings
+
+module _ (moments : ℕ → Type 0) (start : State) (passes : ℕ) (taken : List ℕ) (left : Option (List ℕ)) (old new : SessionValue) where
+  read_end : (mid : SessionValue) → IsRead moments start passes taken left old mid → Works moments start mid.pass new.pass → Works moments start old.pass new.pass
+  read_end mid read goes = works_then moments start old.pass mid.pass new.pass (lines_work moments start passes (lines taken) old mid read.handles.each) goes
+
+  ends_work : (reason : LineCause) → EndsAs moments start passes reason taken left old new → Works moments start old.pass new.pass
+  ends_work cause.Closed ends = read_end ends.mid ends.read (each_works moments start passes (emitted_at_end ends.mid.gathered) ends.mid.pass new.pass ends.emits)
+  ends_work cause.ReadFault ends = lines_work moments start passes (lines taken) old new ends.0.each
+  ends_work cause.LinkLimit ends = lines_work moments start passes (lines taken) old new ends.0.each
+  ends_work cause.Spent (inl none, spent) = same_session moments start old new (cc none.same)
+  ends_work cause.Spent (inr (inl full), spent) =
+      works_then moments start old.pass full.mid.pass new.pass (front_works moments start passes taken old full.mid full.handles)
+      (full_works moments start passes full.handles.line full.mid new full.lacks)
+  ends_work cause.Spent (inr (inr late), spent) =
+      read_end late.mid late.read (some_works moments start passes (emitted_at_end late.mid.gathered) late.mid new late.emits)
+  ends_work cause.NoMemory (inl whole) = lines_work moments start passes (lines whole.0) old new whole.1.1.each
+  ends_work cause.NoMemory (inr (inl short)) =
+      works_then moments start old.pass short.mid.pass new.pass (front_works moments start passes taken old short.mid short.handles)
+      (short_works moments start passes short.handles.line short.mid new short.lacks)
+  ends_work cause.NoMemory (inr (inr late)) =
+      read_end late.mid late.read
+      (works_then moments start late.mid.pass late.put.pass new.pass (some_works moments start passes (emitted_at_end late.mid.gathered) late.mid late.put late.emits)
+      (idle_works moments start passes late.put new late.idles))
+
+pub link_works : (moments : ℕ → Type 0) (start : State) (passes : ℕ) (rules : List RuleValue) (reason : LineCause) (left left' : Option (List ℕ)) (old new : PassValue) (counts : Counts)
+    → Ends moments start passes reason left left' (new_session rules old) new counts → Works moments start old new
+link_works moments start passes rules reason left left' old new counts ends =
+    ends_work moments start passes ends.taken left' (new_session rules old) (record { pass = new; counts = counts; gathered = ends.gathered }) reason ends.ends

@@ -1,72 +1,243 @@
 -- What a receiver's links put is what the history has of its pass.
-use Rattle.std.proofs.Common.{◌≡◌, ◌∙◌, ◌⊎◌, inl, inr, ℕ, List, [], ◌∷◌, ◌++◌, Option, refl, sym, ap, subst, append-nil, append_assoc}
+use Rattle.std.proofs.Common.{◌≡◌, ◌∙◌, ◌⊎◌, inl, inr, ℕ, List, [], ◌∷◌, ◌++◌, Option, Ok, refl, sym, ap, subst, append-nil, append_assoc}
+use mathlib.Core.List.{IsPrefix}
 use Rattle.carbon_history.specs.declared.entry.Entry.{Entry}
 use Rattle.carbon_model.specs.State.{State}
 use Rattle.shared_history.specs.Parts.{PassValue, own_entries}
 use Rattle.shared_history.proofs.ListLemmas.{prefix_nil}
-use Rattle.line_frame.specs.Lines.{Line, lines}
-use Rattle.line_front.specs.Links.{AreOfLines, EndsAs, SeesMore, SessionValue, new_session}
+use Rattle.line_frame.specs.Lines.{Line, Whole, TooLong, lines}
+use Rattle.metric_line.specs.LineDatum.{datum_of}
+use Rattle.metric_line.specs.Point.{Point}
+use Rattle.metric_line.specs.declared.fault.LineFault.{LineFault}
+use Rattle.std.specs.Prelude.{Result}
+use Rattle.aggregate_rules.specs.RuleTexts.{RuleValue}
+use Rattle.aggregate_front.specs.Emitting.{AggregatorValue}
+use Rattle.line_front.specs.Points.{ArePuts, LinesBring, ReadBrings, emitted_at_end, emitted_for, gathered_after, none_gathered, points_of_link, points_put}
+use Rattle.line_front.specs.Links.{BringsFront, EndsAs, HandlesFront, HandlesLines, HasPoint, Idles, IsPointOf, IsRead, LacksMemory, LacksRoom, PutsFront, SessionValue, new_session}
 use Rattle.line_front.specs.declared.ends.LineCause.{LineCause}
 use Rattle.line_front.specs.declared.ends.LineCause.TheVariants as cause
+use Rattle.line_front.proofs.LinkLemmas.{same_pass}
+use Rattle.line_front.proofs.PointLemmas.{Makes, bring_append, gathered_one, makes_append, makes_each, makes_none, makes_point, put_append, put_one}
 use Rattle.http_front.specs.Origin.{Origin}
 use Rattle.carbon_serve.specs.Deeds.{InTurn, LineLink, ServesLineLink, Telling}
-use Rattle.carbon_serve.specs.OneHistory.{AreHandled, PutsOf, PutsOfAll}
+use Rattle.carbon_serve.specs.OneHistory.{AreHandled, ArePut, PutsOf, PutsOfAll}
 use Rattle.carbon_serve.specs.Workers.{Works}
 use Rattle.carbon_serve.proofs.LineLemmas.{link_works}
 
--- which lines were handled, and the entries that the pass made of them
-record Handled (moments : ℕ → Type 0) (reason : LineCause) (taken : List ℕ) (old new : PassValue) : Type 0 where
-  pub handled : List Line
-  pub are : AreHandled reason taken handled
-  pub entries : List Entry
-  pub made : AreOfLines moments old.number handled entries
-  pub once : own_entries new ≡ own_entries old ++ entries
+-- ---- what was put
 
-idle_own : (start : State) (passes : ℕ) (old new : SessionValue) → (new ≡ old) ⊎ SeesMore start passes old new → own_entries new.pass ≡ own_entries old.pass
-idle_own start passes old new (inl same) = ap (λ (session : SessionValue). own_entries session.pass) same
-idle_own start passes old new (inr sees) = sees.enters.once ∙ append-nil (own_entries old.pass)
+-- lines that were handled, from where a pass stood to where it stands
+lines_make : (moments : ℕ → Type 0) (start : State) (passes : ℕ) (handled : List Line) (old new : SessionValue) → (h : HandlesLines moments start passes handled old new)
+    → Makes (points_put old.gathered h.points) old.pass new.pass
+lines_make moments start passes handled old new h =
+    let same = same_pass moments start passes handled old new h.each in
+    record { entries = h.entries; made = h.made; once = h.once; number = same.number; table = same.table }
 
-ends_handled : (moments : ℕ → Type 0) (start : State) (passes : ℕ) (reason : LineCause) (taken : List ℕ) (left : Option (List ℕ)) (old new : SessionValue) → EndsAs moments start passes reason taken left old new
-    → Handled moments reason taken old.pass new.pass
-ends_handled moments start passes cause.Closed taken left old new ends =
-    record { handled = lines taken; are = refl; entries = ends.0.entries; made = ends.0.made; once = ends.0.once }
-ends_handled moments start passes cause.ReadFault taken left old new ends =
-    record { handled = lines taken; are = refl; entries = ends.entries; made = ends.made; once = ends.once }
-ends_handled moments start passes cause.LinkLimit taken left old new ends =
-    record { handled = lines taken; are = refl; entries = ends.0.entries; made = ends.0.made; once = ends.0.once }
-ends_handled moments start passes cause.Spent taken left old new ends = elim ends.0 [
-  | inl none ↦ record {
+-- a pass that only saw more made nothing
+idle_makes : (start : State) (passes : ℕ) (points : List Point) (before : PassValue) (old new : SessionValue) → Makes points before old.pass → Idles start passes old new
+    → Makes points before new.pass
+idle_makes start passes points before old new makes (inl same) = subst (λ (session : SessionValue). Makes points before session.pass) (sym same) makes
+idle_makes start passes points before old new makes (inr sees) = record {
+  entries = makes.entries;
+  made = makes.made;
+  once = sees.enters.once ∙ (append-nil (own_entries old.pass) ∙ makes.once);
+  number = sees.enters.number ∙ makes.number;
+  table = sees.enters.table ∙ makes.table;
+}
+
+-- the point of a line, and the first of those that the rules emit for it
+brings_make : (moments : ℕ → Type 0) (start : State) (passes : ℕ) (line : Line) (old new : SessionValue) → (b : BringsFront moments start passes line old new)
+    → Makes (b.point ∷ b.emits.first) old.pass new.pass
+brings_make moments start passes line old new b =
+    makes_append (b.point ∷ []) b.emits.first old.pass b.put.pass new.pass (makes_point start passes b.point b.puts.end old.pass b.put.pass b.puts.enters)
+    (makes_each start passes b.emits.first b.put.pass new.pass b.emits.emits)
+
+-- ---- which lines
+
+line_brings : (moments : ℕ → Type 0) (line : Line) (point : Point) → IsPointOf moments line point → LinesBring moments (line ∷ []) (point ∷ [])
+line_brings moments (Whole line) point is =
+    (is.0, [], (is.1.0, (subst (λ (read : Result Point LineFault). ReadBrings read (point ∷ []) []) (sym is.1.1) refl, refl)))
+line_brings moments TooLong point is = absurd is
+
+-- the lines that were handled of a link, the points of theirs that were put, and how
+record Handled (moments : ℕ → Type 0) (rules : List RuleValue) (reason : LineCause) (taken : List ℕ) (old new : PassValue) : Type 0 where
+  handled : List Line
+  are : AreHandled reason taken handled
+  points : List Point
+  read : LinesBring moments handled points
+  put : List Point
+  all : ArePut reason rules points put
+  makes : Makes put old new
+
+-- the first lines of a link, and the first points that are put of it
+record Begun (moments : ℕ → Type 0) (rules : List RuleValue) (taken : List ℕ) (old new : PassValue) : Type 0 where
+  handled : List Line
+  are : IsPrefix handled (lines taken)
+  points : List Point
+  read : LinesBring moments handled points
+  put : List Point
+  all : IsPrefix put (points_of_link rules points)
+  makes : Makes put old new
+
+-- so many of them, where the rules emit more
+more_put : (rules : List RuleValue) (points : List Point) (point : Point) (first others : List Point) → emitted_for (gathered_after (none_gathered rules) points) point ≡ first ++ others
+    → IsPrefix (points_put (none_gathered rules) points ++ point ∷ first) (points_of_link rules (points ++ point ∷ []))
+more_put rules points point first others split =
+    let g : AggregatorValue = none_gathered rules in
+    let now : AggregatorValue = gathered_after g points in
+    let last : List Point = emitted_at_end (gathered_after g (points ++ point ∷ [])) in
+    let one : points_put now (point ∷ []) ≡ point ∷ (first ++ others) = put_one now point ∙ ap (λ (l : List Point). point ∷ l) split in
+    let whole : points_put g (points ++ point ∷ []) ≡ points_put g points ++ (point ∷ (first ++ others)) =
+    put_append g points (point ∷ []) ∙ ap (λ (l : List Point). points_put g points ++ l) one in
+    let parts : (points_put g points ++ point ∷ first) ++ others ≡ points_put g (points ++ point ∷ []) =
+    append_assoc (points_put g points) (point ∷ first) others ∙ sym whole in
+    (others ++ last, sym (append_assoc (points_put g points ++ point ∷ first) others last) ∙ ap (λ (l : List Point). l ++ last) parts)
+
+module _ (moments : ℕ → Type 0) (start : State) (passes : ℕ) (rules : List RuleValue) (taken : List ℕ) (old : PassValue) where
+  -- no line
+  none_begun : (new : PassValue) → new ≡ old → Begun moments rules taken old new
+  none_begun new same = record {
     handled = [];
     are = prefix_nil (lines taken);
-    entries = [];
-    made = refl;
-    once = ap (λ (session : SessionValue). own_entries session.pass) none.same ∙ sym (append-nil (own_entries old.pass));
+    points = [];
+    read = refl;
+    put = [];
+    all = prefix_nil (points_of_link rules []);
+    makes = makes_none old new same;
   }
-  | inr front ↦ record {
-    handled = front.handled;
-    are = (front.line ∷ front.others, sym front.split);
-    entries = front.front.entries;
-    made = front.front.made;
-    once = front.front.once;
-  }
-]
-ends_handled moments start passes cause.NoMemory taken left old new ends = elim ends [
-  | inl whole ↦ record {
-    handled = lines whole.0;
-    are = inl (whole.0, (whole.1.0, refl));
-    entries = whole.1.1.entries;
-    made = whole.1.1.made;
-    once = whole.1.1.once;
-  }
-  | inr short ↦
-      let front = short.handles in record {
+
+  -- some lines
+  front_begun : (new : SessionValue) → HandlesFront moments start passes taken (new_session rules old) new → Begun moments rules taken old new.pass
+  front_begun new front =
+      let h = front.front in record {
         handled = front.handled;
-        are = inr (front.line ∷ front.others, sym front.split);
-        entries = front.front.entries;
-        made = front.front.made;
-        once = idle_own start passes short.mid new short.lacks.idles ∙ front.front.once;
+        are = (front.line ∷ front.others, sym front.split);
+        points = h.points;
+        read = h.read;
+        put = points_put (none_gathered rules) h.points;
+        all = (emitted_at_end (gathered_after (none_gathered rules) h.points), refl);
+        makes = lines_make moments start passes front.handled (new_session rules old) new h;
       }
-]
+
+  -- and of the next one the point, and the first of those that the rules emit for it
+  line_begun : (mid new : SessionValue) (front : HandlesFront moments start passes taken (new_session rules old) mid) → BringsFront moments start passes front.line mid new
+      → Begun moments rules taken old new.pass
+  line_begun mid new front b =
+      let h = front.front in record {
+        handled = front.handled ++ front.line ∷ [];
+        are = (front.others, append_assoc front.handled (front.line ∷ []) front.others ∙ sym front.split);
+        points = h.points ++ b.point ∷ [];
+        read = bring_append moments front.handled (front.line ∷ []) h.points (b.point ∷ []) h.read (line_brings moments front.line b.point b.is);
+        put = points_put (none_gathered rules) h.points ++ b.point ∷ b.emits.first;
+        all = more_put rules h.points b.point b.emits.first b.emits.others (ap (λ (a : AggregatorValue). emitted_for a b.point) (sym h.gathered) ∙ b.emits.split);
+        makes = makes_append (points_put (none_gathered rules) h.points) (b.point ∷ b.emits.first) old mid.pass new.pass
+            (lines_make moments start passes front.handled (new_session rules old) mid h) (brings_make moments start passes front.line mid new b);
+      }
+
+  -- all lines, and the first points that the rules have open
+  open_begun : (left : Option (List ℕ)) (mid new : SessionValue) → IsRead moments start passes taken left (new_session rules old) mid
+      → PutsFront start passes (emitted_at_end mid.gathered) mid new → Begun moments rules taken old new.pass
+  open_begun left mid new read some =
+      let h = read.handles in
+      let g : AggregatorValue = none_gathered rules in
+      let split : some.first ++ some.others ≡ emitted_at_end (gathered_after g h.points) = sym some.split ∙ ap (λ (a : AggregatorValue). emitted_at_end a) h.gathered in record {
+        handled = lines taken;
+        are = ([], append-nil (lines taken));
+        points = h.points;
+        read = h.read;
+        put = points_put g h.points ++ some.first;
+        all = (some.others, append_assoc (points_put g h.points) some.first some.others ∙ ap (λ (l : List Point). points_put g h.points ++ l) split);
+        makes = makes_append (points_put g h.points) some.first old mid.pass new.pass (lines_make moments start passes (lines taken) (new_session rules old) mid h)
+            (makes_each start passes some.first mid.pass new.pass some.emits);
+      }
+
+  begun_idle : (mid new : SessionValue) → Begun moments rules taken old mid.pass → Idles start passes mid new → Begun moments rules taken old new.pass
+  begun_idle mid new begun idles = record {
+    handled = begun.handled;
+    are = begun.are;
+    points = begun.points;
+    read = begun.read;
+    put = begun.put;
+    all = begun.all;
+    makes = idle_makes start passes begun.put old mid new begun.makes idles;
+  }
+
+  full_begun : (mid new : SessionValue) (front : HandlesFront moments start passes taken (new_session rules old) mid)
+      → (new ≡ mid) ⊎ LacksRoom moments start passes front.line mid new → Begun moments rules taken old new.pass
+  full_begun mid new front (inl same) = subst (λ (session : SessionValue). Begun moments rules taken old session.pass) (sym same) (front_begun mid front)
+  full_begun mid new front (inr lacks) = line_begun mid new front lacks.brings
+
+  short_begun : (mid new : SessionValue) (front : HandlesFront moments start passes taken (new_session rules old) mid) → LacksMemory moments start passes front.line mid new
+      → Begun moments rules taken old new.pass
+  short_begun mid new front lacks = begun_idle lacks.mid new (by lacks.begun) lacks.idles
+    where
+      by : (HasPoint moments front.line × (lacks.mid ≡ mid)) ⊎ BringsFront moments start passes front.line mid lacks.mid → Begun moments rules taken old lacks.mid.pass
+      by (inl none) = subst (λ (session : SessionValue). Begun moments rules taken old session.pass) (sym none.1) (front_begun mid front)
+      by (inr brings) = line_begun mid lacks.mid front brings
+
+  spent_handled : (new : PassValue) → Begun moments rules taken old new → Handled moments rules cause.Spent taken old new
+  spent_handled new begun =
+      record { handled = begun.handled; are = begun.are; points = begun.points; read = begun.read; put = begun.put; all = begun.all; makes = begun.makes }
+
+  short_handled : (new : PassValue) → Begun moments rules taken old new → Handled moments rules cause.NoMemory taken old new
+  short_handled new begun =
+      record { handled = begun.handled; are = inr begun.are; points = begun.points; read = begun.read; put = begun.put; all = begun.all; makes = begun.makes }
+
+  ends_handled : (left : Option (List ℕ)) (new : SessionValue) (reason : LineCause) → EndsAs moments start passes reason taken left (new_session rules old) new
+      → Handled moments rules reason taken old new.pass
+  ends_handled left new cause.Closed ends =
+      let h = ends.read.handles in
+      let mid : SessionValue = ends.mid in
+      let put : List Point = points_put (none_gathered rules) h.points in record {
+        handled = lines taken;
+        are = refl;
+        points = h.points;
+        read = h.read;
+        put = points_of_link rules h.points;
+        all = refl;
+        makes = subst (λ (a : AggregatorValue). Makes (put ++ emitted_at_end a) old new.pass) h.gathered
+            (makes_append put (emitted_at_end mid.gathered) old mid.pass new.pass (lines_make moments start passes (lines taken) (new_session rules old) mid h)
+            (makes_each start passes (emitted_at_end mid.gathered) mid.pass new.pass ends.emits));
+      }
+  ends_handled left new cause.ReadFault ends =
+      let h = ends.0 in record {
+        handled = lines taken;
+        are = refl;
+        points = h.points;
+        read = h.read;
+        put = points_put (none_gathered rules) h.points;
+        all = refl;
+        makes = lines_make moments start passes (lines taken) (new_session rules old) new h;
+      }
+  ends_handled left new cause.LinkLimit ends =
+      let h = ends.0 in record {
+        handled = lines taken;
+        are = refl;
+        points = h.points;
+        read = h.read;
+        put = points_put (none_gathered rules) h.points;
+        all = refl;
+        makes = lines_make moments start passes (lines taken) (new_session rules old) new h;
+      }
+  ends_handled left new cause.Spent (inl none, spent) =
+      spent_handled new.pass (none_begun new.pass (ap (λ (session : SessionValue). session.pass) none.same))
+  ends_handled left new cause.Spent (inr (inl full), spent) = spent_handled new.pass (full_begun full.mid new full.handles full.lacks)
+  ends_handled left new cause.Spent (inr (inr late), spent) = spent_handled new.pass (open_begun left late.mid new late.read late.emits)
+  ends_handled left new cause.NoMemory (inl whole) =
+      let h = whole.1.1 in record {
+        handled = lines whole.0;
+        are = inl (whole.0, (whole.1.0, refl));
+        points = h.points;
+        read = h.read;
+        put = points_put (none_gathered rules) h.points;
+        all = (emitted_at_end (gathered_after (none_gathered rules) h.points), refl);
+        makes = lines_make moments start passes (lines whole.0) (new_session rules old) new h;
+      }
+  ends_handled left new cause.NoMemory (inr (inl short)) = short_handled new.pass (short_begun short.mid new short.handles short.lacks)
+  ends_handled left new cause.NoMemory (inr (inr late)) =
+      short_handled new.pass (begun_idle late.put new (open_begun left late.mid late.put late.read late.emits) late.idles)
+
+-- ---- links one after the other
 
 -- the entries of a list of links
 record Put {L : Type 0} (links : Telling L) (w : Origin) (number : ℕ) (served : List (LineLink L)) (old new : PassValue) : Type 0 where
@@ -79,21 +250,26 @@ turn_puts links w number [] a c same turns = record { entries = []; all = refl; 
 turn_puts links w number (link ∷ served) a c same turns =
     let mid : PassValue = turns.0 in
     let ends = turns.1.0.ends in
-    let one : Handled w.moments link.cause ends.taken a mid =
-    ends_handled w.moments w.start w.passes link.cause ends.taken (links.left link.after) (new_session a) (record { pass = mid; counts = link.counts }) ends.ends in
+    let one : Handled w.moments links.rules link.cause ends.taken a mid =
+    ends_handled w.moments w.start w.passes links.rules ends.taken a (links.left link.after) (record { pass = mid; counts = link.counts; gathered = ends.gathered }) link.cause ends.ends in
     let works : Works w.moments w.start a mid =
-    link_works w.moments w.start w.passes link.cause (links.left link.before) (links.left link.after) a mid link.counts ends in
+    link_works w.moments w.start w.passes links.rules link.cause (links.left link.before) (links.left link.after) a mid link.counts ends in
     let rest : Put links w number served mid c = turn_puts links w number served mid c (works.number ∙ same) turns.1.1 in
-    let puts : PutsOf links w number link one.entries = record {
+    let entries : List Entry = one.makes.entries in
+    let puts : PutsOf links w number link entries = record {
       taken = ends.taken;
       consumed = ends.consumed;
       handled = one.handled;
       are = one.are;
-      made = subst (λ (n : ℕ). AreOfLines w.moments n one.handled one.entries) same one.made;
+      points = one.points;
+      read = one.read;
+      put = one.put;
+      all = one.all;
+      made = subst (λ (n : ℕ). ArePuts n one.put entries) same one.makes.made;
     } in record {
-      entries = one.entries ++ rest.entries;
-      all = (one.entries, rest.entries, (puts, (rest.all, refl)));
-      once = rest.once ∙ (ap (λ (es : List Entry). es ++ rest.entries) one.once ∙ append_assoc (own_entries a) one.entries rest.entries);
+      entries = entries ++ rest.entries;
+      all = (entries, rest.entries, (puts, (rest.all, refl)));
+      once = rest.once ∙ (ap (λ (es : List Entry). es ++ rest.entries) one.makes.once ∙ append_assoc (own_entries a) entries rest.entries);
     }
 
 -- a pass that had made nothing

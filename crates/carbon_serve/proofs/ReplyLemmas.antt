@@ -158,7 +158,7 @@ module _ (w : Origin) (number : ℕ) (history : List Entry) where
         → from.pass.number ≡ number → IsPrefix to.pass.seen history → EndsAs w (TellsShort failed) reason taken left from to → RepliesAreOf links w number history link
     ends_of failed end.Closed taken left from to before after same begins ends = whole_of ends.0 from to before after same begins ends.1.1.1
     ends_of failed (end.Refused code) taken left from to before after same begins ends = whole_of (ends.0 ++ Refused ends.1 ∷ []) from to before after same begins ends.2.1.1
-    ends_of failed end.ReadFault taken left from to before after same begins ends = whole_of ends.0 from to before after same begins ends.1.1
+    ends_of failed end.ReadFault taken left from to before after same begins ends = whole_of ends.0 from to before after same begins ends.1.1.0
     ends_of failed end.LinkLimit taken left from to before after same begins ends = whole_of ends.0 from to before after same begins ends.1.1.0
     ends_of failed end.Spent taken left from to before after same begins ends = whole_of ends.0 from to before after same begins ends.2.1.0
     ends_of failed end.WriteFault taken left from to before after same begins ends =

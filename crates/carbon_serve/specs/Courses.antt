@@ -6,6 +6,7 @@ use Rattle.outside_io.specs.declared.source.Source.{Ghosts as SourceGhosts}
 use Rattle.outside_io.specs.declared.sink.Sink.{Ghosts as SinkGhosts}
 use Rattle.outside_io.specs.declared.clock.Clock.{Ghosts as ClockGhosts}
 use Rattle.atomic_table.specs.Seated.{TableId}
+use Rattle.aggregate_rules.specs.RuleTexts.{RuleValue}
 use Rattle.carbon_history.specs.declared.entry.Entry.{Entry}
 use Rattle.carbon_history.specs.Entries.{of_pass}
 use Rattle.carbon_model.specs.State.{State}
@@ -16,17 +17,17 @@ use Rattle.carbon_serve.specs.Crews.{Finishes, role_of}
 use Rattle.carbon_serve.specs.Deeds.{Did, Telling, telling}
 use Rattle.carbon_serve.specs.declared.crew.Duties.{Duties}
 
--- Who serves: the moments that their clock may tell, what links tell of themselves, the duties of the workers, and how many passes there are, the
--- crew's own as the last.
+-- Who serves: the moments that their clock may tell, what links tell of themselves, with the rules that gather their points, the duties of the workers, and
+-- how many passes there are, the crew's own as the last.
 pub record Staff (L : Type 0) : Type 1 where
   pub moments : ℕ → Type 0
   pub links : Telling L
   pub duties : Duties
   pub passes : ℕ
 
-abbrev pub staff_of : {C L : Type 0} → ClockGhosts C → SourceGhosts L → SinkGhosts L → C → Duties → ℕ → Staff L
-staff_of clocks source sink clock duties passes =
-    record { moments = clocks.moments clock; links = telling source sink; duties = duties; passes = passes }
+abbrev pub staff_of : {C L : Type 0} → ClockGhosts C → SourceGhosts L → SinkGhosts L → C → List RuleValue → Duties → ℕ → Staff L
+staff_of clocks source sink clock rules duties passes =
+    record { moments = clocks.moments clock; links = telling source sink rules; duties = duties; passes = passes }
 
 -- what they serve from, over disks that had told these images and from a state
 abbrev pub origin_by : {L : Type 0} → Staff L → (ℕ → Option Image) → State → Origin

@@ -3,6 +3,7 @@ use Rattle.std.specs.Prelude.{◌≡◌, ◌≢◌, ◌<◌, ℕ, All, List, [],
 use Rattle.outside_io.specs.Faults.{Rose}
 use Rattle.outside_io.specs.declared.source.Source.{Ghosts as SourceGhosts}
 use Rattle.outside_io.specs.declared.sink.Sink.{Ghosts as SinkGhosts}
+use Rattle.aggregate_rules.specs.RuleTexts.{RuleValue}
 use Rattle.carbon_history.specs.declared.entry.Entry.{Entry}
 use Rattle.carbon_history.specs.declared.entry.Entry.TheVariants.{Drain, Fault}
 use Rattle.shared_history.specs.Parts.{PassValue, own_entries}
@@ -23,19 +24,21 @@ use Rattle.carbon_serve.specs.declared.workers.Worker.{Worker}
 -- ---- links
 
 -- What links tell of themselves: which bytes are left of one, and which were written to it, each where it tells them; and how many of its reads and
--- writes failed.
+-- writes failed. And the rules that gather the points which one brings.
 pub record Telling (L : Type 0) : Type 0 where
   pub left : L → Option (List ℕ)
   pub written : L → Option (List ℕ)
   pub failed_reads : L → ℕ
   pub failed_writes : L → ℕ
+  pub rules : List RuleValue
 
-abbrev pub telling : {L : Type 0} → SourceGhosts L → SinkGhosts L → Telling L
-telling source sink = record {
+abbrev pub telling : {L : Type 0} → SourceGhosts L → SinkGhosts L → List RuleValue → Telling L
+telling source sink rules = record {
   left = source.left;
   written = sink.written;
   failed_reads = source.read_faults;
   failed_writes = sink.write_faults;
+  rules = rules;
 }
 
 -- A link of metric lines that was served: as it came, as it was left, why its service ended, and its lines by what became of them.
@@ -51,10 +54,10 @@ pub record HttpLink (L : Type 0) : Type 0 where
   pub after : L
   pub end : HttpEnd
 
--- It was served by a pass, from where that stood to where it stands: its lines were handled, and nothing was written to it. The count of failed reads
+-- It was served by a pass, from where that stood to where it stands: its lines were handled, by the rules, and nothing was written to it. The count of failed reads
 -- rose where that ended it.
 pub record ServesLineLink {L : Type 0} (links : Telling L) (w : Origin) (link : LineLink L) (old new : PassValue) : Type 0 where
-  pub ends : Ends w.moments w.start w.passes link.cause (links.left link.before) (links.left link.after) (new_session old) (record { pass = new; counts = link.counts })
+  pub ends : Ends w.moments w.start w.passes link.cause (links.left link.before) (links.left link.after) (new_session links.rules old) new link.counts
   pub silent : links.written link.after ≡ links.written link.before
   pub reads : link.cause ≡ cause.ReadFault → Rose (links.failed_reads link.before) (links.failed_reads link.after)
 

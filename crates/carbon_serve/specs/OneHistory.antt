@@ -4,6 +4,7 @@ use Rattle.std.specs.Io.KnownBytes.{Appends, Consumes}
 use Rattle.std.specs.List.{AllZip}
 use mathlib.Core.List.{IsPrefix}
 use Rattle.outside_io.specs.Sink.{AppendsFront}
+use Rattle.aggregate_rules.specs.RuleTexts.{RuleValue}
 use Rattle.carbon_history.specs.declared.entry.Entry.{Entry}
 use Rattle.carbon_history.specs.declared.entry.Entry.TheVariants.{Ask, Fault}
 use Rattle.carbon_model.specs.Found.{Finds}
@@ -20,8 +21,9 @@ use Rattle.render_answer.specs.declared.answer.Answer.{Answer as QueryAnswer}
 use Rattle.render_answer.specs.declared.answer.Answer.TheVariants as answered
 use Rattle.render_answer.specs.declared.refusal.Refusal.TheVariants.{Query}
 use Rattle.line_frame.specs.Lines.{Line, lines}
+use Rattle.metric_line.specs.Point.{Point}
 use Rattle.line_service.specs.Service.{RunsOut}
-use Rattle.line_front.specs.Links.{AreOfLines}
+use Rattle.line_front.specs.Points.{ArePuts, LinesBring, none_gathered, points_of_link, points_put}
 use Rattle.line_front.specs.declared.ends.LineCause.{LineCause}
 use Rattle.line_front.specs.declared.ends.LineCause.TheVariants as cause
 use Rattle.http_wire.specs.Requests.{Asked, Item, Request, Refused}
@@ -134,13 +136,27 @@ AreHandled cause.Spent taken handled = IsPrefix handled (lines taken)
 AreHandled cause.NoMemory taken handled =
     ((front : List ℕ) × (RunsOut front taken × (handled ≡ lines front))) ⊎ IsPrefix handled (lines taken)
 
--- These entries are the puts of a link: one for each line that is read as a point, in order, of the lines that were handled.
+-- which points were put of a link whose lines brought these: each of them, and behind it those that the rules emit for it, and at the link's end those that
+-- they have open; or the first of these, where the pass was spent or memory ran out
+abbrev pub ArePut : LineCause → List RuleValue → List Point → List Point → Type 0
+ArePut cause.Closed rules points put = put ≡ points_of_link rules points
+ArePut cause.ReadFault rules points put = put ≡ points_put (none_gathered rules) points
+ArePut cause.LinkLimit rules points put = put ≡ points_put (none_gathered rules) points
+ArePut cause.Spent rules points put = IsPrefix put (points_of_link rules points)
+ArePut cause.NoMemory rules points put = IsPrefix put (points_of_link rules points)
+
+-- These entries are the puts of a link: one for each line that is read as a point, in order, of the lines that were handled, and behind it one for each
+-- point that the rules emit for it.
 pub record PutsOf {L : Type 0} (links : Telling L) (w : Origin) (number : ℕ) (link : LineLink L) (entries : List Entry) : Type 0 where
   pub taken : List ℕ
   pub consumed : Consumes (links.left link.before) (links.left link.after) taken
   pub handled : List Line
   pub are : AreHandled link.cause taken handled
-  pub made : AreOfLines w.moments number handled entries
+  pub points : List Point
+  pub read : LinesBring w.moments handled points
+  pub put : List Point
+  pub all : ArePut link.cause links.rules points put
+  pub made : ArePuts number put entries
 
 -- the same of links one after the other
 abbrev pub PutsOfAll : {L : Type 0} → Telling L → Origin → ℕ → List (LineLink L) → List Entry → Type 0

@@ -5,6 +5,7 @@ ghost use Rattle.carbon_serve.specs.Crews.{HasRole, OnlySaw, in_order, lacks_roo
 
 use crate::pace::Pace;
 use crate::workers::{Role, Worker, moment, work_all};
+use aggregate_rules::AggRules;
 use outside_io::{Clock, Disk, Net};
 use shared_history::Pass;
 use shared_store::{DrainEnd, Named, Store, StorePass, has_room};
@@ -107,24 +108,32 @@ impl Crew {
         })
     }
 
-    /// Serves a net until it is closed or passes are spent.
+    /// Serves a net until it is closed or passes are spent. The rules gather each link's points.
     pub(crate) fn work<
         R: Threads + Wait + Sync,
         D: Disk + Send,
         N: Named + Send + Sync,
         C: Clock + Sync,
         E: Net + Sync,
-    >(&mut self, rt: &R, alloc: Global, store: &Store<D, N>, clock: &C, net: &E)
+    >(&mut self, rt: &R, alloc: Global, store: &Store<D, N>, clock: &C, net: &E, rules: &AggRules)
     where
         E::L: Drop + Send,
         requires one { All (λ pass. pass.table ≡ N.table) self.old.served }
         ensures went { AllWent (C.moments clock.now) N.start self.old.served self.new.served }
-        ensures did { AllDid (telling E.L.Source E.L.Sink) (origin_of C.Clock N.Named clock.now)
-            self.old.duties self.old.served self.new.served }
+        ensures did { AllDid (telling E.L.Source E.L.Sink rules.now)
+            (origin_of C.Clock N.Named clock.now) self.old.duties self.old.served self.new.served }
         ensures own { self.new.own ≡ self.old.own }
         ensures duties { self.new.duties ≡ self.old.duties }
     {
-        work_all(rt, alloc, store, clock, net, self.workers.as_mut_slice());
+        work_all(
+            rt,
+            alloc,
+            store,
+            clock,
+            net,
+            rules,
+            self.workers.as_mut_slice(),
+        );
     }
 
     /// Takes all passes back. The crew's own pass learns what they have seen.

@@ -6,6 +6,7 @@ ghost use Rattle.carbon_serve.specs.Deeds.{AllDo, DoesRole, telling};
 ghost use Rattle.carbon_serve.specs.Workers.{AllWork, IsReady, Works, WorksBy};
 
 use crate::pace::Pace;
+use aggregate_rules::AggRules;
 use http_front::{HttpEnd, serve_http};
 use line_front::{LineCause, Served as ServedLines, serve_lines};
 use outside_io::{Clock, Disk, Net};
@@ -53,6 +54,8 @@ pub(crate) struct Server<'a, R: Wait, D: Disk, N: Named, C: Clock, E: Net> {
     pub(crate) store: &'a Store<D, N>,
     pub(crate) clock: &'a C,
     pub(crate) net: &'a E,
+    // What gathers the points of each link that brings metric lines.
+    pub(crate) rules: &'a AggRules,
     // How many workers serve links: once there are none the drainers end.
     pub(crate) link_workers: &'a AtomicUsize,
     // A bit for each class that a drainer is at.
@@ -73,7 +76,7 @@ where
     pub(crate) fn work(&self, worker: &mut Worker)
         requires one { IsReady N.table worker.old }
         ensures works { WorksBy (C.moments self.now.clock.now) N.start worker.old.pass worker.new.pass }
-        ensures does { DoesRole (telling E.L.Source E.L.Sink)
+        ensures does { DoesRole (telling E.L.Source E.L.Sink self.now.rules.now)
             (origin_of C.Clock N.Named self.now.clock.now) worker.old worker.new }
     {
         let Some(pass) = worker.pass.take() else {
@@ -88,7 +91,7 @@ where
 
     fn work_by(&self, role: Role, pass: StorePass<N>) -> StorePass<N>
         ensures works { Works (C.moments self.now.clock.now) N.start pass result }
-        ensures did { Did (telling E.L.Source E.L.Sink)
+        ensures did { Did (telling E.L.Source E.L.Sink self.now.rules.now)
             (origin_of C.Clock N.Named self.now.clock.now) role pass result }
     {
         let mut pass = pass;
@@ -100,12 +103,12 @@ where
         pass
     }
 
-    // Puts the points that links bring. Whatever ends a link, but a spent pass, ends that link
-    // alone.
+    // Puts the points that links bring, and those that the rules emit for each link. Whatever ends
+    // a link, but a spent pass, ends that link alone.
     #[tactic(auto, using(crate::proofs::DeedLemmas::receives_none, crate::proofs::DeedLemmas::receives_more, crate::proofs::WorkLemmas::works_same, crate::proofs::WorkLemmas::works_then))]
     fn receive(&self, pass: StorePass<N>) -> StorePass<N>
         ensures works { Works (C.moments self.now.clock.now) N.start pass result }
-        ensures did { Receives (telling E.L.Source E.L.Sink)
+        ensures did { Receives (telling E.L.Source E.L.Sink self.now.rules.now)
             (origin_of C.Clock N.Named self.now.clock.now) pass result }
     {
         let mut pass = pass;
@@ -124,18 +127,20 @@ where
 
     fn receive_link(&self, pass: StorePass<N>, link: E::L) -> ServedLines<N>
         ensures works { Works (C.moments self.now.clock.now) N.start pass result.pass }
-        ensures did { ServesLineOf (telling E.L.Source E.L.Sink)
+        ensures did { ServesLineOf (telling E.L.Source E.L.Sink self.now.rules.now)
             (origin_of C.Clock N.Named self.now.clock.now) link pass result.pass }
     {
         let mut link = link;
-        serve_lines(self.rt, self.alloc, self.store, pass, &mut link, self.clock)
+        serve_lines(
+            self.rt, self.alloc, self.store, pass, &mut link, self.clock, self.rules,
+        )
     }
 
     // Answers the requests that links bring, and goes on likewise.
     #[tactic(auto, using(crate::proofs::DeedLemmas::renders_none, crate::proofs::DeedLemmas::renders_more, crate::proofs::WorkLemmas::works_same, crate::proofs::WorkLemmas::works_then))]
     fn render(&self, pass: &mut StorePass<N>, answer_bytes: u64)
         ensures works { Works (C.moments self.now.clock.now) N.start pass.old pass.new }
-        ensures did { Renders (telling E.L.Source E.L.Sink)
+        ensures did { Renders (telling E.L.Source E.L.Sink self.now.rules.now)
             (origin_of C.Clock N.Named self.now.clock.now) pass.old pass.new }
     {
         for _link in self.rt.forever() {
@@ -151,7 +156,7 @@ where
 
     fn render_link(&self, pass: &mut StorePass<N>, link: E::L, answer_bytes: u64) -> HttpEnd
         ensures works { Works (C.moments self.now.clock.now) N.start pass.old pass.new }
-        ensures did { ServesHttpOf (telling E.L.Source E.L.Sink)
+        ensures did { ServesHttpOf (telling E.L.Source E.L.Sink self.now.rules.now)
             (origin_of C.Clock N.Named self.now.clock.now) link pass.old pass.new }
     {
         let mut link = link;
@@ -186,14 +191,22 @@ pub(crate) fn work_all<
     N: Named + Send + Sync,
     C: Clock + Sync,
     E: Net + Sync,
->(rt: &R, alloc: Global, store: &Store<D, N>, clock: &C, net: &E, workers: &mut [Worker])
+>(
+    rt: &R,
+    alloc: Global,
+    store: &Store<D, N>,
+    clock: &C,
+    net: &E,
+    rules: &AggRules,
+    workers: &mut [Worker],
+)
 where
     E::L: Drop + Send,
     requires some { 0 < length workers.old }
     requires ready { All (IsReady N.table) workers.old }
     ensures workers { AllWork (C.moments clock.now) N.start workers.old workers.new }
-    ensures do_all { AllDo (telling E.L.Source E.L.Sink) (origin_of C.Clock N.Named clock.now)
-        workers.old workers.new }
+    ensures do_all { AllDo (telling E.L.Source E.L.Sink rules.now)
+        (origin_of C.Clock N.Named clock.now) workers.old workers.new }
 {
     let threads = workers.len();
     let link_workers = AtomicUsize::new(count_link_workers(workers));
@@ -205,7 +218,7 @@ where
         &|_, worker: &mut Worker|
             requires { IsReady N.table worker.now }
             ensures works { WorksBy (C.moments clock.entry.now) N.start worker.old.pass worker.new.pass }
-            ensures does { DoesRole (telling E.L.Source E.L.Sink)
+            ensures does { DoesRole (telling E.L.Source E.L.Sink rules.entry.now)
                 (origin_of C.Clock N.Named clock.entry.now) worker.old worker.new }
         {
             let server = Server {
@@ -214,6 +227,7 @@ where
                 store,
                 clock,
                 net,
+                rules,
                 link_workers: &link_workers,
                 taken: &taken,
             };

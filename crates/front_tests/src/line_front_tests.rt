@@ -6,7 +6,9 @@ ghost use Rattle.shard_set.specs.OpeningState.{opening_of};
 ghost use Rattle.shared_history.specs.Parts.{AreNewPasses};
 ghost use Rattle.shared_store.specs.Starts.{IsFresh};
 
+use aggregate_front::AggRules;
 use drain_order::Strategy;
+use http_front::serve_http;
 use line_front::*;
 use line_service::{ServiceEnd, Stop};
 use metric_path::CLASSES;
@@ -24,6 +26,34 @@ use std::test::Fail;
 // The moment of the clock.
 const NOW: u64 = 1_700_000_030;
 
+// The moment of a question.
+const LATER: u64 = 1_700_000_430;
+
+// How many bytes the answer to a question may take.
+const ANSWER_BYTES: u64 = 1_000_000;
+
+// What links of metric lines go into, and what is asked when they have ended.
+#[derive(Clone, Copy)]
+struct Given<'a> {
+    // How many points of a class may be pending.
+    limit: u64,
+    // The file of the aggregation rules.
+    rules: &'a [u8],
+    // A link of requests.
+    question: &'a [u8],
+}
+
+// No rules, and no question.
+const fn plain(limit: u64) -> Given<'static>
+    ensures { result.limit ≡ limit }
+{
+    Given {
+        limit,
+        rules: b"",
+        question: b"",
+    }
+}
+
 // What the links of a run came to.
 #[derive(Drop)]
 struct Came {
@@ -34,6 +64,8 @@ struct Came {
     tally: Tally,
     // How many bytes were written to the links.
     written: usize,
+    // What was written to the link of the question.
+    answer: Vec<u8>,
 }
 
 // ---- a run
@@ -65,14 +97,16 @@ fn start_shards(alloc: Global, limit: u64) -> Result<Started<MemDisk>, Fail>
     }
 }
 
-// Serves the links one after the other, by one pass.
+// Serves the links one after the other, by one pass, and then the question.
 fn serve_all<N: Named, R: Wait>(
     rt: &R,
     alloc: Global,
     store: &Store<MemDisk, N>,
     pass: StorePass<N>,
     links: Vec<MemLink>,
-) -> Came {
+    rules: &AggRules,
+    question: &[u8],
+) -> Result<Came, AllocError> {
     let clock = FixedClock::new(NOW);
     let mut pass = pass;
     let mut cause = LineCause::Closed;
@@ -80,18 +114,35 @@ fn serve_all<N: Named, R: Wait>(
     let mut written: usize = 0;
     for link in links {
         let mut link = link;
-        let served = serve_lines(rt, alloc, store, pass, &mut link, &clock);
+        let served = serve_lines(rt, alloc, store, pass, &mut link, &clock, rules);
         pass = served.pass;
         cause = served.cause;
         counts = served.counts;
         written = written.saturating_add(link.sink.bytes().len());
     }
-    Came {
+    let tally = store.tally(rt, &mut pass);
+    let answer = ask(rt, alloc, store, &mut pass, question)?;
+    Ok(Came {
         cause,
         counts,
-        tally: store.tally(rt, &mut pass),
+        tally,
         written,
-    }
+        answer,
+    })
+}
+
+// What is written to a link of requests.
+fn ask<N: Named, R: Wait>(
+    rt: &R,
+    alloc: Global,
+    store: &Store<MemDisk, N>,
+    pass: &mut StorePass<N>,
+    question: &[u8],
+) -> Result<Vec<u8>, AllocError> {
+    let mut link = link_of(alloc, source_of(alloc, question)?);
+    let clock = FixedClock::new(LATER);
+    let _ = serve_http(rt, alloc, store, pass, &mut link, &clock, ANSWER_BYTES);
+    Ok(link.sink.into_bytes())
 }
 
 fn run_store<N: Named, R: Wait>(
@@ -100,6 +151,8 @@ fn run_store<N: Named, R: Wait>(
     parts: Parts<MemDisk>,
     passes: Vec<Pass>,
     links: Vec<MemLink>,
+    rules: &AggRules,
+    question: &[u8],
 ) -> Result<Came, Fail>
     requires fresh { IsFresh N.table N.passes N.halves N.told N.start N.faults parts }
     requires new { AreNewPasses N.table passes.items }
@@ -110,13 +163,20 @@ fn run_store<N: Named, R: Wait>(
     };
     let pass = StorePass::new(pass);
     match Store::<MemDisk, N>::start(alloc, parts) {
-        Ok(store) => Ok(serve_all(rt, alloc, &store, pass, links)),
+        Ok(store) => Ok(serve_all(rt, alloc, &store, pass, links, rules, question)?),
         Err(_) => Err(Fail::new("there is memory for a store")),
     }
 }
 
-// Serves the links into a store that keeps nothing yet.
-fn run<R: Wait>(rt: &R, alloc: Global, limit: u64, links: Vec<MemLink>) -> Result<Came, Fail>
+// Serves the links into a store that keeps nothing yet, and then the question.
+fn run_links<R: Wait>(
+    rt: &R,
+    alloc: Global,
+    limit: u64,
+    links: Vec<MemLink>,
+    rules: &AggRules,
+    question: &[u8],
+) -> Result<Came, Fail>
     requires { 0 < limit }
 {
     let Started { shards, .. } = start_shards(alloc, limit)?;
@@ -127,7 +187,21 @@ fn run<R: Wait>(rt: &R, alloc: Global, limit: u64, links: Vec<MemLink>) -> Resul
         pairs: make_pairs(alloc)?,
         shards,
     };
-    run_store::<Brand, R>(rt, alloc, parts, passes, links)
+    run_store::<Brand, R>(rt, alloc, parts, passes, links, rules, question)
+}
+
+fn read_rules(alloc: Global, text: &[u8]) -> Result<AggRules, Fail> {
+    match AggRules::read(alloc, text) {
+        Ok(rules) => Ok(rules),
+        Err(_) => Err(Fail::new("the rules can be read")),
+    }
+}
+
+fn run<R: Wait>(rt: &R, alloc: Global, given: &Given<'_>, links: Vec<MemLink>) -> Result<Came, Fail>
+    requires { 0 < given.now.limit }
+{
+    let rules = read_rules(alloc, given.rules)?;
+    run_links(rt, alloc, given.limit, links, &rules, given.question)
 }
 
 // ---- links
@@ -148,7 +222,7 @@ fn run_one<R: Wait>(rt: &R, alloc: Global, limit: u64, source: MemSource) -> Res
 {
     let mut links = Vec::new(alloc);
     links.push(link_of(alloc, source))?;
-    run(rt, alloc, limit, links)
+    run(rt, alloc, &plain(limit), links)
 }
 
 // ---- what is wanted
@@ -336,7 +410,7 @@ fn run_two<R: Wait>(rt: &R, alloc: Global, first: &[u8], second: &[u8]) -> Resul
     let mut links = Vec::new(alloc);
     links.push(link_of(alloc, source_of(alloc, first)?))?;
     links.push(link_of(alloc, source_of(alloc, second)?))?;
-    run(rt, alloc, 1_000, links)
+    run(rt, alloc, &plain(1_000), links)
 }
 
 #[test]
@@ -351,5 +425,223 @@ fn a_pass_serves_one_link_after_the_other(rt: HostRuntime) -> Result<(), Fail> {
     counts.replaced = 1;
     assert_eq!(rt; came.counts, counts);
     assert!(rt; came.tally.stored == 2 && came.tally.replaced == 1);
+    Ok(())
+}
+
+// ---- rules
+
+// The requests of all hosts of an application, by the minute.
+const RULES: &[u8] = b"all.<app>.requests (60) = sum web.<app>.*.requests\n";
+
+// What the rule writes for the application `x`, at its first minute.
+const QUESTION: &[u8] =
+    b"GET /render?target=all.x.requests&from=1700000050&until=1700000150 HTTP/1.1\r\nHost: x\r\n\r\n";
+
+// Points of six minutes one after the other: the sixth minute has the first emitted.
+const SIX: &[u8] =
+    b"web.x.h1.requests 1 1700000100\nweb.x.h1.requests 1 1700000160\nweb.x.h1.requests 1 1700000220\n\
+    web.x.h1.requests 1 1700000280\nweb.x.h1.requests 1 1700000340\nweb.x.h1.requests 1 1700000400\n";
+
+// Links by the rule, and what is to come of them.
+#[derive(Clone, Copy)]
+struct Row<'a> {
+    links: &'a [&'a [u8]],
+    // Which reads of each link fail.
+    failing: &'a [u64],
+    // How the last link ends, and how many of its lines were stored and how many replaced a point.
+    cause: LineCause,
+    stored: u64,
+    replaced: u64,
+    // The same of all that was put, also of what the rule emitted.
+    all_stored: u64,
+    all_replaced: u64,
+    // How the answer to the question ends.
+    answer: &'a [u8],
+}
+
+fn links_of(alloc: Global, row: &Row<'_>) -> Result<Vec<MemLink>, AllocError> {
+    let mut links = Vec::new(alloc);
+    for text in row.links {
+        let failing = Vec::from_slice(alloc, row.failing)?;
+        let source = source_of(alloc, text)?.failing(failing);
+        links.push(link_of(alloc, source))?;
+    }
+    Ok(links)
+}
+
+fn run_row<R: Wait>(rt: &R, alloc: Global, row: &Row<'_>) -> Result<Came, Fail> {
+    let given = Given {
+        limit: 1_000,
+        rules: RULES,
+        question: QUESTION,
+    };
+    run(rt, alloc, &given, links_of(alloc, row)?)
+}
+
+fn assert_row_came(rt: &impl Abort, came: &Came, row: &Row<'_>, number: usize) {
+    let mut counts = stored(row.stored);
+    counts.replaced = row.replaced;
+    let tally = Tally {
+        stored: row.all_stored,
+        replaced: row.all_replaced,
+        full: 0,
+        drains: 0,
+    };
+    assert!(rt; came.cause == row.cause && came.written == 0, "{number}");
+    assert!(rt;
+        came.counts == counts && came.tally == tally,
+        "{number}: {:?}",
+        came.counts
+    );
+    assert!(rt;
+        came.answer.ends_with(row.answer),
+        "{number}: {:?}",
+        came.answer
+    );
+}
+
+fn assert_row<R: Wait + Abort>(
+    rt: &R,
+    alloc: Global,
+    row: &Row<'_>,
+    number: usize,
+) -> Result<(), Fail> {
+    let came = run_row(rt, alloc, row)?;
+    assert_row_came(rt, &came, row, number);
+    Ok(())
+}
+
+// Two hosts of one minute, in one link and in two.
+const SUM: Row<'static> = Row {
+    links: &[b"web.x.h1.requests 1 1700000100\nweb.x.h2.requests 2 1700000110\n"],
+    failing: &[],
+    cause: LineCause::Closed,
+    stored: 2,
+    replaced: 0,
+    all_stored: 3,
+    all_replaced: 0,
+    answer: b"[[3.0, 1700000100]]}]",
+};
+
+const APART: Row<'static> = Row {
+    links: &[
+        b"web.x.h1.requests 1 1700000100\n",
+        b"web.x.h2.requests 2 1700000110\n",
+    ],
+    stored: 1,
+    all_replaced: 1,
+    answer: b"[[2.0, 1700000100]]}]",
+    ..SUM
+};
+
+// A read that fails behind the lines, of one minute and of six.
+const FAILED: Row<'static> = Row {
+    failing: &[2],
+    cause: LineCause::ReadFault,
+    all_stored: 2,
+    answer: b"\r\n\r\n[]",
+    ..SUM
+};
+
+const SIX_FAILED: Row<'static> = Row {
+    links: &[SIX],
+    failing: &[2],
+    cause: LineCause::ReadFault,
+    stored: 6,
+    replaced: 0,
+    all_stored: 7,
+    all_replaced: 0,
+    answer: b"[[1.0, 1700000100]]}]",
+};
+
+#[test]
+fn what_rules_emit_is_put_and_not_counted(rt: HostRuntime) -> Result<(), Fail> {
+    let rows = [SUM, APART, FAILED, SIX_FAILED];
+    for (number, row) in rows.iter().enumerate() {
+        assert_row(&rt, rt.alloc(), row, number)?;
+    }
+    Ok(())
+}
+
+// Serves the points of six minutes and one line more.
+fn assert_behind_six<R: Wait + Abort>(
+    rt: &R,
+    alloc: Global,
+    line: &[u8],
+    answer: &[u8],
+) -> Result<(), Fail> {
+    let mut text = Vec::from_slice(alloc, SIX)?;
+    text.extend_from_slice(line)?;
+    let row = Row {
+        links: &[&text],
+        failing: &[],
+        cause: LineCause::Closed,
+        stored: 6,
+        replaced: 1,
+        all_stored: 12,
+        all_replaced: 1,
+        answer,
+    };
+    assert_row(rt, alloc, &row, 0)
+}
+
+// The point is put, and comes to no minute: its own was emitted.
+#[test]
+fn a_point_of_a_minute_that_was_emitted_is_passed_over(rt: HostRuntime) -> Result<(), Fail> {
+    let line = b"web.x.h1.requests 9 1700000100\n";
+    assert_behind_six(&rt, rt.alloc(), line, b"[[1.0, 1700000100]]}]")
+}
+
+// It replaces what the sixth line had emitted, and is counted as one that does.
+#[test]
+fn what_a_line_emits_is_put_before_the_next_line(rt: HostRuntime) -> Result<(), Fail> {
+    let line = b"all.x.requests 5 1700000100\n";
+    assert_behind_six(&rt, rt.alloc(), line, b"[[5.0, 1700000100]]}]")
+}
+
+// ---- many lines by rules
+
+// 600 points of seven hosts, each three seconds behind the one before: those of thirty minutes, of
+// which twenty-five are emitted as the lines come.
+fn many_lines(alloc: Global) -> Result<Vec<u8>, AllocError> {
+    let mut text = Vec::new(alloc);
+    for k in 0..600_u32 {
+        let time = 1_700_000_100 + 3 * k;
+        let line = format!(in alloc; "web.x.h{}.requests {k} {time}\n", k % 7)?;
+        text.extend_from_slice(line.as_bytes())?;
+    }
+    Ok(text)
+}
+
+// Serves them, of which at most so many bytes come at once.
+fn run_many<R: Wait>(rt: &R, alloc: Global, most: usize) -> Result<Came, Fail>
+    requires { 0 < most }
+{
+    let mut links = Vec::new(alloc);
+    let source = MemSource::new(alloc, many_lines(alloc)?).at_most(most);
+    links.push(link_of(alloc, source))?;
+    let given = Given {
+        limit: 1_000,
+        rules: RULES,
+        question: QUESTION,
+    };
+    run(rt, alloc, &given, links)
+}
+
+// The first minute has the values 0 to 19.
+const MANY: Row<'static> = Row {
+    links: &[],
+    stored: 600,
+    all_stored: 630,
+    answer: b"[[190.0, 1700000100]]}]",
+    ..SUM
+};
+
+#[test]
+fn many_lines_of_a_piece_come_to_the_rules_as_if_one_by_one(rt: HostRuntime) -> Result<(), Fail> {
+    for most in [65_536, 700, 20] {
+        let came = run_many(&rt, rt.alloc(), most)?;
+        assert_row_came(&rt, &came, &MANY, most);
+    }
     Ok(())
 }

@@ -45,12 +45,12 @@ ends_piece w reason left left1 left2 kept from mid to count piece r consumes bre
 }
 
 -- a read failed
-pub ends_failed : (w : Origin) (left left1 left2 kept : Option (List ℕ)) (from to : At) (count : ℕ) → Reached w left from count left1 kept to → ForSome kept Awaits → Keeps left1 left2
+pub ends_failed : (w : Origin) (left left1 left2 kept : Option (List ℕ)) (from to : At) (count : ℕ) → Reached w left from count left1 kept to → ForSome kept Awaits → count < 2 ^ 40 → Keeps left1 left2
     → Ends w IsSilent end.ReadFault left left2 from to
-ends_failed w left left1 left2 kept from to count r waits keeps = record {
+ends_failed w left left1 left2 kept from to count r waits few keeps = record {
   taken = r.taken;
   consumed = Consumes-kept left left1 left2 r.taken r.consumed keeps;
-  ends = (r.served.items, ((kept, (r.served.hands, waits)), serves_of w from to r.taken kept r.served));
+  ends = (r.served.items, ((kept, (r.served.hands, waits)), (serves_of w from to r.taken kept r.served, omega (arith, r.counted, few))));
 }
 
 -- as many bytes were taken as are taken at most

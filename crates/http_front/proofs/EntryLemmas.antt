@@ -144,7 +144,7 @@ makes_ends : (w : Origin) (tells : Option (List ℕ) → Option (List ℕ) → T
     → MakesAsks w from.pass to.pass
 makes_ends w tells end.Closed taken left from to ends = makes_serves w ends.0 from to ends.1.1.1
 makes_ends w tells (end.Refused code) taken left from to ends = makes_serves w _ from to ends.2.1.1
-makes_ends w tells end.ReadFault taken left from to ends = makes_serves w ends.0 from to ends.1.1
+makes_ends w tells end.ReadFault taken left from to ends = makes_serves w ends.0 from to ends.1.1.0
 makes_ends w tells end.LinkLimit taken left from to ends = makes_serves w ends.0 from to ends.1.1.0
 makes_ends w tells end.WriteFault taken left from to ends =
     let part = ends.2.1 in

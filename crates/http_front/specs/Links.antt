@@ -105,8 +105,8 @@ abbrev pub TellsShort : Type 0 → Option (List ℕ) → Option (List ℕ) → T
 TellsShort failed before after = Appends before after unavailable_reply ⊎ (AppendsFront before after unavailable_reply × failed)
 
 -- What stands at each end of a link, of which the bytes `taken` were read. A link that is closed came to its end between two requests, or ends after
--- a request. At a failed read and at the limit all requests are answered that are whole in what was taken. At a failed write and where the pass is spent
--- those before an item are.
+-- a request. At a failed read, which comes before the limit, and at the limit all requests are answered that are whole in what was taken. At a failed
+-- write and where the pass is spent those before an item are.
 abbrev pub EndsAs : Origin → (Option (List ℕ) → Option (List ℕ) → Type 0) → HttpEnd → List ℕ → Option (List ℕ) → At → At → Type 0
 EndsAs w tells end.Closed taken left from to =
     (items : List Item) × (AreAllOf taken left items × (AreRequests items × Serves w items from to))
@@ -114,7 +114,7 @@ EndsAs w tells (end.Refused code) taken left from to =
     (items : List Item) × (why : Refusal) × (AreAllOf taken left (items ++ Refused why ∷ [])
     × ((code ≡ code_of why) × Serves w (items ++ Refused why ∷ []) from to))
 EndsAs w tells end.ReadFault taken left from to =
-    (items : List Item) × (AreWholeIn taken items × Serves w items from to)
+    (items : List Item) × (AreWholeIn taken items × (Serves w items from to × (length taken < 2 ^ 40)))
 EndsAs w tells end.LinkLimit taken left from to =
     (items : List Item) × (AreWholeIn taken items × (Serves w items from to × (length taken ≡ 2 ^ 40)))
 EndsAs w tells end.WriteFault taken left from to =

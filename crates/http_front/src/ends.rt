@@ -7,7 +7,7 @@ pub enum HttpEnd {
     Closed,
     /// The link was refused with this status: no request can be read of its bytes, or it ended inside one.
     Refused(u16),
-    /// A read failed. All requests that are whole in what was taken were answered.
+    /// A read failed, before as many bytes were taken as are taken at most. All requests that are whole in what was taken were answered.
     ReadFault,
     /// A write failed.
     WriteFault,

@@ -1,20 +1,15 @@
 -- What the items of a link are answered, and the bytes of all replies.
-use Rattle.std.specs.Prelude.{◌≡◌, ⊤, Bool, true, false, ◌||◌, List, [], ◌∷◌, ◌++◌, ℕ, Result, Ok, Err, if◌then◌else◌}
+use Rattle.std.specs.Prelude.{◌≡◌, ⊤, Bool, true, false, ◌||◌, List, [], ◌∷◌, ◌++◌, ℕ, if◌then◌else◌}
 use Rattle.http_wire.specs.Reading.{seen}
 use Rattle.http_wire.specs.Replies.{body_of, reply_bytes, reply_head}
 use Rattle.http_wire.specs.Requests.{Item, Request, Refused}
-use Rattle.http_wire.specs.Routes.{route}
 use Rattle.http_wire.specs.declared.answer.Answer.{Answer}
 use Rattle.http_wire.specs.declared.answer.Answer.TheVariants as given
 use Rattle.http_wire.specs.declared.answer.Item.{Item as ItemParts}
 use Rattle.http_wire.specs.declared.answer.Item.TheVariants as parts
-use Rattle.http_wire.specs.declared.refusal.Refusal.{Refusal}
 use Rattle.http_wire.specs.declared.refusal.Refusal.TheVariants.{ServerError, Unavailable}
-use Rattle.http_wire.specs.declared.reply.MediaType.TheVariants as media
 use Rattle.http_wire.specs.declared.reply.Reply.{Reply}
 use Rattle.http_wire.specs.declared.reply.Reply.TheVariants as reply
-use Rattle.http_wire.specs.declared.routing.Endpoint.{Endpoint}
-use Rattle.http_wire.specs.declared.routing.Endpoint.TheVariants.{Render, Find, Expand, Index}
 
 -- an item as its reader hands it out
 abbrev pub item_of : ItemParts → Item
@@ -40,34 +35,6 @@ abbrev pub ends_link_with : Item → Answer → Bool
 ends_link_with (Refused why) answer = true
 ends_link_with (Request asked) answer = asked.is_last || is_no_memory answer
 
--- what may be answered to a request for names
-abbrev pub IsFindAnswer : Answer → Type 0
-IsFindAnswer (given.Found media.Json body) = ⊤
-IsFindAnswer (given.Unanswerable text) = ⊤
-IsFindAnswer given.NoMemory = ⊤
-IsFindAnswer answer = ⊥
-
--- What an endpoint may answer. Only the series of a render have other kinds than JSON, and only they are read
--- from a disk. An index is asked nothing that it cannot answer.
-abbrev pub MayGive : Endpoint → Answer → Type 0
-MayGive Render (given.Refused why) = ⊥
-MayGive Render answer = ⊤
-MayGive Find answer = IsFindAnswer answer
-MayGive Expand answer = IsFindAnswer answer
-MayGive Index (given.Unanswerable text) = ⊥
-MayGive Index answer = IsFindAnswer answer
-
--- what may be answered to a request that goes there: a refused one has its refusal
-abbrev pub MayAnswer : Result Endpoint Refusal → Answer → Type 0
-MayAnswer (Err why) answer = answer ≡ given.Refused why
-MayAnswer (Ok endpoint) answer = MayGive endpoint answer
-
--- What may be answered to an item. A refusal that is an item is its own answer. A request that no endpoint
--- answers is refused with 404 or 405, and any other has its endpoint's answer.
-abbrev pub Answers : Item → Answer → Type 0
-Answers (Refused why) answer = answer ≡ given.Refused why
-Answers (Request asked) answer = MayAnswer (route asked.method asked.target) answer
-
 -- the bytes of the reply to an item
 unfoldable pub response_of : Item → Answer → List ℕ
 response_of item answer = reply_bytes (reply_of answer) (ends_link_with item answer)
@@ -86,12 +53,6 @@ responses_of (item ∷ items) (answer ∷ answers) =
     response_of item answer
     ++ (if ends_link_with item answer then [] else responses_of items answers)
 responses_of items answers = []
-
--- Each answer is one that its item may have; the last items may have none yet.
-abbrev pub AreAnswers : List Item → List Answer → Type 0
-AreAnswers items [] = ⊤
-AreAnswers [] (answer ∷ answers) = ⊥
-AreAnswers (item ∷ items) (answer ∷ answers) = Answers item answer × AreAnswers items answers
 
 -- Each of these items has an answer, and the link goes on after all of them.
 abbrev pub KeepLink : List Item → List Answer → Type 0

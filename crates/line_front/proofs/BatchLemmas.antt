@@ -1,5 +1,5 @@
 -- The lines of a batch, from its points to what became of each.
-use Rattle.std.proofs.Common.{◌≡◌, ◌≤◌, ◌<◌, inl, ℕ, suc, Bool, true, List, [], ◌∷◌, ◌++◌, length, Some, Result, Ok, Err, refl, sym, ap, ◌∙◌, subst, arith, length-append, append_assoc}
+use Rattle.std.proofs.Common.{◌≡◌, ◌<◌, inl, inr, ℕ, suc, Bool, true, List, [], ◌∷◌, ◌++◌, length, Some, Result, Ok, Err, refl, sym, ap, ◌∙◌, subst, arith, length-append, append_assoc}
 use Rattle.std.specs.Prelude.{IfErr, IfOk, IsOk}
 use Rattle.line_frame.specs.Lines.{Framing, Line, Whole, TooLong}
 use Rattle.line_frame.specs.Calls.{HandsNext}
@@ -11,14 +11,14 @@ use Rattle.metric_line.specs.declared.fault.LineFault.{LineFault}
 use Rattle.metric_line.specs.LineDatum.{datum_of}
 use Rattle.metric_line.specs.Point.{Point}
 use Rattle.metric_line.specs.Seen.{seen}
-use Rattle.shared_store.specs.Passes.{HasRoom}
-use Rattle.line_front.specs.Batches.{AddsPoint, AreRead, BatchServes, BatchStops, EndsBatch, HasBatchRoom, IsReadAs, IsRefusedAs, LeavesFewer, PutsAll, PutsFewer, PutsOne, ReadsFirst, ReadsNext, ReadsPoint, ReadsPoints}
-use Rattle.line_front.specs.Links.{Handles, HandlesAll, HandlesRead, HasPoint, SessionValue}
+use Rattle.line_front.specs.Batches.{AddsPoint, AreRead, BatchServes, BatchStops, EndsBatch, EndsRefused, IsReadAs, IsRefusedAs, LeavesFewer, ReadsFirst, ReadsNext, ReadsPoint, ReadsPoints, StaysSpent}
+use Rattle.line_front.specs.Bringing.{BringsAll, BringsFewer, BringsOne}
+use Rattle.line_front.specs.Links.{Handles, HandlesAll, HandlesRead, IsPointOf, IsSpent, SessionValue}
 use Rattle.line_front.specs.Sessions.{LinkValue, StopsBy}
 use Rattle.line_front.specs.declared.batch.NoPoint.{NoPoint}
 use Rattle.line_front.specs.declared.batch.NoPoint.TheVariants as none
+use Rattle.line_front.proofs.BringLemmas.{point_stops}
 use Rattle.line_front.proofs.LinkLemmas.{all_append}
-use Rattle.line_front.proofs.PutLemmas.{room_behind}
 
 module _ (moments : ℕ → Type 0) where
   -- ---- reading
@@ -121,27 +121,27 @@ module _ (moments : ℕ → Type 0) where
         here = more.here;
       }
 
-  has_point : (line : Line) (datum : Datum) → IsReadAs moments line datum → HasPoint moments line
-  has_point (Whole line) datum read = (read.0, (read.1.0, subst (λ (r : Result Point LineFault). IsOk r) (sym read.1.1) refl))
-  has_point TooLong datum read = absurd read
+  point_of : (line : Line) (datum : Datum) → IsReadAs moments line datum → IsPointOf moments line (seen datum)
+  point_of (Whole line) datum read = read
+  point_of TooLong datum read = read
 
   -- ---- handling
 
   module _ (start : State) (passes : ℕ) where
-    handles_point : (line : Line) (datum : Datum) (old new : SessionValue) → IsReadAs moments line datum → PutsOne start passes datum old new → Handles moments start passes line old new
+    handles_point : (line : Line) (datum : Datum) (old new : SessionValue) → IsReadAs moments line datum → BringsOne start passes datum old new → Handles moments start passes line old new
     handles_point (Whole line) datum old new read one = record {
       room = one.room;
-      handles = (read.0, (read.1.0, subst (λ (r : Result Point LineFault). HandlesRead start passes r old new) (sym read.1.1) one.puts));
+      handles = (read.0, (read.1.0, subst (λ (r : Result Point LineFault). HandlesRead start passes r old new) (sym read.1.1) one.brings));
     }
     handles_point TooLong datum old new read one = absurd read
 
-    handles_points : (handed : List Line) (points : List Datum) (old new : SessionValue) → AreRead moments handed points → PutsAll start passes points old new
+    handles_points : (handed : List Line) (points : List Datum) (old new : SessionValue) → AreRead moments handed points → BringsAll start passes points old new
         → HandlesAll moments start passes old handed new
-    handles_points [] [] old new read puts = puts
-    handles_points [] (datum ∷ points) old new read puts = absurd read
-    handles_points (line ∷ handed) [] old new read puts = absurd read
-    handles_points (line ∷ handed) (datum ∷ points) old new read puts =
-        (puts.0, (handles_point line datum old puts.0 read.0 puts.1.0, handles_points handed points puts.0 new read.1 puts.1.1))
+    handles_points [] [] old new read brings = brings
+    handles_points [] (datum ∷ points) old new read brings = absurd read
+    handles_points (line ∷ handed) [] old new read brings = absurd read
+    handles_points (line ∷ handed) (datum ∷ points) old new read brings =
+        (brings.0, (handles_point line datum old brings.0 read.0 brings.1.0, handles_points handed points brings.0 new read.1 brings.1.1))
 
     one_more : (handed : List Line) (line : Line) (old mid new : SessionValue) → HandlesAll moments start passes old handed mid → Handles moments start passes line mid new
         → HandlesAll moments start passes old (handed ++ line ∷ []) new
@@ -168,13 +168,19 @@ module _ (moments : ℕ → Type 0) where
               (fewer_lines (handed ++ line ∷ []) framing'.waiting framing.waiting whole (some_lines handed line));
         }
 
+    -- the pass has no room for a line
+    stays_spent : {C : Type 0} (line : Line) (reason : Stop) (mid new : LinkValue C) → StaysSpent reason mid new → StopsBy moments start passes line reason mid.session new.session
+    stays_spent {C} line reason mid new stays =
+        subst (λ (r : Stop). StopsBy moments start passes line r mid.session new.session) (sym stays.0)
+        (inl (ap (λ (v : LinkValue C). v.session) stays.1.0), subst (λ (v : LinkValue C). IsSpent v.session.pass) (sym stays.1.0) stays.1.1)
+
     module _ {C : Type 0} (old : SessionValue) (mid new : LinkValue C) where
       same_end : (handed : List Line) → new ≡ mid → HandlesAll moments start passes old handed mid.session → HandlesAll moments start passes old handed new.session
       same_end handed same all = subst (λ (s : SessionValue). HandlesAll moments start passes old handed s) (sym (ap (λ (v : LinkValue C). v.session) same)) all
 
-      pub batch_serves : {T : Type 0} (framing framing' : Framing) (points : List Datum) (read : Result T NoPoint) (more : Bool) → ReadsPoints moments read framing framing' points → PutsAll start passes points old mid.session
-          → HasRoom mid.session.pass → EndsBatch read (Ok more) mid new → BatchServes moments start passes more framing old framing' new.session
-      batch_serves framing framing' points (Ok u) more reads puts room ends =
+      pub batch_serves : {T : Type 0} (framing framing' : Framing) (points : List Datum) (read : Result T NoPoint) (more : Bool) → ReadsPoints moments read framing framing' points → BringsAll start passes points old mid.session
+          → EndsBatch read (Ok more) mid new → BatchServes moments start passes more framing old framing' new.session
+      batch_serves framing framing' points (Ok u) more reads puts ends =
           let whole : framing.waiting ≡ reads.handed ++ framing'.waiting = reads.split ∙ ap (λ (l : List Line). reads.handed ++ l) reads.leaves.1 in record {
             handed = reads.handed;
             split = whole;
@@ -184,56 +190,69 @@ module _ (moments : ℕ → Type 0) where
                 (fewer_lines reads.handed framing'.waiting framing.waiting whole
                 (subst (λ (n : ℕ). 0 < n) (sym (read_length reads.handed points reads.read)) reads.leaves.0));
           }
-      batch_serves framing framing' points (Err none.NoLine) more reads puts room ends = record {
+      batch_serves framing framing' points (Err none.NoLine) more reads puts ends = record {
         handed = reads.handed;
         split = reads.split ∙ ap (λ (l : List Line). reads.handed ++ l) (reads.leaves.0 ∙ sym reads.leaves.1);
         handles = same_end reads.handed ends.1 (handles_points reads.handed points old mid.session reads.read puts);
         open_line = reads.open_line;
         fewer = subst (λ (b : Bool). LeavesFewer b framing.waiting framing'.waiting) (sym ends.0) reads.leaves.1;
       }
-      batch_serves framing framing' points (Err (none.Refused fault)) more reads puts room ends =
+      batch_serves framing framing' points (Err (none.Refused fault)) more reads puts ends =
           let refused : IsRefusedAs moments reads.leaves.0 fault = reads.leaves.1.0 in
           ends_with framing framing' reads.handed reads.behind (Whole reads.leaves.0) old mid.session new.session reads.split reads.leaves.1.1 reads.open_line
           (handles_points reads.handed points old mid.session reads.read puts)
           (record {
-            room = room;
+            room = ends.1.0;
             handles = (
               refused.now,
               (
                 refused.told,
-                subst (λ (r : Result Point LineFault). HandlesRead start passes r mid.session new.session) (sym (refused.reason ends.1.0))
-                    (ends.1.0, ap (λ (v : LinkValue C). v.session) ends.1.1),
+                subst (λ (r : Result Point LineFault). HandlesRead start passes r mid.session new.session) (sym (refused.reason ends.1.1.0))
+                    (ends.1.1.0, ap (λ (v : LinkValue C). v.session) ends.1.1.1),
               ),
             );
           }) more ends.0
-      batch_serves framing framing' points (Err none.Long) more reads puts room ends =
+      batch_serves framing framing' points (Err none.Long) more reads puts ends =
           ends_with framing framing' reads.handed reads.behind TooLong old mid.session new.session reads.split reads.leaves reads.open_line
           (handles_points reads.handed points old mid.session reads.read puts)
-          (record { room = room; handles = ap (λ (v : LinkValue C). v.session) ends.1 }) more ends.0
+          (record { room = ends.1.0; handles = ap (λ (v : LinkValue C). v.session) ends.1.1 }) more ends.0
 
-      -- there was no memory for the line behind the points
-      pub batch_ends : {T : Type 0} (framing framing' : Framing) (points : List Datum) (read : Result T NoPoint) (reason : Stop) → ReadsPoints moments read framing framing' points → PutsAll start passes points old mid.session
+      refused_stops : (line : List ℕ) (fault : LineFault) → IsRefusedAs moments line fault → (reason : Stop) → EndsRefused fault (Err reason) mid new
+          → StopsBy moments start passes (Whole line) reason mid.session new.session
+      refused_stops line fault refused reason (inl stays) = stays_spent (Whole line) reason mid new stays
+      refused_stops line fault refused reason (inr ends) = subst (λ (r : Stop). StopsBy moments start passes (Whole line) r mid.session new.session) (sym ends.1.0) (record {
+        mid = mid.session;
+        begun = inl ((refused.now, (refused.told, refused.memory ends.0)), refl);
+        idles = inl (ap (λ (v : LinkValue C). v.session) ends.1.1);
+      })
+
+      -- there was no memory for the line behind the points, or no room
+      pub batch_ends : {T : Type 0} (framing framing' : Framing) (points : List Datum) (read : Result T NoPoint) (reason : Stop) → ReadsPoints moments read framing framing' points → BringsAll start passes points old mid.session
           → EndsBatch read (Err reason) mid new → BatchStops moments start passes reason framing.waiting old new.session
       batch_ends framing framing' points (Ok u) reason reads puts ends = absurd ends
       batch_ends framing framing' points (Err none.NoLine) reason reads puts ends = absurd ends
-      batch_ends framing framing' points (Err (none.Refused fault)) reason reads puts ends =
-          let refused : IsRefusedAs moments reads.leaves.0 fault = reads.leaves.1.0 in record {
-            handed = reads.handed;
-            line = Whole reads.leaves.0;
-            others = framing'.waiting;
-            split = reads.split ∙ ap (λ (l : List Line). reads.handed ++ l) reads.leaves.1.1;
-            mid = mid.session;
-            handles = handles_points reads.handed points old mid.session reads.read puts;
-            stops = subst (λ (r : Stop). StopsBy moments start passes (Whole reads.leaves.0) r mid.session new.session) (sym ends.1.0) (record {
-              point = (refused.now, (refused.told, refused.memory ends.0));
-              idles = inl (ap (λ (v : LinkValue C). v.session) ends.1.1);
-            });
-          }
-      batch_ends framing framing' points (Err none.Long) reason reads puts ends = absurd ends
+      batch_ends framing framing' points (Err (none.Refused fault)) reason reads puts ends = record {
+        handed = reads.handed;
+        line = Whole reads.leaves.0;
+        others = framing'.waiting;
+        split = reads.split ∙ ap (λ (l : List Line). reads.handed ++ l) reads.leaves.1.1;
+        mid = mid.session;
+        handles = handles_points reads.handed points old mid.session reads.read puts;
+        stops = refused_stops reads.leaves.0 fault reads.leaves.1.0 reason ends;
+      }
+      batch_ends framing framing' points (Err none.Long) reason reads puts ends = record {
+        handed = reads.handed;
+        line = TooLong;
+        others = framing'.waiting;
+        split = reads.split ∙ ap (λ (l : List Line). reads.handed ++ l) reads.leaves;
+        mid = mid.session;
+        handles = handles_points reads.handed points old mid.session reads.read puts;
+        stops = stays_spent TooLong reason mid new ends;
+      }
 
     -- or for one of the points
     pub batch_stops : {T : Type 0} (read : Result T NoPoint) (framing framing' : Framing) (points : List Datum) (reason : Stop) (old new : SessionValue)
-        → ReadsPoints moments read framing framing' points → PutsFewer start passes reason points old new → BatchStops moments start passes reason framing.waiting old new
+        → ReadsPoints moments read framing framing' points → BringsFewer start passes reason points old new → BatchStops moments start passes reason framing.waiting old new
     batch_stops read framing framing' points reason old new reads fewer =
         let one = line_of reads.handed fewer.first fewer.datum fewer.others (subst (λ (l : List Datum). AreRead moments reads.handed l) fewer.split reads.read) in record {
           handed = one.front;
@@ -241,11 +260,8 @@ module _ (moments : ℕ → Type 0) where
           others = one.others ++ reads.behind;
           split = reads.split ∙ (ap (λ (l : List Line). l ++ reads.behind) one.split ∙ append_assoc one.front (one.line ∷ one.others) reads.behind);
           mid = fewer.mid;
-          handles = handles_points one.front fewer.first old fewer.mid one.before fewer.puts;
-          stops = subst (λ (r : Stop). StopsBy moments start passes one.line r fewer.mid new) (sym fewer.is) (record {
-            point = has_point one.line fewer.datum one.here;
-            idles = fewer.idles;
-          });
+          handles = handles_points one.front fewer.first old fewer.mid one.before fewer.brings;
+          stops = point_stops moments start passes one.line (seen fewer.datum) (point_of one.line fewer.datum one.here) reason fewer.mid new fewer.stops;
         }
 
 -- ---- by a session of which this is seen
@@ -255,18 +271,17 @@ module _ {C T : Type 0} (moments : C → ℕ → Type 0) (start : State) (passes
   reads_now = subst (λ (v : LinkValue C). ReadsPoints (moments v.clock) read framing framing' slice) same
       (subst (λ (l : List Datum). ReadsPoints (moments inside.clock) read framing framing' l) (sym all) reads)
 
-  pub serves_points : (result : Result Bool Stop) (mid new : LinkValue C) → HasBatchRoom old.session.pass → length points ≤ 256 → PutsAll start passes slice old.session mid.session
+  pub serves_points : (result : Result Bool Stop) (mid new : LinkValue C) → BringsAll start passes slice old.session mid.session
       → EndsBatch read result mid new → IfOk result (λ more. BatchServes (moments old.clock) start passes more framing old.session framing' new.session)
-  serves_points (Err reason) mid new room few puts ends = tt
-  serves_points (Ok more) mid new room few puts ends =
-      batch_serves (moments old.clock) start passes old.session mid new framing framing' slice read more reads_now puts
-      (room_behind start passes slice old.session mid.session room puts (subst (λ (l : List Datum). length l ≤ 256) (sym all) few)) ends
+  serves_points (Err reason) mid new brings ends = tt
+  serves_points (Ok more) mid new brings ends =
+      batch_serves (moments old.clock) start passes old.session mid new framing framing' slice read more reads_now brings ends
 
-  pub ends_points : (result : Result Bool Stop) (mid new : LinkValue C) → PutsAll start passes slice old.session mid.session
+  pub ends_points : (result : Result Bool Stop) (mid new : LinkValue C) → BringsAll start passes slice old.session mid.session
       → EndsBatch read result mid new → IfErr result (λ reason. BatchStops (moments old.clock) start passes reason framing.waiting old.session new.session)
-  ends_points (Ok more) mid new puts ends = tt
-  ends_points (Err reason) mid new puts ends = batch_ends (moments old.clock) start passes old.session mid new framing framing' slice read reason reads_now puts ends
+  ends_points (Ok more) mid new brings ends = tt
+  ends_points (Err reason) mid new brings ends = batch_ends (moments old.clock) start passes old.session mid new framing framing' slice read reason reads_now brings ends
 
-  pub stops_points : (reason : Stop) (new : SessionValue) → PutsFewer start passes reason slice old.session new
+  pub stops_points : (reason : Stop) (new : SessionValue) → BringsFewer start passes reason slice old.session new
       → BatchStops (moments old.clock) start passes reason framing.waiting old.session new
   stops_points reason new fewer = batch_stops (moments old.clock) start passes read framing framing' slice reason old.session new reads_now fewer

@@ -1,60 +1,72 @@
 -- Lines that are handled one after the other, and the entries that they make.
-use Rattle.std.proofs.Common.{◌≡◌, ℕ, List, [], ◌∷◌, ◌++◌, Result, Ok, Err, refl, sym, ap, ◌∙◌, subst, append_assoc, append-nil}
+use Rattle.std.proofs.Common.{◌≡◌, ℕ, List, [], ◌∷◌, ◌++◌, Result, Ok, Err, refl, sym, ap, ◌∙◌, subst, append_assoc}
 use Rattle.line_frame.specs.Lines.{Line, Whole, TooLong}
 use Rattle.metric_line.specs.declared.fault.LineFault.{LineFault}
 use Rattle.metric_line.specs.LineDatum.{datum_of}
 use Rattle.metric_line.specs.Point.{Point}
+use Rattle.aggregate_front.specs.Emitting.{AggregatorValue}
 use Rattle.carbon_history.specs.declared.entry.Entry.{Entry}
 use Rattle.carbon_model.specs.State.{State}
-use Rattle.shared_history.specs.Parts.{PassValue, own_entries}
-use Rattle.line_front.specs.Links.{AreOfLines, Handles, HandlesAll, HandlesLine, HandlesLines, HandlesRead, IsOfLine, IsOfRead, SessionValue, put_entry}
+use Rattle.shared_history.specs.Parts.{own_entries}
+use Rattle.line_front.specs.Points.{ArePuts, LinesBring, ReadBrings, emitted_for, gathered_after, points_put}
+use Rattle.line_front.specs.Links.{Brings, Handles, HandlesAll, HandlesLine, HandlesLines, HandlesRead, SessionValue}
+use Rattle.line_front.proofs.PointLemmas.{Makes, bring_append, gathered_append, gathered_nil, gathered_one, makes_append, makes_each, makes_none, makes_point, put_append, put_nil, put_one, puts_append}
 
 -- ---- one line
 
--- a pass made entries of this kind, and is the pass that it was
-record Makes (kind : List Entry → Type 0) (old new : SessionValue) : Type 0 where
-  entries : List Entry
-  made : kind entries
-  once : own_entries new.pass ≡ own_entries old.pass ++ entries
-  number : new.pass.number ≡ old.pass.number
-  table : new.pass.table ≡ old.pass.table
+-- what is read so brings these points, of which the pass made the puts
+record OfRead (read : Result Point LineFault) (old new : SessionValue) : Type 0 where
+  points : List Point
+  brings : ReadBrings read points []
+  gathered : new.gathered ≡ gathered_after old.gathered points
+  makes : Makes (points_put old.gathered points) old.pass new.pass
 
-none_made : (old new : SessionValue) → new.pass ≡ old.pass → own_entries new.pass ≡ own_entries old.pass ++ []
-none_made old new same = ap (λ (pass : PassValue). own_entries pass) same ∙ sym (append-nil (own_entries old.pass))
+-- a line was read as these points, of which the pass made the puts
+record OfLine (moments : ℕ → Type 0) (line : Line) (old new : SessionValue) : Type 0 where
+  points : List Point
+  read : LinesBring moments (line ∷ []) points
+  gathered : new.gathered ≡ gathered_after old.gathered points
+  makes : Makes (points_put old.gathered points) old.pass new.pass
 
-makes_of_read : (start : State) (passes : ℕ) (read : Result Point LineFault) (old new : SessionValue) → HandlesRead start passes read old new
-    → Makes (IsOfRead old.pass.number read) old new
-makes_of_read start passes (Ok point) old new puts = record {
-  entries = put_entry old.pass.number point puts.end ∷ [];
-  made = (puts.end, refl);
-  once = puts.enters.once;
-  number = puts.enters.number;
-  table = puts.enters.table;
+-- no point was read
+none_gathers : (old new : SessionValue) → new.gathered ≡ old.gathered → new.gathered ≡ gathered_after old.gathered []
+none_gathers old new same = same ∙ sym (gathered_nil old.gathered)
+
+none_makes : (old new : SessionValue) → new.pass ≡ old.pass → Makes (points_put old.gathered []) old.pass new.pass
+none_makes old new same = subst (λ (points : List Point). Makes points old.pass new.pass) (sym (put_nil old.gathered)) (makes_none old.pass new.pass same)
+
+brings_makes : (start : State) (passes : ℕ) (point : Point) (old new : SessionValue) → Brings start passes point old new → Makes (point ∷ emitted_for old.gathered point) old.pass new.pass
+brings_makes start passes point old new b =
+    makes_append (point ∷ []) (emitted_for old.gathered point) old.pass b.put.pass new.pass (makes_point start passes point b.puts.end old.pass b.put.pass b.puts.enters)
+    (makes_each start passes (emitted_for old.gathered point) b.put.pass new.pass b.emits)
+
+of_read : (start : State) (passes : ℕ) (read : Result Point LineFault) (old new : SessionValue) → HandlesRead start passes read old new → OfRead read old new
+of_read start passes (Ok point) old new b = record {
+  points = point ∷ [];
+  brings = refl;
+  gathered = b.gathered ∙ sym (gathered_one old.gathered point);
+  makes = subst (λ (points : List Point). Makes points old.pass new.pass) (sym (put_one old.gathered point)) (brings_makes start passes point old new b);
 }
-makes_of_read start passes (Err fault) old new refuses = record {
-  entries = [];
-  made = refl;
-  once = none_made old new (ap (λ (s : SessionValue). s.pass) refuses.1);
-  number = ap (λ (s : SessionValue). s.pass.number) refuses.1;
-  table = ap (λ (s : SessionValue). s.pass.table) refuses.1;
+of_read start passes (Err fault) old new refuses = record {
+  points = [];
+  brings = refl;
+  gathered = none_gathers old new (ap (λ (s : SessionValue). s.gathered) refuses.1);
+  makes = none_makes old new (ap (λ (s : SessionValue). s.pass) refuses.1);
 }
 
-makes_of_line : (moments : ℕ → Type 0) (start : State) (passes : ℕ) (line : Line) (old new : SessionValue) → HandlesLine moments start passes line old new
-    → Makes (IsOfLine moments old.pass.number line) old new
-makes_of_line moments start passes (Whole line) old new handles =
-    let one = makes_of_read start passes (datum_of line handles.0) old new handles.1.1 in record {
-      entries = one.entries;
-      made = (handles.0, (handles.1.0, one.made));
-      once = one.once;
-      number = one.number;
-      table = one.table;
+of_line : (moments : ℕ → Type 0) (start : State) (passes : ℕ) (line : Line) (old new : SessionValue) → HandlesLine moments start passes line old new → OfLine moments line old new
+of_line moments start passes (Whole line) old new handles =
+    let one = of_read start passes (datum_of line handles.0) old new handles.1.1 in record {
+      points = one.points;
+      read = (handles.0, [], (handles.1.0, (one.brings, refl)));
+      gathered = one.gathered;
+      makes = one.makes;
     }
-makes_of_line moments start passes TooLong old new handles = record {
-  entries = [];
-  made = refl;
-  once = none_made old new (ap (λ (s : SessionValue). s.pass) handles);
-  number = ap (λ (s : SessionValue). s.pass.number) handles;
-  table = ap (λ (s : SessionValue). s.pass.table) handles;
+of_line moments start passes TooLong old new handles = record {
+  points = [];
+  read = refl;
+  gathered = none_gathers old new (ap (λ (s : SessionValue). s.gathered) handles);
+  makes = none_makes old new (ap (λ (s : SessionValue). s.pass) handles);
 }
 
 -- ---- lines one after the other
@@ -66,22 +78,6 @@ all_append moments start passes [] second old mid new handled more =
 all_append moments start passes (line ∷ others) second old mid new handled more =
     (handled.0, (handled.1.0, all_append moments start passes others second handled.0 mid new handled.1.1 more))
 
-made_append : (moments : ℕ → Type 0) (pass : ℕ) (first second : List Line) (xs ys : List Entry)
-    → AreOfLines moments pass first xs → AreOfLines moments pass second ys → AreOfLines moments pass (first ++ second) (xs ++ ys)
-made_append moments pass [] second xs ys made more =
-    subst (λ (entries : List Entry). AreOfLines moments pass second (entries ++ ys)) (sym made) more
-made_append moments pass (line ∷ others) second xs ys made more = (
-  made.0,
-  made.1 ++ ys,
-  (
-    made.2.0,
-    (
-      made_append moments pass others second made.1 ys made.2.1.0 more,
-      ap (λ (entries : List Entry). entries ++ ys) made.2.1.1 ∙ append_assoc made.0 made.1 ys,
-    ),
-  ),
-)
-
 -- lines are handled by one pass
 pub record SamePass (old new : SessionValue) : Type 0 where
   pub number : new.pass.number ≡ old.pass.number
@@ -91,25 +87,44 @@ pub same_pass : (moments : ℕ → Type 0) (start : State) (passes : ℕ) (all :
 same_pass moments start passes [] old new handled =
     record { number = ap (λ (s : SessionValue). s.pass.number) handled; table = ap (λ (s : SessionValue). s.pass.table) handled }
 same_pass moments start passes (line ∷ others) old new handled =
-    let one = makes_of_line moments start passes line old handled.0 handled.1.0.handles in
+    let one = of_line moments start passes line old handled.0 handled.1.0.handles in
     let more = same_pass moments start passes others handled.0 new handled.1.1 in
-    record { number = more.number ∙ one.number; table = more.table ∙ one.table }
+    record { number = more.number ∙ one.makes.number; table = more.table ∙ one.makes.table }
 
 -- no line
 pub handles_none : (moments : ℕ → Type 0) (start : State) (passes : ℕ) (old new : SessionValue) → new ≡ old → HandlesLines moments start passes [] old new
 handles_none moments start passes old new same =
-    record { each = same; entries = []; made = refl; once = none_made old new (ap (λ (s : SessionValue). s.pass) same) }
+    let none = none_makes old new (ap (λ (s : SessionValue). s.pass) same) in record {
+      each = same;
+      points = [];
+      read = refl;
+      gathered = none_gathers old new (ap (λ (s : SessionValue). s.gathered) same);
+      entries = none.entries;
+      made = none.made;
+      once = none.once;
+    }
 
 -- one line
 pub handles_one : (moments : ℕ → Type 0) (start : State) (passes : ℕ) (line : Line) (old new : SessionValue) → Handles moments start passes line old new
     → HandlesLines moments start passes (line ∷ []) old new
 handles_one moments start passes line old new handles =
-    let one = makes_of_line moments start passes line old new handles.handles in record {
+    let one = of_line moments start passes line old new handles.handles in record {
       each = (new, (handles, refl));
-      entries = one.entries;
-      made = (one.entries, [], (one.made, (refl, sym (append-nil one.entries))));
-      once = one.once;
+      points = one.points;
+      read = one.read;
+      gathered = one.gathered;
+      entries = one.makes.entries;
+      made = one.makes.made;
+      once = one.makes.once;
     }
+
+-- the puts of points after others
+made_append : (pass pass' : ℕ) (a b : AggregatorValue) (xs ys : List Point) (es fs : List Entry) → pass' ≡ pass → b ≡ gathered_after a xs
+    → ArePuts pass (points_put a xs) es → ArePuts pass' (points_put b ys) fs → ArePuts pass (points_put a (xs ++ ys)) (es ++ fs)
+made_append pass pass' a b xs ys es fs number gathered made more =
+    subst (λ (points : List Point). ArePuts pass points (es ++ fs)) (sym (put_append a xs ys))
+    (puts_append pass (points_put a xs) (points_put (gathered_after a xs) ys) es fs made
+    (subst (λ (c : AggregatorValue). ArePuts pass (points_put c ys) fs) gathered (subst (λ (p : ℕ). ArePuts p (points_put b ys) fs) number more)))
 
 -- Lines that are handled, and then others, are handled as one list.
 pub handles_append : (moments : ℕ → Type 0) (start : State) (passes : ℕ) (first second : List Line) (old mid new : SessionValue)
@@ -117,8 +132,11 @@ pub handles_append : (moments : ℕ → Type 0) (start : State) (passes : ℕ) (
 handles_append moments start passes first second old mid new handled more =
     let same = same_pass moments start passes first old mid handled.each in record {
       each = all_append moments start passes first second old mid new handled.each more.each;
+      points = handled.points ++ more.points;
+      read = bring_append moments first second handled.points more.points handled.read more.read;
+      gathered = more.gathered ∙ (ap (λ (a : AggregatorValue). gathered_after a more.points) handled.gathered ∙ sym (gathered_append old.gathered handled.points more.points));
       entries = handled.entries ++ more.entries;
-      made = made_append moments old.pass.number first second handled.entries more.entries handled.made
-          (subst (λ (pass : ℕ). AreOfLines moments pass second more.entries) same.number more.made);
-      once = more.once ∙ ap (λ (own : List Entry). own ++ more.entries) handled.once ∙ append_assoc (own_entries old.pass) handled.entries more.entries;
+      made = made_append old.pass.number mid.pass.number old.gathered mid.gathered handled.points more.points handled.entries more.entries same.number handled.gathered
+          handled.made more.made;
+      once = more.once ∙ (ap (λ (own : List Entry). own ++ more.entries) handled.once ∙ append_assoc (own_entries old.pass) handled.entries more.entries);
     }

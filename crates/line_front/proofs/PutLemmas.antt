@@ -8,6 +8,7 @@ use Rattle.carbon_history.specs.declared.entry.PutEnd.{PutEnd}
 use Rattle.carbon_model.specs.State.{State}
 use Rattle.metric_line.specs.declared.datum.Datum.{Datum}
 use Rattle.shared_history.specs.Parts.{PassValue, own_entries}
+use Rattle.shared_history.proofs.ListLemmas.{prefix_self}
 use Rattle.shared_store.specs.Passes.{Enters, HasRoom}
 use Rattle.shared_store.specs.Pieces.{HasRoomFor, PutsFirst, PutsNone, counts_of, put_by, puts_of}
 use Rattle.shared_store.specs.declared.put_counts.PutCounts.{PutCounts}
@@ -68,14 +69,6 @@ module _ (start : State) (passes : ℕ) where
   room_next points first old mid room puts less =
       room_of (length (own_entries old.pass)) (length (own_entries mid.pass)) (length first) (length points) (puts_length first old mid puts) less room
 
-  room_last : (own own' n : ℕ) → own' ≡ own + n → n ≤ 256 → own + 260 ≤ 2 ^ 48 → own' + 4 ≤ 2 ^ 48
-  room_last own own' n is few room = omega (arith, is, few, room)
-
-  -- and for the line behind the points
-  pub room_behind : (points : List Datum) (old mid : SessionValue) → HasBatchRoom old.pass → PutsAll start passes points old mid → length points ≤ 256 → HasRoom mid.pass
-  room_behind points old mid room puts few =
-      room_last (length (own_entries old.pass)) (length (own_entries mid.pass)) (length points) (puts_length points old mid puts) few room
-
   -- ---- one by one
 
   pub puts_more : (points : List Datum) (datum : Datum) (old mid new : SessionValue) → PutsAll start passes points old mid → PutsOne start passes datum mid new
@@ -129,14 +122,15 @@ module _ (start : State) (passes : ℕ) where
           mid = mid;
           puts = some.puts;
           is = none.0;
-          idles = inr none.1;
+          sees = none.1;
         }
 
   -- ---- together
 
   one_put : (datum : Datum) (ended : PutEnd) (old new : SessionValue) → HasRoom old.pass → Enters start passes (put_by old.pass.number datum ended ∷ []) old.pass new.pass
-      → new.counts ≡ counted old.counts ended → PutsOne start passes datum old new
-  one_put datum ended old new room enters counts = record { room = room; puts = record { end = ended; enters = enters; counts = counts } }
+      → new.counts ≡ counted old.counts ended → new.gathered ≡ old.gathered → PutsOne start passes datum old new
+  one_put datum ended old new room enters counts gathered =
+      record { room = room; puts = record { end = ended; enters = enters; counts = counts; gathered = gathered } }
 
   room_now : (own all : ℕ) → own + (suc all + 4) ≤ 2 ^ 48 → own + 4 ≤ 2 ^ 48
   room_now own all room = omega (arith, room)
@@ -146,28 +140,28 @@ module _ (start : State) (passes : ℕ) where
 
   pub puts_some : (points : List Datum) (ended : PutEnd) (ends : List PutEnd) (old new : SessionValue) → HasRoomFor points old.pass
       → length (ended ∷ ends) ≤ length points → Enters start passes (puts_of old.pass.number points (ended ∷ ends)) old.pass new.pass
-      → new.counts ≡ counted_each old.counts (ended ∷ ends) → PutsSome (length (ended ∷ ends)) points old new
-  puts_some [] ended ends old new room few enters counts = absurd (omega (arith, few))
-  puts_some (datum ∷ points) ended [] old new room few enters counts = record {
+      → new.counts ≡ counted_each old.counts (ended ∷ ends) → new.gathered ≡ old.gathered → PutsSome (length (ended ∷ ends)) points old new
+  puts_some [] ended ends old new room few enters counts gathered = absurd (omega (arith, few))
+  puts_some (datum ∷ points) ended [] old new room few enters counts gathered = record {
     first = datum ∷ [];
     others = points;
     split = refl;
     many = refl;
-    puts = (new, (one_put datum ended old new (room_now (length (own_entries old.pass)) (length points) room) enters counts, refl));
+    puts = (new, (one_put datum ended old new (room_now (length (own_entries old.pass)) (length points) room) enters counts gathered, refl));
   }
-  puts_some (datum ∷ points) ended (next ∷ ends) old new room few enters counts =
+  puts_some (datum ∷ points) ended (next ∷ ends) old new room few enters counts gathered =
       let entry : Entry = put_by old.pass.number datum ended in
       let parts = split_enters start passes (entry ∷ []) (puts_of old.pass.number points (next ∷ ends)) old.pass new.pass enters in
-      let mid : SessionValue = record { pass = parts.mid; counts = counted old.counts ended } in
+      let mid : SessionValue = record { pass = parts.mid; counts = counted old.counts ended; gathered = old.gathered } in
       let own : length (own_entries parts.mid) ≡ length (own_entries old.pass) + 1 = own_more (own_entries old.pass) (own_entries parts.mid) entry parts.begins.once in
       let more = puts_some points next ends mid new (room_then (length (own_entries old.pass)) (length (own_entries parts.mid)) (length points) own room) (omega (arith, few))
-      (subst (λ (n : ℕ). Enters start passes (puts_of n points (next ∷ ends)) parts.mid new.pass) (sym parts.begins.number) parts.goes_on) counts in
+      (subst (λ (n : ℕ). Enters start passes (puts_of n points (next ∷ ends)) parts.mid new.pass) (sym parts.begins.number) parts.goes_on) counts gathered in
       record {
         first = datum ∷ more.first;
         others = more.others;
         split = ap (λ (l : List Datum). datum ∷ l) more.split;
         many = ap suc more.many;
-        puts = (mid, (one_put datum ended old mid (room_now (length (own_entries old.pass)) (length points) room) parts.begins refl, more.puts));
+        puts = (mid, (one_put datum ended old mid (room_now (length (own_entries old.pass)) (length points) room) parts.begins refl refl, more.puts));
       }
 
   -- all of them are put
@@ -178,10 +172,21 @@ module _ (start : State) (passes : ℕ) where
       by [] split = subst (λ (l : List Datum). PutsAll start passes l old new) (sym (split ∙ append-nil some.first)) some.puts
       by (datum ∷ others) split = absurd (omega (arith, ap length split, length-append some.first (datum ∷ others), some.many, all))
 
+  -- a pass that entered something may enter nothing more
+  enters_none : (entries : List Entry) (old new : PassValue) → Enters start passes entries old new → Enters start passes [] new new
+  enters_none entries old new enters = record {
+    table = refl;
+    number = refl;
+    begins = prefix_self new.seen;
+    legal = enters.legal;
+    made = enters.made;
+    once = sym (append-nil (own_entries new));
+  }
+
   -- or fewer
-  fewer_put : (points : List Datum) (count : ℕ) (old new : SessionValue) → PutsSome count points old new → count < length points
+  fewer_put : (points : List Datum) (count : ℕ) (old new : SessionValue) → PutsSome count points old new → Enters start passes [] new.pass new.pass → count < length points
       → PutsFewer start passes stop.NoMemory points old new
-  fewer_put points count old new some less = by some.others some.split
+  fewer_put points count old new some none less = by some.others some.split
     where
       by : (others : List Datum) → points ≡ some.first ++ others → PutsFewer start passes stop.NoMemory points old new
       by [] split = absurd (omega (arith, ap length split, length-append some.first [], some.many, less))
@@ -193,7 +198,7 @@ module _ (start : State) (passes : ℕ) where
         mid = new;
         puts = some.puts;
         is = refl;
-        idles = inl refl;
+        sees = record { enters = none; counts = refl };
       }
 
   none_put : (points : List Datum) (old new : SessionValue) → 0 < length points → Enters start passes [] old.pass new.pass → new.counts ≡ old.counts
@@ -207,13 +212,13 @@ module _ (start : State) (passes : ℕ) where
     mid = old;
     puts = refl;
     is = refl;
-    idles = inr (record { enters = enters; counts = counts });
+    sees = record { enters = enters; counts = counts };
   }
 
   counts_as : (c new : Counts) (counts : PutCounts) (ends : List PutEnd) → new ≡ counted_puts c counts → counts ≡ counts_of ends → new ≡ counted_each c ends
   counts_as c new counts ends is counted = is ∙ (ap (λ (p : PutCounts). counted_puts c p) counted ∙ puts_each c ends)
 
-  module _ (points : List Datum) (counts : PutCounts) (old new : SessionValue) (some : 0 < length points) (room : HasRoomFor points old.pass) (is : new.counts ≡ counted_puts old.counts counts) where
+  module _ (points : List Datum) (counts : PutCounts) (old new : SessionValue) (some : 0 < length points) (room : HasRoomFor points old.pass) (gathered : new.gathered ≡ old.gathered) (is : new.counts ≡ counted_puts old.counts counts) where
     done_of : (ends : List PutEnd) → counts ≡ counts_of ends → length ends ≡ counts.done
     done_of ends counted = sym (ap (λ (p : PutCounts). p.done) counted)
 
@@ -224,7 +229,7 @@ module _ (start : State) (passes : ℕ) where
         by : (ends : List PutEnd) → length ends ≤ length points → Enters start passes (puts_of old.pass.number points ends) old.pass new.pass → counts ≡ counts_of ends → PutsAll start passes points old new
         by [] few enters counted = absurd (omega (arith, done_of [] counted, all, some))
         by (ended ∷ ends) few enters counted =
-            all_put points (length (ended ∷ ends)) old new (puts_some points ended ends old new room few enters (counts_as old.counts new.counts counts (ended ∷ ends) is counted))
+            all_put points (length (ended ∷ ends)) old new (puts_some points ended ends old new room few enters (counts_as old.counts new.counts counts (ended ∷ ends) is counted) gathered)
             (omega (arith, done_of (ended ∷ ends) counted, few, all))
     puts_whole all (inr none) = absurd (omega (arith, done_of [] none.counted, all, some))
 
@@ -237,20 +242,21 @@ module _ (start : State) (passes : ℕ) where
             → PutsFewer start passes stop.NoMemory points old new
         by [] few enters counted = none_put points old new some enters (counts_as old.counts new.counts counts [] is counted)
         by (ended ∷ ends) few enters counted =
-            fewer_put points (length (ended ∷ ends)) old new (puts_some points ended ends old new room few enters (counts_as old.counts new.counts counts (ended ∷ ends) is counted))
+            fewer_put points (length (ended ∷ ends)) old new (puts_some points ended ends old new room few enters (counts_as old.counts new.counts counts (ended ∷ ends) is counted) gathered)
+            (enters_none (puts_of old.pass.number points (ended ∷ ends)) old.pass new.pass enters)
             (subst (λ (n : ℕ). n < length points) (sym (done_of (ended ∷ ends) counted)) less)
     puts_fewer less (inr none) = none_put points old new some none.enters (counts_as old.counts new.counts counts [] is none.counted)
 
   -- by a session of which this is seen
-  module _ {C : Type 0} (points : List Datum) (counts : PutCounts) (inside old : LinkValue C) (new : SessionValue) (same : inside ≡ old) (some : 0 < length points) (room : HasRoomFor points old.session.pass) (is : new.counts ≡ counted_puts inside.session.counts counts) where
+  module _ {C : Type 0} (points : List Datum) (counts : PutCounts) (inside old : LinkValue C) (new : SessionValue) (same : inside ≡ old) (some : 0 < length points) (room : HasRoomFor points old.session.pass) (gathered : new.gathered ≡ inside.session.gathered) (is : new.counts ≡ counted_puts inside.session.counts counts) where
     room_inside : HasRoomFor points inside.session.pass
     room_inside = subst (λ (v : LinkValue C). HasRoomFor points v.session.pass) (sym same) room
 
     pub puts_together : length points ≤ counts.done → PutsFirst start passes points counts inside.session.pass new.pass ⊎ PutsNone start passes counts inside.session.pass new.pass
         → PutsAll start passes points old.session new
-    puts_together all puts = subst (λ (v : LinkValue C). PutsAll start passes points v.session new) same (puts_whole points counts inside.session new some room_inside is all puts)
+    puts_together all puts = subst (λ (v : LinkValue C). PutsAll start passes points v.session new) same (puts_whole points counts inside.session new some room_inside gathered is all puts)
 
     pub stops_together : counts.done < length points → PutsFirst start passes points counts inside.session.pass new.pass ⊎ PutsNone start passes counts inside.session.pass new.pass
         → PutsFewer start passes stop.NoMemory points old.session new
     stops_together less puts =
-        subst (λ (v : LinkValue C). PutsFewer start passes stop.NoMemory points v.session new) same (puts_fewer points counts inside.session new some room_inside is less puts)
+        subst (λ (v : LinkValue C). PutsFewer start passes stop.NoMemory points v.session new) same (puts_fewer points counts inside.session new some room_inside gathered is less puts)

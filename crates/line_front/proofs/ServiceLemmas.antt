@@ -1,5 +1,5 @@
 -- From the lines that a service served to what the service of a link came to.
-use Rattle.std.proofs.Common.{◌≡◌, inl, inr, ℕ, ◌∷◌, List, [], Option, refl, sym, ap, ◌∙◌, subst, rules}
+use Rattle.std.proofs.Common.{◌≡◌, ◌⊎◌, inl, inr, ℕ, ◌∷◌, List, [], Option, refl, sym, ap, ◌∙◌, subst, rules}
 use Rattle.outside_io.specs.Frames.{CountsReads}
 use Rattle.outside_io.specs.declared.source.Source.{Ghosts}
 use Rattle.outside_io.proofs.Known.{Consumes-none}
@@ -12,7 +12,8 @@ use Rattle.line_service.specs.declared.ends.Stop.{Stop}
 use Rattle.line_service.specs.declared.ends.Stop.TheVariants as stop
 use Rattle.carbon_model.specs.State.{State}
 use Rattle.line_front.specs.Ends.{IsLinkEnd, cause_of}
-use Rattle.line_front.specs.Links.{Ends, EndsAs, HandlesFront, HandlesLines, IsSpent, LacksMemory, SessionValue}
+use Rattle.line_front.specs.Emits.{EndsLines, LinesEndAs}
+use Rattle.line_front.specs.Links.{HandlesFront, HandlesLines, IsSpent, LacksMemory, LacksRoom, SessionValue}
 use Rattle.line_front.specs.Sessions.{LinkValue, ServesLink, StopsLink}
 use Rattle.line_front.specs.declared.ends.LineCause.{LineCause}
 use Rattle.line_front.specs.declared.ends.LineCause.TheVariants as cause
@@ -52,13 +53,19 @@ handles_front moments start passes reason bytes from to s = record {
 
 ends_stopped : {C : Type 0} (moments : C → ℕ → Type 0) (start : State) (passes : ℕ) (reason : Stop) (bytes : List ℕ) (left : Option (List ℕ)) (from to : At (LinkValue C))
     → StopsAt (ServesLink moments start passes) (StopsLink moments start passes) reason from (lines bytes) to
-    → EndsAs (moments from.server.clock) start passes (cause_of (end.Stopped reason)) bytes left from.server.session to.server.session
+    → LinesEndAs (moments from.server.clock) start passes (cause_of (end.Stopped reason)) bytes left from.server.session to.server.session
 unfolding handles_front
 ends_stopped moments start passes stop.WriteFault bytes left from to s = absurd s.stopped.stops
 ends_stopped moments start passes (stop.DiskFault class) bytes left from to s = absurd s.stopped.stops
-ends_stopped moments start passes stop.Spent bytes left from to s =
-    let before = handles_front moments start passes stop.Spent bytes from to s in
-    (inr (subst (λ (now : SessionValue). HandlesFront (moments from.server.clock) start passes bytes from.server.session now) (sym s.stopped.stops.0) before), s.stopped.stops.1)
+ends_stopped {C} moments start passes stop.Spent bytes left from to s =
+    let clock : s.mid.server.clock ≡ from.server.clock = (follow moments start passes s.handed from s.mid s.chain).clock in (
+      inr (record {
+        mid = s.mid.server.session;
+        handles = handles_front moments start passes stop.Spent bytes from to s;
+        lacks = subst (λ (k : C). (to.server.session ≡ s.mid.server.session) ⊎ LacksRoom (moments k) start passes s.line s.mid.server.session to.server.session) clock s.stopped.stops.0;
+      }),
+      s.stopped.stops.1,
+    )
 ends_stopped {C} moments start passes stop.NoMemory bytes left from to s =
     let clock : s.mid.server.clock ≡ from.server.clock = (follow moments start passes s.handed from s.mid s.chain).clock in
     inr (record {
@@ -69,9 +76,10 @@ ends_stopped {C} moments start passes stop.NoMemory bytes left from to s =
 
 ends_as : {C : Type 0} (moments : C → ℕ → Type 0) (start : State) (passes : ℕ) (reason : ServiceEnd) (left left' : Option (List ℕ)) (from to : At (LinkValue C))
     → (s : Service (ServesLink moments start passes) (StopsLink moments start passes) reason left from left' to)
-    → EndsAs (moments from.server.clock) start passes (cause_of reason) s.0 left' from.server.session to.server.session
-ends_as moments start passes end.Closed left left' from to s = ((follow moments start passes (lines s.0) from to s.1.1.0).handles, s.1.1.1)
-ends_as moments start passes end.ReadFault left left' from to s = (follow moments start passes (lines s.0) from to s.1.1).handles
+    → LinesEndAs (moments from.server.clock) start passes (cause_of reason) s.0 left' from.server.session to.server.session
+ends_as moments start passes end.Closed left left' from to s =
+    record { handles = (follow moments start passes (lines s.0) from to s.1.1.0).handles; at_end = s.1.1.1.0; short = s.1.1.1.1 }
+ends_as moments start passes end.ReadFault left left' from to s = ((follow moments start passes (lines s.0) from to s.1.1.0).handles, s.1.1.1)
 ends_as moments start passes end.Limit left left' from to s = ((follow moments start passes (lines s.0) from to s.1.1.0).handles, s.1.1.1)
 ends_as moments start passes end.NoMemory left left' from to s =
     let taken = s.1.1.0 in
@@ -81,9 +89,9 @@ ends_as moments start passes (end.Stopped reason) left left' from to s = ends_st
 -- what the service of a link came to, by a pass that has room at the start
 pub ends_served : {C : Type 0} (moments : C → ℕ → Type 0) (start : State) (passes : ℕ) (reason : ServiceEnd) (told : LineCause) (left left' : Option (List ℕ)) (from to : At (LinkValue C))
     → told ≡ cause_of reason → HasRoom from.server.session.pass → Service (ServesLink moments start passes) (StopsLink moments start passes) reason left from left' to
-    → Ends (moments from.server.clock) start passes told left left' from.server.session to.server.session
+    → EndsLines (moments from.server.clock) start passes told left left' from.server.session to.server.session
 ends_served moments start passes reason told left left' from to same room s =
-    subst (λ (r : LineCause). Ends (moments from.server.clock) start passes r left left' from.server.session to.server.session) (sym same) (record {
+    subst (λ (r : LineCause). EndsLines (moments from.server.clock) start passes r left left' from.server.session to.server.session) (sym same) (record {
       taken = s.0;
       consumed = s.1.0;
       room = λ other. room;
@@ -92,7 +100,7 @@ ends_served moments start passes reason told left left' from to same room s =
 
 -- and by one that has none
 pub ends_spent : (moments : ℕ → Type 0) (start : State) (passes : ℕ) (left : Option (List ℕ)) (session : SessionValue) → IsSpent session.pass
-    → Ends moments start passes cause.Spent left left session session
+    → EndsLines moments start passes cause.Spent left left session session
 ends_spent moments start passes left session spent = record {
   taken = [];
   consumed = Consumes-none left;

@@ -1,5 +1,5 @@
 -- What one line makes of a session.
-use Rattle.std.proofs.Common.{◌≡◌, ◌≢◌, ◌≤◌, ◌<◌, ◌+◌, ◌^◌, inl, inr, ℕ, ℤ, true, List, length, Option, Some, None, Result, Ok, Err, refl, sym, ap, ◌∙◌, subst, arith}
+use Rattle.std.proofs.Common.{◌≡◌, ◌≢◌, ◌≤◌, ◌<◌, ◌+◌, ◌^◌, inl, ℕ, ℤ, true, List, length, Option, Some, None, Result, Ok, Err, refl, sym, ap, ◌∙◌, subst, arith}
 use Rattle.std.proofs.lemmas.Bool.Decides.{nat_tests}
 use Rattle.std.specs.Prelude.{option_map, IsOk, OnOk, IfErr}
 use Rattle.fixed_num.specs.Moment.{is_moment}
@@ -22,7 +22,7 @@ use Rattle.shared_store.specs.Passes.{Enters, HasRoom}
 use Rattle.shared_store.specs.Steps.{put_entry}
 use Rattle.line_front.specs.Counts.{counted, refused}
 use Rattle.line_front.specs.Ends.{end_of}
-use Rattle.line_front.specs.Links.{HandlesRead, IsSpent, Puts, SessionValue}
+use Rattle.line_front.specs.Links.{Brings, HandlesRead, IsSpent, Puts, SessionValue}
 use Rattle.line_front.specs.Sessions.{LinkValue, PutsNone, Refuses, ServesLink, StopsLink}
 
 -- a moment is less than 2^32
@@ -40,7 +40,7 @@ has_none left pass all few = omega (arith, all, few)
 -- ---- a put
 
 -- the entries of a put that ended so
-entries_of : (told : Put) (pass : ℕ) (path : List ℕ) (time : ℕ) (value : ℤ)
+pub entries_of : (told : Put) (pass : ℕ) (path : List ℕ) (time : ℕ) (value : ℤ)
     → listed (put_entry pass path time value told) ≡ listed (option_map (λ (end : PutEnd). entry.Put pass path time value end) (end_of told))
 entries_of put.Stored pass path time value = refl
 entries_of put.Replaced pass path time value = refl
@@ -50,13 +50,14 @@ entries_of put.NoMemory pass path time value = refl
 -- a put that ended so was entered
 pub puts_point : (start : State) (passes : ℕ) (told : Put) (found : Option PutEnd) (end : PutEnd) (point : Point) (old new : SessionValue)
     → found ≡ end_of told → found ≡ Some end → Enters start passes (listed (put_entry old.pass.number point.path point.time point.value told)) old.pass new.pass
-    → new.counts ≡ counted old.counts end → Puts start passes point old new
-puts_point start passes told found end point old new tells is enters counts = record {
+    → new.counts ≡ counted old.counts end → new.gathered ≡ old.gathered → Puts start passes point old new
+puts_point start passes told found end point old new tells is enters counts gathered = record {
   end = end;
   enters = subst (λ (entries : List Entry). Enters start passes entries old.pass new.pass)
       (entries_of told old.pass.number point.path point.time point.value
       ∙ ap (λ (e : Option PutEnd). listed (option_map (λ (end : PutEnd). entry.Put old.pass.number point.path point.time point.value end) e)) (sym tells ∙ is)) enters;
   counts = counts;
+  gathered = gathered;
 }
 
 -- there was no memory for it, and no entry was made
@@ -75,44 +76,24 @@ puts_none start passes told found point old new tells is enters counts = (
 
 -- ---- a line
 
--- the line has a point, which was put
+-- the line has a point, which was put, with those that the rules emit for it
 serves_point : {C : Type 0} (moments : C → ℕ → Type 0) (start : State) (passes : ℕ) (old new : LinkValue C) (line : List ℕ) (now : ℕ) (point : Point) (before after : Option (List ℕ))
-    → HasRoom old.session.pass → moments old.clock now → datum_of line now ≡ Ok point → Puts start passes point old.session new.session → new.clock ≡ old.clock
+    → HasRoom old.session.pass → moments old.clock now → datum_of line now ≡ Ok point → Brings start passes point old.session new.session → new.clock ≡ old.clock
     → ServesLink moments start passes old (Whole line) before new after
-serves_point moments start passes old new line now point before after room told read puts clock = record {
+serves_point moments start passes old new line now point before after room told read brings clock = record {
   clock = clock;
   handles = record {
     room = room;
-    handles = (now, (told, subst (λ (r : Result Point LineFault). HandlesRead start passes r old.session new.session) (sym read) puts));
+    handles = (now, (told, subst (λ (r : Result Point LineFault). HandlesRead start passes r old.session new.session) (sym read) brings));
   };
 }
 
-pub serves_put : {C T : Type 0} (moments : C → ℕ → Type 0) (start : State) (passes : ℕ) (result : Result T Stop) (old new : LinkValue C) (line : List ℕ) (now : ℕ) (point : Point) (before after : Option (List ℕ))
-    → HasRoom old.session.pass → moments old.clock now → datum_of line now ≡ Ok point → OnOk result (Puts start passes point old.session new.session) → new.clock ≡ old.clock
+pub serves_bring : {C T : Type 0} (moments : C → ℕ → Type 0) (start : State) (passes : ℕ) (result : Result T Stop) (old new : LinkValue C) (line : List ℕ) (now : ℕ) (point : Point) (before after : Option (List ℕ))
+    → HasRoom old.session.pass → moments old.clock now → datum_of line now ≡ Ok point → OnOk result (Brings start passes point old.session new.session) → new.clock ≡ old.clock
     → OnOk result (ServesLink moments start passes old (Whole line) before new after)
-serves_put moments start passes (Ok u) old new line now point before after room told read puts clock =
-    serves_point moments start passes old new line now point before after room told read puts clock
-serves_put moments start passes (Err reason) old new line now point before after room told read puts clock = tt
-
--- or was not
-stops_none : {C : Type 0} (moments : C → ℕ → Type 0) (start : State) (passes : ℕ) (reason : Stop) (old new : LinkValue C) (line : List ℕ) (now : ℕ) (point : Point) (before after : Option (List ℕ))
-    → moments old.clock now → datum_of line now ≡ Ok point → PutsNone start passes reason old.session new.session → new.clock ≡ old.clock
-    → StopsLink moments start passes old (Whole line) before reason new after
-stops_none moments start passes reason old new line now point before after told read none clock =
-    subst (λ (r : Stop). StopsLink moments start passes old (Whole line) before r new after) (sym none.0) (record {
-      clock = clock;
-      stops = record {
-        point = (now, (told, subst (λ (r : Result Point LineFault). IsOk r) (sym read) refl));
-        idles = inr none.1;
-      };
-    })
-
-pub stops_put : {C T : Type 0} (moments : C → ℕ → Type 0) (start : State) (passes : ℕ) (result : Result T Stop) (old new : LinkValue C) (line : List ℕ) (now : ℕ) (point : Point) (before after : Option (List ℕ))
-    → moments old.clock now → datum_of line now ≡ Ok point → IfErr result (λ reason. PutsNone start passes reason old.session new.session) → new.clock ≡ old.clock
-    → IfErr result (λ reason. StopsLink moments start passes old (Whole line) before reason new after)
-stops_put moments start passes (Ok u) old new line now point before after told read stops clock = tt
-stops_put moments start passes (Err reason) old new line now point before after told read stops clock =
-    stops_none moments start passes reason old new line now point before after told read stops clock
+serves_bring moments start passes (Ok u) old new line now point before after room told read brings clock =
+    serves_point moments start passes old new line now point before after room told read brings clock
+serves_bring moments start passes (Err reason) old new line now point before after room told read brings clock = tt
 
 -- the line is refused, and counted
 serves_fault : {C : Type 0} (moments : C → ℕ → Type 0) (start : State) (passes : ℕ) (old new : LinkValue C) (line : List ℕ) (now : ℕ) (fault : LineFault) (before after : Option (List ℕ))
@@ -147,11 +128,11 @@ stops_refused moments start passes (Ok u) old new line now fault before after to
 stops_refused {C} moments start passes (Err reason) old new line now fault before after told read refuses =
     subst (λ (r : Stop). StopsLink moments start passes old (Whole line) before r new after) (sym refuses.1.0) (record {
       clock = ap (λ (v : LinkValue C). v.clock) refuses.1.1;
-      stops = record { point = (now, (told, read refuses.0)); idles = inl (ap (λ (v : LinkValue C). v.session) refuses.1.1) };
+      stops = record { mid = old.session; begun = inl ((now, (told, read refuses.0)), refl); idles = inl (ap (λ (v : LinkValue C). v.session) refuses.1.1) };
     })
 
 -- the pass has no room for it
 pub stops_spent : {C : Type 0} (moments : C → ℕ → Type 0) (start : State) (passes : ℕ) (reason : Stop) (old : LinkValue C) (line : Line) (before after : Option (List ℕ))
     → (reason ≡ stop.Spent) × IsSpent old.session.pass → StopsLink moments start passes old line before reason old after
 stops_spent moments start passes reason old line before after spent =
-    subst (λ (r : Stop). StopsLink moments start passes old line before r old after) (sym spent.0) (record { clock = refl; stops = (refl, spent.1) })
+    subst (λ (r : Stop). StopsLink moments start passes old line before r old after) (sym spent.0) (record { clock = refl; stops = (inl refl, spent.1) })

@@ -12,7 +12,7 @@ use Rattle.carbon_model.specs.State.{State}
 use Rattle.shared_history.specs.Parts.{PassValue, own_entries}
 use Rattle.shared_store.specs.Passes.{HasRoom}
 use Rattle.line_front.specs.Counts.{overlong}
-use Rattle.line_front.specs.Links.{HandlesAll, Puts, SeesMore, SessionValue}
+use Rattle.line_front.specs.Links.{HandlesAll, IsSpent, Puts, SeesMore, SessionValue}
 use Rattle.line_front.specs.Sessions.{LinkValue, Refuses, StopsBy}
 use Rattle.line_front.specs.declared.batch.NoPoint.{NoPoint}
 use Rattle.line_front.specs.declared.batch.NoPoint.TheVariants as none
@@ -85,6 +85,10 @@ pub record ReadsPoints {T : Type 0} (moments : ℕ → Type 0) (result : Result 
 
 -- ---- putting
 
+-- no rules gather the points of the link
+abbrev pub HasNoRules : SessionValue → Type 0
+HasNoRules session = session.gathered.rules ≡ []
+
 -- the pass has room for the entries of a batch, and for the line behind it
 abbrev pub HasBatchRoom : PassValue → Type 0
 HasBatchRoom pass = length (own_entries pass) + 260 ≤ 2 ^ 48
@@ -108,9 +112,24 @@ pub record PutsFewer (start : State) (passes : ℕ) (reason : Stop) (points : Li
   pub mid : SessionValue
   pub puts : PutsAll start passes first old mid
   pub is : reason ≡ stop.NoMemory
-  pub idles : (new ≡ mid) ⊎ SeesMore start passes mid new
+  pub sees : SeesMore start passes mid new
 
 -- ---- the line behind the points
+
+-- the pass has no room for a line, and all is as before
+abbrev pub StaysSpent : {C : Type 0} → Stop → LinkValue C → LinkValue C → Type 0
+StaysSpent reason old new = (reason ≡ stop.Spent) × ((new ≡ old) × IsSpent old.session.pass)
+
+-- what a line that is refused makes of a session
+abbrev pub EndsRefused : {C : Type 0} → LineFault → Result Bool Stop → LinkValue C → LinkValue C → Type 0
+EndsRefused fault (Ok more) old new = (more ≡ true) × (HasRoom old.session.pass × Refuses fault (Ok more) old new)
+EndsRefused fault (Err reason) old new = StaysSpent reason old new ⊎ Refuses {T = Bool} fault (Err reason) old new
+
+-- the same of one that is too long
+abbrev pub EndsLong : {C : Type 0} → Result Bool Stop → LinkValue C → LinkValue C → Type 0
+EndsLong (Ok more) old new =
+    (more ≡ true) × (HasRoom old.session.pass × (new ≡ record old { session = record old.session { counts = overlong old.session.counts } }))
+EndsLong (Err reason) old new = StaysSpent reason old new
 
 -- what the line that has no point makes of a session, and whether another line may wait
 abbrev pub EndsBatch : {C T : Type 0} → Result T NoPoint → Result Bool Stop → LinkValue C → LinkValue C → Type 0
@@ -118,11 +137,8 @@ EndsBatch (Ok u) (Ok more) old new = (more ≡ true) × (new ≡ old)
 EndsBatch (Ok u) (Err reason) old new = ⊥
 EndsBatch (Err none.NoLine) (Ok more) old new = (more ≡ false) × (new ≡ old)
 EndsBatch (Err none.NoLine) (Err reason) old new = ⊥
-EndsBatch (Err (none.Refused fault)) (Ok more) old new = (more ≡ true) × Refuses fault (Ok more) old new
-EndsBatch (Err (none.Refused fault)) (Err reason) old new = Refuses {T = Bool} fault (Err reason) old new
-EndsBatch (Err none.Long) (Ok more) old new =
-    (more ≡ true) × (new ≡ record old { session = record old.session { counts = overlong old.session.counts } })
-EndsBatch (Err none.Long) (Err reason) old new = ⊥
+EndsBatch (Err (none.Refused fault)) result old new = EndsRefused fault result old new
+EndsBatch (Err none.Long) result old new = EndsLong result old new
 
 -- whether fewer lines wait, or none
 abbrev pub LeavesFewer : Bool → List Line → List Line → Type 0

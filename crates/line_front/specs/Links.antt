@@ -8,39 +8,47 @@ use Rattle.metric_line.specs.declared.fault.LineFault.{LineFault}
 use Rattle.metric_line.specs.declared.fault.LineFault.TheVariants.{NoMemory}
 use Rattle.metric_line.specs.LineDatum.{datum_of}
 use Rattle.metric_line.specs.Point.{Point}
+use Rattle.aggregate_rules.specs.RuleTexts.{RuleValue}
+use Rattle.aggregate_front.specs.Emitting.{AggregatorValue}
 use Rattle.carbon_history.specs.declared.entry.Entry.{Entry}
-use Rattle.carbon_history.specs.declared.entry.Entry.TheVariants.{Put}
 use Rattle.carbon_history.specs.declared.entry.PutEnd.{PutEnd}
 use Rattle.carbon_model.specs.State.{State}
 use Rattle.shared_history.specs.Parts.{PassValue, own_entries}
 use Rattle.shared_store.specs.Passes.{Enters, HasRoom}
 use Rattle.line_front.specs.Counts.{counted, no_counts, overlong, refused}
+use Rattle.line_front.specs.Points.{ArePuts, LinesBring, PutsEach, emitted_for, emitted_at_end, gathered_after, gathered_with, none_gathered, points_put, put_entry}
 use Rattle.line_front.specs.declared.counts.Counts.{Counts}
 use Rattle.line_front.specs.declared.ends.LineCause.{LineCause}
 use Rattle.line_front.specs.declared.ends.LineCause.TheVariants as cause
 
--- what contracts see of a session of a link: its pass, and its lines by what became of them
+-- what contracts see of a session of a link: its pass, its lines by what became of them, and what the rules have gathered of its points
 pub record SessionValue : Type 0 where
   pub pass : PassValue
   pub counts : Counts
+  pub gathered : AggregatorValue
 
--- a session that has handled no line yet
-abbrev pub new_session : PassValue → SessionValue
-new_session pass = record { pass = pass; counts = no_counts }
+-- a session that has handled no line yet, by these rules
+abbrev pub new_session : List RuleValue → PassValue → SessionValue
+new_session rules pass = record { pass = pass; counts = no_counts; gathered = none_gathered rules }
 
--- the entry of a point that a pass puts
-abbrev pub put_entry : ℕ → Point → PutEnd → Entry
-put_entry pass point end = Put pass point.path point.time point.value end
-
--- a point was put: one entry with its outcome, which is counted
+-- a point of a link was put: one entry with its outcome, which is counted
 pub record Puts (start : State) (passes : ℕ) (point : Point) (old new : SessionValue) : Type 0 where
   pub end : PutEnd
   pub enters : Enters start passes (put_entry old.pass.number point end ∷ []) old.pass new.pass
   pub counts : new.counts ≡ counted old.counts end
+  pub gathered : new.gathered ≡ old.gathered
 
--- What a line that is read so makes of the pass and the counts: a point is put, and a refused line is counted by its reason.
+-- A point of a link was put, then given to the rules, and behind it were put those that they emit for it, which are not counted.
+pub record Brings (start : State) (passes : ℕ) (point : Point) (old new : SessionValue) : Type 0 where
+  pub put : SessionValue
+  pub puts : Puts start passes point old put
+  pub emits : PutsEach start passes (emitted_for old.gathered point) put.pass new.pass
+  pub counts : new.counts ≡ put.counts
+  pub gathered : new.gathered ≡ gathered_with old.gathered point
+
+-- What a line that is read so makes of the session: a point is put, with those that the rules emit for it, and a refused line is counted by its reason.
 abbrev pub HandlesRead : State → ℕ → Result Point LineFault → SessionValue → SessionValue → Type 0
-HandlesRead start passes (Ok point) old new = Puts start passes point old new
+HandlesRead start passes (Ok point) old new = Brings start passes point old new
 HandlesRead start passes (Err fault) old new = (fault ≢ NoMemory) × (new ≡ record old { counts = refused old.counts fault })
 
 -- the same of a line, at some moment of the clock
@@ -59,29 +67,15 @@ HandlesAll moments start passes old [] new = new ≡ old
 HandlesAll moments start passes old (line ∷ others) new =
     (next : SessionValue) × (Handles moments start passes line old next × HandlesAll moments start passes next others new)
 
--- ---- the entries of lines, apart from what others enter meanwhile
-
--- of a line that is read so a pass makes this put, or none
-abbrev pub IsOfRead : ℕ → Result Point LineFault → List Entry → Type 0
-IsOfRead pass (Ok point) entries = (end : PutEnd) × (entries ≡ put_entry pass point end ∷ [])
-IsOfRead pass (Err fault) entries = entries ≡ []
-
--- the same of a line, at some moment of the clock
-abbrev pub IsOfLine : (ℕ → Type 0) → ℕ → Line → List Entry → Type 0
-IsOfLine moments pass (Whole line) entries = (now : ℕ) × (moments now × IsOfRead pass (datum_of line now) entries)
-IsOfLine moments pass TooLong entries = entries ≡ []
-
--- The entries that a pass makes of lines: one put for each that is read as a point, in order.
-abbrev pub AreOfLines : (ℕ → Type 0) → ℕ → List Line → List Entry → Type 0
-AreOfLines moments pass [] entries = entries ≡ []
-AreOfLines moments pass (line ∷ more) entries =
-    (first : List Entry) × (others : List Entry) × (IsOfLine moments pass line first × (AreOfLines moments pass more others × (entries ≡ first ++ others)))
-
--- Lines were handled from where a session stood to where it stands: one after the other, and the pass made their entries and no other.
+-- Lines were handled from where a session stood to where it stands: one after the other. They were read as these points, and the pass made the puts of
+-- these and of those that the rules emit, in order, and no other entry.
 pub record HandlesLines (moments : ℕ → Type 0) (start : State) (passes : ℕ) (handled : List Line) (old new : SessionValue) : Type 0 where
   pub each : HandlesAll moments start passes old handled new
+  pub points : List Point
+  pub read : LinesBring moments handled points
+  pub gathered : new.gathered ≡ gathered_after old.gathered points
   pub entries : List Entry
-  pub made : AreOfLines moments old.pass.number handled entries
+  pub made : ArePuts old.pass.number (points_put old.gathered points) entries
   pub once : own_entries new.pass ≡ own_entries old.pass ++ entries
 
 -- ---- the ends of a link
@@ -112,15 +106,47 @@ pub record SeesMore (start : State) (passes : ℕ) (old new : SessionValue) : Ty
   pub enters : Enters start passes [] old.pass new.pass
   pub counts : new.counts ≡ old.counts
 
+-- nothing was done, or the pass saw more
+abbrev pub Idles : State → ℕ → SessionValue → SessionValue → Type 0
+Idles start passes old new = (new ≡ old) ⊎ SeesMore start passes old new
+
 -- a line has a point, at some moment of the clock
 abbrev pub HasPoint : (ℕ → Type 0) → Line → Type 0
 HasPoint moments (Whole line) = (now : ℕ) × (moments now × IsOk (datum_of line now))
 HasPoint moments TooLong = ⊥
 
--- There was no memory for a line, which has a point. All is as before, but that its put may have seen more of the history.
+-- a line was read as this point, at some moment of the clock
+abbrev pub IsPointOf : (ℕ → Type 0) → Line → Point → Type 0
+IsPointOf moments (Whole line) point = (now : ℕ) × (moments now × (datum_of line now ≡ Ok point))
+IsPointOf moments TooLong point = ⊥
+
+-- of some points the first were put, and not those behind them; nothing was counted
+pub record PutsFront (start : State) (passes : ℕ) (points : List Point) (old new : SessionValue) : Type 0 where
+  pub first : List Point
+  pub others : List Point
+  pub split : points ≡ first ++ others
+  pub emits : PutsEach start passes first old.pass new.pass
+  pub counts : new.counts ≡ old.counts
+
+-- The point of a line was put, and then the first of those that the rules emit for it.
+pub record BringsFront (moments : ℕ → Type 0) (start : State) (passes : ℕ) (line : Line) (old new : SessionValue) : Type 0 where
+  pub point : Point
+  pub is : IsPointOf moments line point
+  pub put : SessionValue
+  pub puts : Puts start passes point old put
+  pub emits : PutsFront start passes (emitted_for old.gathered point) put new
+
+-- There was no memory for a line, which has a point: neither was it put, or it was, with the first of those that the rules emit for it. Then nothing
+-- was done, but that a put may have seen more of the history.
 pub record LacksMemory (moments : ℕ → Type 0) (start : State) (passes : ℕ) (line : Line) (old new : SessionValue) : Type 0 where
-  pub point : HasPoint moments line
-  pub idles : (new ≡ old) ⊎ SeesMore start passes old new
+  pub mid : SessionValue
+  pub begun : (HasPoint moments line × (mid ≡ old)) ⊎ BringsFront moments start passes line old mid
+  pub idles : Idles start passes mid new
+
+-- The point of a line was put, and a point that the rules emit for it was not.
+pub record LacksRoom (moments : ℕ → Type 0) (start : State) (passes : ℕ) (line : Line) (old new : SessionValue) : Type 0 where
+  pub brings : BringsFront moments start passes line old new
+  pub some : brings.emits.others ≢ []
 
 -- the first lines of these bytes were handled, and there was no memory for the one that follows
 pub record RunsShort (moments : ℕ → Type 0) (start : State) (passes : ℕ) (bytes : List ℕ) (old new : SessionValue) : Type 0 where
@@ -128,25 +154,62 @@ pub record RunsShort (moments : ℕ → Type 0) (start : State) (passes : ℕ) (
   pub handles : HandlesFront moments start passes bytes old mid
   pub lacks : LacksMemory moments start passes handles.line mid new
 
--- What stands at each end of a link, of which the bytes `taken` were read. Where it was read to its end, a read failed or the limit was met, all lines
--- of what was taken are handled; so too where memory ran out between two reads, of what was taken before the last one. Else those before a line, at which
--- memory ran out or the pass was spent. A pass that is spent from the start takes nothing.
+-- the same where the pass has no room: for the line, or for a point that the rules emit for it
+pub record RunsFull (moments : ℕ → Type 0) (start : State) (passes : ℕ) (bytes : List ℕ) (old new : SessionValue) : Type 0 where
+  pub mid : SessionValue
+  pub handles : HandlesFront moments start passes bytes old mid
+  pub lacks : (new ≡ mid) ⊎ LacksRoom moments start passes handles.line mid new
+
+-- A link was read to its end, and all its lines were handled.
+pub record IsRead (moments : ℕ → Type 0) (start : State) (passes : ℕ) (taken : List ℕ) (left : Option (List ℕ)) (old new : SessionValue) : Type 0 where
+  pub handles : HandlesWhole moments start passes taken old new
+  pub at_end : IsAtEnd left
+  pub short : length taken < 2 ^ 40
+
+-- What the rules have open then was put.
+pub record EmitsAll (moments : ℕ → Type 0) (start : State) (passes : ℕ) (taken : List ℕ) (left : Option (List ℕ)) (old new : SessionValue) : Type 0 where
+  pub mid : SessionValue
+  pub read : IsRead moments start passes taken left old mid
+  pub emits : PutsEach start passes (emitted_at_end mid.gathered) mid.pass new.pass
+  pub counts : new.counts ≡ mid.counts
+
+-- Or the first of it, and there was no memory for more.
+pub record EmitsShort (moments : ℕ → Type 0) (start : State) (passes : ℕ) (taken : List ℕ) (left : Option (List ℕ)) (old new : SessionValue) : Type 0 where
+  pub mid : SessionValue
+  pub read : IsRead moments start passes taken left old mid
+  pub put : SessionValue
+  pub emits : PutsFront start passes (emitted_at_end mid.gathered) mid put
+  pub idles : Idles start passes put new
+
+-- Or the first of it, and the pass has no room for the next.
+pub record EmitsFront (moments : ℕ → Type 0) (start : State) (passes : ℕ) (taken : List ℕ) (left : Option (List ℕ)) (old new : SessionValue) : Type 0 where
+  pub mid : SessionValue
+  pub read : IsRead moments start passes taken left old mid
+  pub emits : PutsFront start passes (emitted_at_end mid.gathered) mid new
+  pub some : emits.others ≢ []
+
+-- What stands at each end of a link, of which the bytes `taken` were read. Where it was read to its end, all its lines are handled, and what the rules have
+-- open then is put. Where a read failed or the limit was met, all lines of what was taken are handled, and what is open is dropped; so too where memory
+-- ran out between two reads, of what was taken before the last one. Else those before a line, at which memory ran out or the pass was spent, or all and
+-- the first of what is open. A pass that is spent from the start takes nothing.
 abbrev pub EndsAs : (ℕ → Type 0) → State → ℕ → LineCause → List ℕ → Option (List ℕ) → SessionValue → SessionValue → Type 0
-EndsAs moments start passes cause.Closed taken left old new =
-    HandlesWhole moments start passes taken old new × (IsAtEnd left × (length taken < 2 ^ 40))
-EndsAs moments start passes cause.ReadFault taken left old new = HandlesWhole moments start passes taken old new
+EndsAs moments start passes cause.Closed taken left old new = EmitsAll moments start passes taken left old new
+EndsAs moments start passes cause.ReadFault taken left old new = HandlesWhole moments start passes taken old new × (length taken < 2 ^ 40)
 EndsAs moments start passes cause.LinkLimit taken left old new = HandlesWhole moments start passes taken old new × (length taken ≡ 2 ^ 40)
 EndsAs moments start passes cause.Spent taken left old new =
-    (TakesNone taken old new ⊎ HandlesFront moments start passes taken old new) × IsSpent new.pass
+    (TakesNone taken old new ⊎ (RunsFull moments start passes taken old new ⊎ EmitsFront moments start passes taken left old new)) × IsSpent new.pass
 EndsAs moments start passes cause.NoMemory taken left old new =
-    ((front : List ℕ) × (RunsOut front taken × HandlesWhole moments start passes front old new)) ⊎ RunsShort moments start passes taken old new
+    ((front : List ℕ) × (RunsOut front taken × HandlesWhole moments start passes front old new))
+    ⊎ (RunsShort moments start passes taken old new ⊎ EmitsShort moments start passes taken left old new)
 
--- What the service of a link came to. It ends for a spent pass exactly where the pass has no room at the start or before a line.
-pub record Ends (moments : ℕ → Type 0) (start : State) (passes : ℕ) (reason : LineCause) (left left' : Option (List ℕ)) (old new : SessionValue) : Type 0 where
+-- What the service of a link came to, its pass and its counts. It ends for a spent pass exactly where the pass has no room at the start, before a line, or
+-- before a point that the rules emit.
+pub record Ends (moments : ℕ → Type 0) (start : State) (passes : ℕ) (reason : LineCause) (left left' : Option (List ℕ)) (old : SessionValue) (pass : PassValue) (counts : Counts) : Type 0 where
   pub taken : List ℕ
   pub consumed : Consumes left left' taken
   pub room : reason ≢ cause.Spent → HasRoom old.pass
-  pub ends : EndsAs moments start passes reason taken left' old new
+  pub gathered : AggregatorValue
+  pub ends : EndsAs moments start passes reason taken left' old (record { pass = pass; counts = counts; gathered = gathered })
 
 -- nothing was written to a link, and no write to it failed
 pub record WritesNone {K : Type 0} (k : Ghosts K) (old new : K) : Type 0 where

@@ -1,5 +1,5 @@
 -- What a line makes of the code that serves a link.
-use Rattle.std.specs.Prelude.{◌≡◌, ◌≢◌, ℕ, List, Option, Result, Ok, Err}
+use Rattle.std.specs.Prelude.{◌≡◌, ◌≢◌, ◌⊎◌, ℕ, List, Option, Result, Ok, Err}
 use Rattle.line_frame.specs.Lines.{Line}
 use Rattle.line_service.specs.declared.ends.Stop.{Stop}
 use Rattle.line_service.specs.declared.ends.Stop.TheVariants as stop
@@ -9,7 +9,7 @@ use Rattle.carbon_model.specs.State.{State}
 use Rattle.shared_history.specs.Parts.{PassValue}
 use Rattle.shared_store.specs.Passes.{HasRoom}
 use Rattle.line_front.specs.Counts.{refused}
-use Rattle.line_front.specs.Links.{Handles, IsSpent, LacksMemory, SeesMore, SessionValue}
+use Rattle.line_front.specs.Links.{Handles, IsSpent, LacksMemory, LacksRoom, SeesMore, SessionValue}
 
 -- what contracts see of the code: the clock, and the session
 pub record LinkValue (C : Type 0) : Type 0 where
@@ -35,7 +35,7 @@ Refuses fault (Err reason) old new = (fault ≡ NoMemory) × ((reason ≡ stop.N
 abbrev pub StopsBy : (ℕ → Type 0) → State → ℕ → Line → Stop → SessionValue → SessionValue → Type 0
 StopsBy moments start passes line stop.WriteFault old new = ⊥
 StopsBy moments start passes line (stop.DiskFault class) old new = ⊥
-StopsBy moments start passes line stop.Spent old new = (new ≡ old) × IsSpent new.pass
+StopsBy moments start passes line stop.Spent old new = ((new ≡ old) ⊎ LacksRoom moments start passes line old new) × IsSpent new.pass
 StopsBy moments start passes line stop.NoMemory old new = LacksMemory moments start passes line old new
 
 -- a line was handled, by the same clock

@@ -1,9 +1,12 @@
 //! Links that bring metric lines: each line that is read as a point is put into the store, and each
-//! other one is counted by the reason.
+//! other one is counted by the reason. Rules may gather the points of a link: what they emit is put
+//! too, by the same pass.
 #![tactic(auto)]
 
 mod batch;
+mod bringing;
 mod counts;
+mod emitting;
 mod ends;
 mod serve;
 mod session;

@@ -2,12 +2,16 @@
 ghost use Rattle.std.specs.Prelude.{◌≡◌};
 ghost use Rattle.outside_io.specs.Frames.{CountsReads};
 ghost use Rattle.line_front.specs.Ends.{IsLinkEnd, cause_of};
+ghost use Rattle.line_front.specs.Emits.{EndsLines};
 ghost use Rattle.line_front.specs.Links.{Ends, WritesNone, new_session};
 
 use crate::counts::Counts;
+use crate::emitting::end_link;
 use crate::ends::LineCause;
 use crate::session::LineSession;
 use crate::sink::NoSink;
+use aggregate_front::{Aggregator, LINK_LIMITS};
+use aggregate_rules::AggRules;
 use line_service::{ServiceEnd, Stop};
 use outside_io::{Clock, Disk, Link};
 use shared_store::{Named, Store, StorePass};
@@ -27,9 +31,15 @@ pub struct Served<N: Named> {
 
 /// Serves a link that brings metric lines, until it ends: each line that is read as a point, at the
 /// moment that the clock tells then, makes one put, in order; each other line is counted by the
-/// reason, and the link goes on. What follows the last line feed is no line. Whether the pass has
-/// room for a call is looked at once at the start, and before each line. Nothing is written to the
-/// link.
+/// reason, and the link goes on. What follows the last line feed is no line. Nothing is written to
+/// the link.
+///
+/// A point that was put is given to the rules, and what they emit for it is put right behind it.
+/// Where the link is read to its end, what they have open then is put; it is dropped at each other
+/// end. `counts` has the link's own lines alone. The limits are [`LINK_LIMITS`].
+///
+/// Whether the pass has room for a call is looked at once at the start, before each line, and before
+/// each point that the rules emit.
 pub fn serve_lines<R: Wait, D: Disk, N: Named, L: Link, C: Clock>(
     rt: &R,
     alloc: Global,
@@ -37,10 +47,10 @@ pub fn serve_lines<R: Wait, D: Disk, N: Named, L: Link, C: Clock>(
     pass: StorePass<N>,
     link: &mut L,
     clock: &C,
+    rules: &AggRules,
 ) -> Served<N>
-    ensures ends { Ends (C.moments clock.now) N.start N.passes result.cause
-        (L.left link.old) (L.left link.new) (new_session pass)
-        (record { pass = result.pass; counts = result.counts }) }
+    ensures ends { Ends (C.moments clock.now) N.start N.passes result.cause (L.left link.old)
+        (L.left link.new) (new_session rules.now pass) result.pass result.counts }
     ensures reads { CountsReads L.Source link.old link.new (result.cause ≡ LineCause.ReadFault) }
     ensures written { WritesNone L.Sink link.old link.new }
 {
@@ -50,12 +60,21 @@ pub fn serve_lines<R: Wait, D: Disk, N: Named, L: Link, C: Clock>(
         clock,
         pass,
         counts: Counts::none(),
+        rules,
+        aggregator: Aggregator::within(alloc, rules, LINK_LIMITS),
         alloc,
         points: Vec::new(alloc),
         spares: Vec::new(alloc),
     };
-    let cause = serve_link(&mut session, alloc, link);
-    let LineSession { pass, counts, .. } = session;
+    let read = serve_link(&mut session, alloc, link);
+    let LineSession {
+        pass,
+        counts,
+        aggregator,
+        ..
+    } = session;
+    let mut pass = pass;
+    let cause = end_link(rt, store, read, aggregator, &mut pass);
     Served {
         cause,
         counts,
@@ -70,7 +89,7 @@ fn serve_link<R: Wait, D: Disk, N: Named, L: Link, C: Clock>(
     alloc: Global,
     link: &mut L,
 ) -> LineCause
-    ensures ends { Ends (C.moments session.old.clock) N.start N.passes result
+    ensures ends { EndsLines (C.moments session.old.clock) N.start N.passes result
         (L.left link.old) (L.left link.new) session.old.session session.new.session }
     ensures reads { CountsReads L.Source link.old link.new (result ≡ LineCause.ReadFault) }
     ensures written { WritesNone L.Sink link.old link.new }

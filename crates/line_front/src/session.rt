@@ -4,6 +4,9 @@ ghost use Rattle.fixed_num.specs.Moment.{is_moment};
 ghost use Rattle.line_front.specs.Ends.{end_of};
 
 use crate::counts::Counts;
+use crate::emitting::put_emitted;
+use aggregate_front::Aggregator;
+use aggregate_rules::AggRules;
 use carbon_history::PutEnd;
 use line_service::{LineServer, Stop};
 use metric_line::{Datum, LineFault, read_line};
@@ -15,7 +18,8 @@ use std::alloc::Global;
 use std::marker::Model;
 use std::sync::Wait;
 
-/// Puts the lines of a link into a store by a pass, at the moments of a clock, and counts them.
+/// Puts the lines of a link into a store by a pass, at the moments of a clock, and counts them. Behind
+/// each point are put those that the rules emit for it.
 #[derive(Drop)]
 pub(crate) struct LineSession<'a, R: Wait, D: Disk, N: Named, C: Clock> {
     pub(crate) rt: &'a R,
@@ -23,6 +27,9 @@ pub(crate) struct LineSession<'a, R: Wait, D: Disk, N: Named, C: Clock> {
     pub(crate) clock: &'a C,
     pub(crate) pass: StorePass<N>,
     pub(crate) counts: Counts,
+    pub(crate) rules: &'a AggRules,
+    // What the rules have gathered of the link.
+    pub(crate) aggregator: Aggregator<'a>,
     pub(crate) alloc: Global,
     // The buffer for the points of a batch.
     pub(crate) points: Vec<Datum>,
@@ -31,21 +38,26 @@ pub(crate) struct LineSession<'a, R: Wait, D: Disk, N: Named, C: Clock> {
 }
 
 impl<'a, R: Wait, D: Disk, N: Named, C: Clock> Model for LineSession<'a, R, D, N, C> {
+    ghost use Rattle.std.specs.Prelude.{◌≡◌};
     ghost use Rattle.line_front.specs.Sessions.{LinkValue};
 
     ghost Value = { LinkValue C };
 
     ghost view = { λ s. record {
       clock = s.clock.now;
-      session = record { pass = s.pass; counts = s.counts };
+      session = record { pass = s.pass; counts = s.counts; gathered = s.aggregator };
     } };
+
+    ghost invariant = { λ s. s.aggregator.rules ≡ s.rules.now };
 }
 
 impl<'a, R: Wait, D: Disk, N: Named, C: Clock> LineSession<'a, R, D, N, C> {
     ghost use Rattle.std.specs.Prelude.{◌≡◌, OnOk, IfErr};
     ghost use Rattle.metric_line.specs.Seen.{seen};
     ghost use Rattle.shared_store.specs.Passes.{HasRoom};
-    ghost use Rattle.line_front.specs.Links.{Puts};
+    ghost use Rattle.line_front.specs.Links.{Brings, Puts};
+    ghost use Rattle.line_front.specs.Batches.{HasNoRules};
+    ghost use Rattle.line_front.specs.Emits.{Gathers, GathersFew, StopsBring};
     ghost use Rattle.line_front.specs.Sessions.{PutsNone, Refuses, TellsRoom};
 
     // Whether the pass has room for what a call of the store may enter.
@@ -78,6 +90,48 @@ impl<'a, R: Wait, D: Disk, N: Named, C: Clock> LineSession<'a, R, D, N, C> {
         Ok(())
     }
 
+    // Puts the point of a line, and behind it those that the rules emit for it.
+    #[tactic(auto, using(crate::proofs::EmitLemmas::bring_ok, crate::proofs::EmitLemmas::bring_err))]
+    pub(crate) fn bring(&mut self, datum: &Datum) -> Result<(), Stop>
+        requires { HasRoom self.old.session.pass }
+        ensures brings { OnOk result
+            (Brings N.start N.passes (seen datum.now) self.old.session self.new.session) }
+        ensures stops { IfErr result (λ reason. StopsBring N.start N.passes (seen datum.now) reason
+            self.old.session self.new.session) }
+        ensures clock { self.new.clock ≡ self.old.clock }
+    {
+        match self.put(datum) {
+            Ok(()) => self.gather(datum),
+            Err(stop) => Err(stop),
+        }
+    }
+
+    // Gives a point that was put to the rules, and puts those that they emit for it.
+    #[tactic(auto, using(crate::proofs::EmitLemmas::gathers_none, crate::proofs::EmitLemmas::gather_ok, crate::proofs::EmitLemmas::gather_err, crate::proofs::EmitLemmas::few_unfed))]
+    fn gather(&mut self, datum: &Datum) -> Result<(), Stop>
+        ensures gathers { OnOk result
+            (Gathers N.start N.passes (seen datum.now) self.old.session self.new.session) }
+        ensures stops { IfErr result (λ reason. GathersFew N.start N.passes (seen datum.now) reason
+            self.old.session self.new.session) }
+        ensures clock { self.new.clock ≡ self.old.clock }
+    {
+        if self.lacks_rules() {
+            return Ok(());
+        }
+        match self.aggregator.feed(datum) {
+            Ok(points) => put_emitted(self.rt, self.store, &mut self.pass, points.as_slice()),
+            Err(_) => Err(Stop::NoMemory),
+        }
+    }
+
+    // Whether there are no rules that gather the points of the link.
+    #[tactic(auto, using(crate::proofs::EmitLemmas::none_left))]
+    pub(crate) fn lacks_rules(&self) -> bool
+        ensures { result ≡ true → HasNoRules self.now.session }
+    {
+        self.rules.as_slice().is_empty()
+    }
+
     // Counts a line that was refused. Want of memory is no refusal.
     pub(crate) fn refuse(&mut self, fault: LineFault) -> Result<(), Stop>
         ensures { Refuses fault result self.old self.new }
@@ -99,13 +153,13 @@ impl<'a, R: Wait, D: Disk, N: Named, C: Clock> LineServer for LineSession<'a, R,
     ghost stops = { λ old line before reason new after.
         StopsLink C.moments N.start N.passes old line before reason new after };
 
-    #[tactic(auto, using(crate::proofs::SessionLemmas::serves_put, crate::proofs::SessionLemmas::stops_put, crate::proofs::SessionLemmas::serves_refused, crate::proofs::SessionLemmas::stops_refused, crate::proofs::SessionLemmas::stops_spent))]
+    #[tactic(auto, using(crate::proofs::SessionLemmas::serves_bring, crate::proofs::EmitLemmas::stops_bring, crate::proofs::SessionLemmas::serves_refused, crate::proofs::SessionLemmas::stops_refused, crate::proofs::SessionLemmas::stops_spent))]
     fn serve_line<K: Sink>(&mut self, line: &[u8], out: &mut K) -> Result<(), Stop> {
         // A link that brings lines is never written to.
         let _ = out;
         self.room()?;
         match read_line(self.alloc, line, moment(self.clock)) {
-            Ok(datum) => self.put(&datum),
+            Ok(datum) => self.bring(&datum),
             Err(fault) => self.refuse(fault),
         }
     }
@@ -129,7 +183,7 @@ pub(crate) fn moment<C: Clock>(clock: &C) -> u32
 }
 
 // How a put ended, unless there was no memory for it.
-fn end_of(put: Put) -> Option<PutEnd>
+pub(crate) fn end_of(put: Put) -> Option<PutEnd>
     ensures { result ≡ end_of put }
 {
     match put {

@@ -5,7 +5,7 @@ use crate::batch::{MOST_BATCH_POINTS, NoPoint, empty, read_points};
 use crate::session::LineSession;
 use line_frame::Framer;
 use line_service::{Stop, WaitingServer, serve_each};
-use metric_line::Datum;
+use metric_line::{Datum, LineFault};
 use outside_io::{Clock, Disk, Sink};
 use shared_store::{MOST_CALL_ENTRIES, Named};
 use std::mem;
@@ -25,7 +25,7 @@ impl<'a, R: Wait, D: Disk, N: Named, C: Clock> LineSession<'a, R, D, N, C> {
     ghost use Rattle.line_service.specs.Standing.{ServesTo};
     ghost use Rattle.shared_store.specs.Passes.{HasRoom};
     ghost use Rattle.shared_store.specs.Pieces.{HasRoomFor};
-    ghost use Rattle.line_front.specs.Batches.{BatchServes, BatchStops, EndsBatch, HasBatchRoom, PutsAll, PutsFewer, ReadsPoints};
+    ghost use Rattle.line_front.specs.Batches.{BatchServes, BatchStops, EndsBatch, EndsLong, EndsRefused, HasBatchRoom, PutsAll, PutsFewer, ReadsPoints};
     ghost use Rattle.line_front.specs.Sessions.{ServesLink, StopsLink};
 
     // Hands out the buffer for the points of a batch.
@@ -91,7 +91,7 @@ impl<'a, R: Wait, D: Disk, N: Named, C: Clock> LineSession<'a, R, D, N, C> {
         ensures clock { self.new.clock ≡ self.old.clock }
     {
         let read = self.read_batch(framer, points);
-        match self.put_points(points.as_slice()) {
+        match self.bring_points(points.as_slice()) {
             Ok(()) => self.end_batch(read),
             Err(stop) => Err(stop),
         }
@@ -114,20 +114,40 @@ impl<'a, R: Wait, D: Disk, N: Named, C: Clock> LineSession<'a, R, D, N, C> {
     {
         match read {
             Ok(()) => Ok(true),
-            Err(NoPoint::Refused(fault)) => match self.refuse(fault) {
-                Ok(()) => Ok(true),
-                Err(stop) => Err(stop),
-            },
-            Err(NoPoint::Long) => {
-                self.counts.count_long();
-                Ok(true)
-            }
+            Err(NoPoint::Refused(fault)) => self.end_refused(fault),
+            Err(NoPoint::Long) => self.end_long(),
             Err(NoPoint::NoLine) => Ok(false),
         }
     }
 
+    // Counts a line that was refused, if the pass has room for a call.
+    fn end_refused(&mut self, fault: LineFault) -> Result<bool, Stop>
+        ensures { EndsRefused fault result self.old self.new }
+    {
+        match self.room() {
+            Ok(()) => {}
+            Err(stop) => return Err(stop),
+        }
+        match self.refuse(fault) {
+            Ok(()) => Ok(true),
+            Err(stop) => Err(stop),
+        }
+    }
+
+    // Counts a line that was too long, if the pass has room for a call.
+    fn end_long(&mut self) -> Result<bool, Stop>
+        ensures { EndsLong result self.old self.new }
+    {
+        match self.room() {
+            Ok(()) => {}
+            Err(stop) => return Err(stop),
+        }
+        self.counts.count_long();
+        Ok(true)
+    }
+
     // Puts the points of a batch in order.
-    fn put_points(&mut self, points: &[Datum]) -> Result<(), Stop>
+    pub(crate) fn put_points(&mut self, points: &[Datum]) -> Result<(), Stop>
         requires room { HasRoomFor points.now self.old.session.pass }
         ensures puts { OnOk result
             (PutsAll N.start N.passes points.now self.old.session self.new.session) }

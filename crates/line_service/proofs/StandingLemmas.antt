@@ -113,9 +113,9 @@ ends_closed serves stops left left1 left2 p p1 f1 count r short keeps none =
 
 -- a read failed
 pub ends_failed : {L : Type 0} (serves : Serves L) (stops : Stops L) (left left1 left2 : Option (List ℕ)) (p p1 : At L) (f1 : Framing) (count : ℕ)
-    → Reached (StepOf serves) left p count left1 f1 p1 → Keeps left1 left2 → Service serves stops end.ReadFault left p left2 p1
-ends_failed serves stops left left1 left2 p p1 f1 count r keeps =
-    (r.taken, (Consumes-kept left left1 left2 r.taken r.consumed keeps, r.served.chain))
+    → Reached (StepOf serves) left p count left1 f1 p1 → count < 2 ^ 40 → Keeps left1 left2 → Service serves stops end.ReadFault left p left2 p1
+ends_failed serves stops left left1 left2 p p1 f1 count r short keeps =
+    (r.taken, (Consumes-kept left left1 left2 r.taken r.consumed keeps, (r.served.chain, omega (arith, r.counted, short))))
 
 -- no memory for a piece
 pub ends_memory : {L : Type 0} (serves : Serves L) (stops : Stops L) (left left1 left2 : Option (List ℕ)) (p p1 p2 : At L) (f1 : Framing) (count : ℕ) (bytes : List ℕ)

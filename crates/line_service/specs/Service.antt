@@ -58,7 +58,7 @@ pub record StopsAt {L : Type 0} (serves : Serves L) (stops : Stops L) (stop : St
 abbrev pub EndsAs : {L : Type 0} → Serves L → Stops L → ServiceEnd → At L → List ℕ → Option (List ℕ) → At L → Type 0
 EndsAs serves stops end.Closed from taken left to =
     Chain (StepOf serves) from (lines taken) to × (IsAtEnd left × (length taken < 2 ^ 40))
-EndsAs serves stops end.ReadFault from taken left to = Chain (StepOf serves) from (lines taken) to
+EndsAs serves stops end.ReadFault from taken left to = Chain (StepOf serves) from (lines taken) to × (length taken < 2 ^ 40)
 EndsAs serves stops end.Limit from taken left to = Chain (StepOf serves) from (lines taken) to × (length taken ≡ 2 ^ 40)
 EndsAs serves stops end.NoMemory from taken left to =
     (front : List ℕ) × (RunsOut front taken × Chain (StepOf serves) from (lines front) to)

@@ -18,7 +18,7 @@ pub enum Stop {
 pub enum ServiceEnd {
     /// The input was read to its end, and all its lines were served.
     Closed,
-    /// A read failed. All lines of what was taken were served.
+    /// A read failed, before as many bytes were taken as are taken at most. All lines of what was taken were served.
     ReadFault,
     /// As many bytes as are taken at most were taken, and all their lines were served.
     Limit,

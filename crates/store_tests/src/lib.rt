@@ -13,7 +13,11 @@ mod shared_store_kit;
 #[cfg(test)]
 mod shared_store_tests;
 #[cfg(test)]
+mod shared_store_third_try_tests;
+#[cfg(test)]
 mod shared_store_thread_tests;
+#[cfg(test)]
+mod shared_store_wait_kit;
 #[cfg(test)]
 mod shared_store_wait_tests;
 #[cfg(test)]

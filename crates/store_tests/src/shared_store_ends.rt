@@ -47,7 +47,9 @@ pub(crate) enum End {
     Names(&'static [&'static str]),
     // So many entries of each kind.
     Counted(Tally),
+    // The flag is up, or it is down.
     Up,
+    Down,
 }
 
 // What is done, and how it is to end.
@@ -184,9 +186,9 @@ fn is_counted(reply: &Reply, want: Tally) -> bool {
     }
 }
 
-fn is_up(reply: &Reply) -> bool {
+fn is_flag(reply: &Reply, want: bool) -> bool {
     match reply {
-        Reply::Up(up) => *up,
+        Reply::Up(up) => *up == want,
         _ => false,
     }
 }
@@ -205,11 +207,18 @@ fn ends_so(reply: &Reply, end: End) -> bool {
         End::Refused(fault) => is_refused(reply, fault),
         End::Names(paths) => has_names(reply, paths),
         End::Counted(tally) => is_counted(reply, tally),
-        End::Up => is_up(reply),
+        End::Up => is_flag(reply, true),
+        End::Down => is_flag(reply, false),
     }
 }
 
-fn job_of(alloc: Global, before: &[Row], rows: &[Row], flags: &[Flag]) -> Result<Job, AllocError> {
+// The job of a caller that has some rows before its others.
+pub(crate) fn job_of(
+    alloc: Global,
+    before: &[Row],
+    rows: &[Row],
+    flags: &[Flag],
+) -> Result<Job, AllocError> {
     let mut deeds = Vec::new(alloc);
     for (deed, _) in before.iter().chain(rows.iter()) {
         deeds.push(*deed)?;
@@ -232,7 +241,7 @@ pub(crate) fn jobs_of(
 }
 
 // Each deed has its reply, in two lists of rows one behind the other.
-fn assert_replies(rt: &impl Abort, job: &Job, before: &[Row], rows: &[Row]) {
+pub(crate) fn assert_replies(rt: &impl Abort, job: &Job, before: &[Row], rows: &[Row]) {
     let wanted = before.iter().chain(rows.iter());
     for (n, ((_, end), reply)) in wanted.zip(job.replies.iter()).enumerate() {
         assert!(rt; ends_so(reply, *end), "{n}");

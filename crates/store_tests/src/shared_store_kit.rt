@@ -70,6 +70,8 @@ pub(crate) enum Deed {
     Await(usize),
     // The flag with this number is put up.
     Raise(usize),
+    // The caller looks for a fifth of a second whether the flag with this number comes up.
+    Watch(usize),
 }
 
 #[derive(Drop)]
@@ -188,9 +190,14 @@ fn is_stored(reply: &Reply) -> bool {
     }
 }
 
-// Waits for 20 seconds at most, and says whether the flag came up.
-fn comes_up(clock: &impl Clock, flag: &Flag) -> bool {
-    for _turn in 0..20_000 {
+// For how many milliseconds a flag is waited for that comes up, and for one that does not.
+const WAIT: u32 = 20_000;
+
+const WATCH: u32 = 200;
+
+// Waits for so many milliseconds at most, and says whether the flag came up.
+fn comes_up(clock: &impl Clock, flag: &Flag, most: u32) -> bool {
+    for _turn in 0..most {
         if flag.is_up() {
             return true;
         }
@@ -213,9 +220,9 @@ impl Job {
         })
     }
 
-    fn waits(&self, clock: &impl Clock, number: usize) -> Option<Reply> {
+    fn waits(&self, clock: &impl Clock, number: usize, most: u32) -> Option<Reply> {
         let flag = self.flags.get(number)?;
-        Some(Reply::Up(comes_up(clock, flag)))
+        Some(Reply::Up(comes_up(clock, flag, most)))
     }
 
     fn raises(&self, number: usize) -> Option<Reply> {
@@ -384,8 +391,9 @@ impl<N: Named> Worker<N> {
             Deed::Ask(globs) => self.ask(rt, alloc, store, globs),
             Deed::Names => self.names(rt, alloc, store),
             Deed::Count => self.count(rt, store),
-            Deed::Await(flag) => self.job.waits(rt, flag),
+            Deed::Await(flag) => self.job.waits(rt, flag, WAIT),
             Deed::Raise(flag) => self.job.raises(flag),
+            Deed::Watch(flag) => self.job.waits(rt, flag, WATCH),
         }
     }
 

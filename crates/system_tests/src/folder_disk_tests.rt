@@ -50,7 +50,7 @@ struct Story {
     told: &'static str,
 }
 
-const STORIES: [Story; 24] = [
+const STORIES: [Story; 25] = [
     Story {
         title: "no folder has no names",
         steps: &[Step::Names, Step::Length("c")],
@@ -252,6 +252,20 @@ const STORIES: [Story; 24] = [
             Step::Read("d.ring", 4),
         ],
         told: "failed [d.ring] failed tw failed ot ",
+    },
+    Story {
+        title: "nor is one that got its name since, however old its bytes are",
+        steps: &[
+            Step::Folder(""),
+            Step::Put("c", "\0\0\0\u{1}twenty bytes and more"),
+            Step::Wait(30),
+            Step::Names,
+            Step::Wait(30),
+            Step::Rename("c", "c.ring"),
+            Step::Create("c.ring", 18),
+            Step::Read("c.ring", 4),
+        ],
+        told: "[c] failed tw ",
     },
     Story {
         title: "a file of version 2 is not made anew, nor one of no version",

@@ -1,10 +1,20 @@
 use Rattle.std.proofs.Common.{◌≡◌, ◌∙◌, ℕ, ℤ, true, Bool, ap, get_or, subst, sym}
 use Rattle.fixed_num.specs.Moment.{is_moment}
-use Rattle.archive_update.specs.Batch.{bucket_of, archive_for, is_home}
+use Rattle.archive_update.specs.Batch.{bucket_of, bucket_writes, archive_for, is_home, latest_of_each, step_of}
 use Rattle.archive_update.specs.Buckets.{IsOwn, with_latest}
 use Rattle.archive_update.proofs.OwnLemmas.{latest_all, moment_is_short, more_home, more_elsewhere, own_bucket}
+use Rattle.archive_update.proofs.RisingLemmas.{nothing_kept}
 use Rattle.archive_update.proofs.own.bucket_writes.Goals as goal
 use Rattle.archive_update.proofs.own.bucket_writes.Goals.{then-holds+in_ok-put_latest, else-holds}
+
+pub returns-then-not-meets-clause-writes : goal.returns-then-not-meets-clause-writes
+unfolding bucket_writes
+returns-then-not-meets-clause-writes c =
+    let test : ℕ × ℤ → Bool = λ p. is_home c.args.archive (archive_for c.args.layout.now.archives c.args.now p.0) in
+    let none = c.meets.ensures c.if-not-meets.true in
+    c.new.ensures.items
+    ∙ ap (latest_of_each (step_of c.args.layout.now.archives c.args.archive)) (sym (nothing_kept test c.args.points.now (λ k d lt.
+    sym (rw c.archives.ensures.value at c.new-span.ensures (get_or c.args.points.now k d).0 (moment_is_short (get_or c.args.points.now k d).0 (c.requires.moments k d lt))) ∙ none k d lt)))
 
 pub loop-point-preserved : goal.loop-point-preserved
 loop-point-preserved c =

@@ -15,5 +15,5 @@ bind_shards-requires-clause-ready g c κs within =
 pub returns-in-Ok-clause-runs : goal.returns-in-Ok-clause-runs
 returns-in-Ok-clause-runs g c =
     served_over {D = g.row.D.Denot} {E = g.row.E.Denot} {d = g.D.Disk} g.E.Net.faults c.args.net.now c.bind_shards.new.net (settings_of c.args.setup.now) c.args.disks.items c.in-Ok.started.shards.items
-    (staff_of g.C.Clock g.E.L.Source g.E.L.Sink c.args.clock.now (duties_of c.args.options) (passes_for c.args.options))
+    (staff_of g.C.Clock g.E.L.Source g.E.L.Sink c.args.clock.now c.args.agg_rules.now (duties_of c.args.options) (passes_for c.args.options))
     (unread (g.K.Sink.written c.args.out.now) (g.K.Sink.written c.bind_shards.new.out)) (answer_of c.bind_shards.result.status c.bind_shards.result.history c.bind_shards.result.disks.items) c.in-Ok.ensures.starts c.bind_shards.ensures.serves

@@ -7,6 +7,6 @@ use Rattle.carbon_serve.proofs.PutLemmas.{all_puts}
 use Rattle.carbon_serve.proofs.laws.every_point_is_put_once.Goals as goal
 
 pub returns : goal.returns
-returns g c clock duties number history course served turns =
-    all_puts (telling g.E.L.Source g.E.L.Sink) (origin_of g.C.Clock g.N.Named clock) number served course.fresh course.pass (of_pass number history) course.new.place
+returns g c clock rules duties number history course served turns =
+    all_puts (telling g.E.L.Source g.E.L.Sink rules) (origin_of g.C.Clock g.N.Named clock) number served course.fresh course.pass (of_pass number history) course.new.place
     (ap (λ (es : List Entry). of_pass course.fresh.number es) course.new.seen) course.own turns

@@ -4,5 +4,5 @@ use Rattle.carbon_serve.proofs.ReplyLemmas.{links_of}
 use Rattle.carbon_serve.proofs.laws.every_reply_is_of_the_one_history.Goals as goal
 
 pub returns : goal.returns
-returns g c clock duties number history course served turns =
-    links_of (telling g.E.L.Source g.E.L.Sink) (origin_of g.C.Clock g.N.Named clock) number history served course.fresh course.pass course.new.place course.begins turns
+returns g c clock rules duties number history course served turns =
+    links_of (telling g.E.L.Source g.E.L.Sink rules) (origin_of g.C.Clock g.N.Named clock) number history served course.fresh course.pass course.new.place course.begins turns

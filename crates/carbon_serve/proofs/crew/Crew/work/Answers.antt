@@ -35,7 +35,7 @@ pub returns-clause-did : goal.returns-clause-did
 returns-clause-did g c =
     let old : List Worker = c.self.inside.workers.items in
     let now : List Worker = c.work_all.new.workers in
-    let links = telling g.E.L.Source g.E.L.Sink in
+    let links = telling g.E.L.Source g.E.L.Sink c.args.rules.now in
     let w : Origin = origin_of g.C.Clock g.N.Named c.args.clock.now in
     let same : c.as_mut_slice.result.now ≡ old = search rules in
     let deeds : AllDo links w old now = subst (λ (workers : List Worker). AllDo links w workers now) same c.work_all.ensures.do_all in

@@ -68,7 +68,7 @@ returns-in-Failed-clause-ends g c =
     let w = origin_of g.C.Clock g.N.Named c.args.self.now.clock.now in
     let read = apart g.L.Source.beside_read g.L.Sink.written g.L.Sink.write_faults c.loop-taken.link c.read.new.self g.met.L.Link.reads_apart c.in-Failed.ensures.beside in
     ends_failed w (g.L.Source.left c.args.link.now) (g.L.Source.left c.loop-taken.link) (g.L.Source.left c.read.new.self) c.loop-taken.reader.left
-    _ _ c.loop-taken.taken (reached_apart w _ _ _ _ _ _ _ _ read.0 c.loop-taken.invariant.reached) c.loop-taken.invariant.waits c.in-Failed.ensures.bytes
+    _ _ c.loop-taken.taken (reached_apart w _ _ _ _ _ _ _ _ read.0 c.loop-taken.invariant.reached) c.loop-taken.invariant.waits c.loop-taken-test.true c.in-Failed.ensures.bytes
 
 pub returns-clause-ends : goal.returns-clause-ends
 returns-clause-ends g c =

@@ -6,16 +6,16 @@ pub returns-in-Ok-clause-serves : goal.returns-in-Ok-clause-serves
 returns-in-Ok-clause-serves g c =
     serves_points g.C.Clock.moments g.N.Named.start g.N.Named.passes c.read_batch-read.result c.args.framer.now c.read_batch-read.new.framer
     c.read_batch-read.new.points.items c.as_slice.result.now c.args.self.now c.args.self.now refl c.as_slice.ensures.value c.read_batch-read.ensures.reads
-    c.end_batch.result c.put_points.new.self c.end_batch.new.self c.requires.room c.read_batch-read.ensures.few (rw c.read_batch-read.ensures.same at c.in-Ok.ensures.puts) c.end_batch.ensures
+    c.end_batch.result c.bring_points.new.self c.end_batch.new.self (rw c.read_batch-read.ensures.same at c.in-Ok.ensures.brings) c.end_batch.ensures
 
 pub returns-in-Ok-clause-stops : goal.returns-in-Ok-clause-stops
 returns-in-Ok-clause-stops g c =
     ends_points g.C.Clock.moments g.N.Named.start g.N.Named.passes c.read_batch-read.result c.args.framer.now c.read_batch-read.new.framer
     c.read_batch-read.new.points.items c.as_slice.result.now c.args.self.now c.args.self.now refl c.as_slice.ensures.value c.read_batch-read.ensures.reads
-    c.end_batch.result c.put_points.new.self c.end_batch.new.self (rw c.read_batch-read.ensures.same at c.in-Ok.ensures.puts) c.end_batch.ensures
+    c.end_batch.result c.bring_points.new.self c.end_batch.new.self (rw c.read_batch-read.ensures.same at c.in-Ok.ensures.brings) c.end_batch.ensures
 
 pub returns-in-Err-clause-stops : goal.returns-in-Err-clause-stops
 returns-in-Err-clause-stops g c =
     stops_points g.C.Clock.moments g.N.Named.start g.N.Named.passes c.read_batch-read.result c.args.framer.now c.read_batch-read.new.framer
     c.read_batch-read.new.points.items c.as_slice.result.now c.args.self.now c.args.self.now refl c.as_slice.ensures.value c.read_batch-read.ensures.reads
-    c.in-Err.stop c.put_points.new.self.session (rw c.read_batch-read.ensures.same at c.in-Err.ensures.stops)
+    c.in-Err.stop c.bring_points.new.self.session (rw c.read_batch-read.ensures.same at c.in-Err.ensures.stops)

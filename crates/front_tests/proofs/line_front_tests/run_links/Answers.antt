@@ -3,7 +3,7 @@ use Rattle.shared_store.proofs.StartLemmas.{picked}
 use Rattle.shard_set.specs.Disks.{faults_at, told_at}
 use Rattle.shard_set.specs.OpeningState.{opening_of}
 use Rattle.line_front.proofs.StoreLemmas.{fresh_from}
-use Rattle.front_tests.proofs.line_front_tests.run.Goals as goal
+use Rattle.front_tests.proofs.line_front_tests.run_links.Goals as goal
 
 pub run_store-requires : goal.run_store-requires
 run_store-requires g c =

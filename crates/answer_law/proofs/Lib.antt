@@ -1,0 +1,4 @@
+mod AnswerLemmas
+mod RowLemmas
+mod SortLemmas
+mod ValueLemmas
