@@ -585,6 +585,54 @@ def a_reset_of_a_sender_frees_its_receiver():
         want(daemon.ask("a.c")[1].startswith("a.c,"), True, "the next sender's point")
 
 
+RULE = "all.<app>.requests (60) = sum web.<app>.*.requests\n"
+
+
+@contextlib.contextmanager
+def gathering(*words):
+    """A carbon with an aggregation rule, and a connection that brought two points of one output."""
+    with folder() as place:
+        write_rules(place, b"[all]\npattern = .*\nretentions = 60s:1d\n")
+        with open(os.path.join(place, "conf", "aggregation-rules.conf"), "w") as file:
+            file.write(RULE)
+        with serving(*words, place=place) as daemon:
+            link = socket.create_connection(("127.0.0.1", daemon.line_port))
+            at = int(time.time()) // 60 * 60 - 60
+            link.sendall(b"web.x.h1.requests 1 %d\nweb.x.h2.requests 2 %d\n" % (at, at))
+            want(settled(lambda: "web" in daemon.ask("web.x.h2.requests")[1]), True, "the second point")
+            want(daemon.ask("all.x.requests")[1], "", "the output before the connection's end")
+            yield daemon, link
+            link.close()
+
+
+def sum_is_there(daemon):
+    return "3.0" in daemon.ask("all.x.requests")[1]
+
+
+@case
+def the_end_of_a_connection_gives_its_open_intervals():
+    with gathering() as (daemon, link):
+        link.shutdown(socket.SHUT_WR)
+        want(settled(lambda: sum_is_there(daemon)), True, "the sum behind the sender's end")
+        want(daemon.stop()[0:2], (0, "stored 3 replaced 0 full 0 drains 3"), "the stop")
+    with gathering("--line-patience", "1") as (daemon, link):
+        want(settled(lambda: sum_is_there(daemon)), True, "the sum behind the patience")
+    with gathering() as (daemon, link):
+        want(daemon.stop()[0:2], (0, "stored 3 replaced 0 full 0 drains 3"), "a stop with the connection open")
+        want(os.path.exists(path_of(daemon.place, "all.x.requests")), True, "the output's file")
+
+
+@case
+def a_reset_of_a_connection_gives_nothing_of_its_open_intervals():
+    with gathering("--receivers", "1") as (daemon, link):
+        link.setsockopt(socket.SOL_SOCKET, socket.SO_LINGER, struct.pack("ii", 1, 0))
+        link.close()
+        daemon.send(point("web.x.h3.requests", 4))
+        want(settled(lambda: "4.0" in daemon.ask("all.x.requests")[1]), True, "the next connection's sum")
+        want("3.0" in daemon.ask("all.x.requests")[1], False, "the sum of the connection that was reset")
+        want(daemon.stop()[0:2], (0, "stored 4 replaced 0 full 0 drains 4"), "the stop")
+
+
 @case
 def refused_requests_leave_their_renderers():
     with serving("--renderers", "2") as daemon:

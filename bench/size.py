@@ -1,7 +1,7 @@
 #!/usr/bin/env python3
 """Large installations and large questions: each is answered whole, and not given up for want of memory that there is.
 
-Usage: bench/size.py [NAMES]      (1,000,000 without a number)
+Usage: bench/size.py [NAMES | rules]      (1,000,000 without a number; with `rules` the last two rows alone)
 
 Runs `carbon serve` over a folder on the disk of /tmp and checks, over its ports:
 
@@ -13,6 +13,9 @@ Runs `carbon serve` over a folder on the disk of /tmp and checks, over its ports
   eight      eight questions at once for nearly 4,000,000 values each, of one series and of 10,000, as JSON, and the most memory that they took beyond
              what the daemon held before: alone, and the eight together
   again      a second daemon over the same folder finds all names by their files
+  outputs    one connection whose lines would make 20,001 outputs of a rule: the first 20,000 are made, and the last is not
+  open       one connection whose open intervals hold 1,000,000 points: the next that opens no sixth interval is passed over, the one that opens it is
+             not, and what it emits makes room
 
 The contracts leave want of memory free: that it is not answered where there is memory, only such a run can show. It ends with the first thing that is
 otherwise than it has to be, or with a line for each that was shown and its seconds. Run ./carbon build first.
@@ -37,6 +40,8 @@ RULES = (
     b"[all]\npattern = .*\nretentions = 60s:5m\n"
 )
 ONE_CLASS = 100_000
+MOST_OUTPUTS = 20_000  # of a connection's aggregation rules
+MOST_POINTS = 1_000_000  # in the open intervals of a connection
 
 
 def many(count):
@@ -193,6 +198,51 @@ def ask_eight(daemon):
         print("         %s: a text of %.0f MB; %.0f MB alone, %.0f MB the eight together" % (what, size / 1e6, alone, eight), flush=True)
 
 
+def put_lines(daemon, lines):
+    """Sends these lines over one connection, and waits until the daemon has closed it."""
+    with socket.create_connection(("127.0.0.1", daemon.lines)) as link:
+        for at in range(0, len(lines), 10_000):
+            link.sendall("".join(lines[at : at + 10_000]).encode())
+        link.shutdown(socket.SHUT_WR)
+        link.recv(1)
+
+
+def told(daemon, target, first, count):
+    """The values that a series has at so many minutes from this one on."""
+    text = daemon.get("/render?target=%s&format=raw&from=%d&until=%d" % (target, first - 1, first + 60 * (count - 1)))
+    return [None if value == "None" else float(value) for value in text.decode().strip().split("|")[1].split(",")]
+
+
+def make_outputs(daemon):
+    put_lines(daemon, ["src.m%05d 1 %d\n" % (k, NOW) for k in range(MOST_OUTPUTS + 1)])
+    names = json.loads(daemon.get("/metrics/expand?query=one.*"))["results"]
+    need("outputs", sorted(names), ["one.m%05d" % k for k in range(MOST_OUTPUTS)])
+    need("the last output", told(daemon, "one.m%05d" % (MOST_OUTPUTS - 1), NOW, 1), [1.0])
+
+
+def fill_intervals(daemon):
+    first = NOW - 3_600
+    lines = ["src.m%05d 1 %d\n" % (k, first + 60 * k) for k in range(5)]
+    lines += ["src.m%05d 1 %d\n" % (k % 1_000, first) for k in range(MOST_POINTS - 5)]
+    lines += ["src.m00001 8 %d\n" % (first + 60), "src.m00005 1 %d\n" % (first + 300), "src.m00001 2 %d\n" % (first + 60)]
+    put_lines(daemon, lines)
+    need("sums", told(daemon, "all.sum", first, 6), [MOST_POINTS - 4.0, 3.0, 1.0, 1.0, 1.0, 1.0])
+
+
+def under(rule, show):
+    """Shows this of a daemon of its own under an aggregation rule."""
+    with tempfile.TemporaryDirectory(dir="/tmp") as place:
+        write_rules(place, b"[all]\npattern = .*\nretentions = 60s:1d\n")
+        with open(os.path.join(place, "conf", "aggregation-rules.conf"), "w") as file:
+            file.write(rule + "\n")
+        daemon = Daemon(place)
+        try:
+            show(daemon)
+            daemon.stop()
+        finally:
+            daemon.end()
+
+
 def show_all(daemon, count, shown):
     daemon.put(many(count))
     browse(daemon, count)
@@ -211,10 +261,19 @@ def show_all(daemon, count, shown):
     daemon.stop()
 
 
+def show_caps(shown):
+    under("one.<name> (60) = sum src.<name>", make_outputs)
+    shown("outputs")
+    under("all.sum (60) = sum src.*", fill_intervals)
+    shown("open")
+
+
 def main():
     need_program()
-    count = int(sys.argv[1]) if len(sys.argv) > 1 else 1_000_000
     shown = Shown()
+    if sys.argv[1:] == ["rules"]:
+        return show_caps(shown)
+    count = int(sys.argv[1]) if len(sys.argv) > 1 else 1_000_000
     with tempfile.TemporaryDirectory(dir="/tmp") as place:
         write_rules(place, RULES)
         daemon = Daemon(place)
@@ -231,6 +290,7 @@ def main():
         finally:
             daemon.end()
         shown("again")
+    show_caps(shown)
 
 
 main()

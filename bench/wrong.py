@@ -28,7 +28,8 @@ that gets another, by the names that stand in its text where a function may. The
                  prover, that is said
     proof file   all that fails is that a proof file names what the body took away, which says nothing of the contract. Such a body is tried again
                  (three times at most) with the names in that file that the check asks for, or that the body's own words make of them
-    let through  nothing of their own fails: `proved`, `no holes`, or only `it calls Y`, where Y has another body
+    let through  nothing of their own fails, and what they call is proved: where the check only says `it calls Y`, and Y or what Y calls has another
+                 body, it may not have come to what is their own, and the body is tried again alone
     bad          the body does not apply or does not compile, or the check has no line for its function
 
 A bug in a constant counts as one in each function that names it. Bodies in what is neither a function nor a constant, and those of which a round
@@ -417,6 +418,10 @@ class Log:
                 found.append(("doubt", text))
         return found
 
+    def is_cut_short(self, function):
+        """Whether something that a function calls is not proved, so that the check may not have come to what is the function's own."""
+        return any(kind == "fn" and is_of(path, function) and "it calls" in re.sub(r"`[^`]*`", "`", text) for kind, path, text in self.said)
+
     def stood_on(self, part, function, every):
         """What is refused of the proofs that a function is said to stand on, but for its own, of which the errors tell."""
         for name in re.findall(r"`([^`]*)`", part):
@@ -522,6 +527,8 @@ def judge(log, body, is_alone, every):
             return verdict, why
     if kinds & {"doubt", "follows"} or body.is_loose and any(text not in ("proved", "no holes") for _, _, text in log.said):
         return (PROOF_FILE, "by a proof of no function") if is_alone else None
+    if not is_alone and any(log.is_cut_short(function) for function in functions):
+        return None
     return LET, ""
 
 

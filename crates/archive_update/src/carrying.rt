@@ -41,6 +41,9 @@ pub fn carry<D: Disk>(
         (IsErrAnd result (λ refusal. refusal.1 ≡ RingFault.DiskFault)) }
 {
     let mut patch = patch;
+    if patch.reserve_all().is_err() {
+        return Err((patch, RingFault::NoMemory));
+    }
     match carry_all(alloc, view, disk, &mut patch) {
         Ok(()) => Ok(patch),
         Err(fault) => Err((patch, fault)),

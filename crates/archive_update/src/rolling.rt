@@ -1,5 +1,5 @@
 //! Values of an archive rolled up into the coarser ones.
-ghost use Rattle.std.specs.Prelude.{◌≡◌, ◌<◌, ◌≤◌, ◌↔◌, ◌+◌, ◌-◌, ◌*◌, ◌/◌, ◌%◌, ◌++◌, [], ◌∷◌, All, IfOk, IfSome, IsErrOf, IsTrue, OnOk, drop, is_some, length, map, max, slice_index, take};
+ghost use Rattle.std.specs.Prelude.{◌≡◌, ◌<◌, ◌≤◌, ◌↔◌, ◌+◌, ◌-◌, ◌*◌, ◌/◌, ◌%◌, ◌++◌, [], ◌∷◌, All, IfOk, IfSome, IsErrOf, IsTrue, OnOk, drop, is_some, length, max, slice_index, take};
 ghost use Rattle.std.specs.List.{filter_map};
 ghost use Rattle.outside_io.specs.Frames.{ReadsOnly};
 ghost use Rattle.ring_archive.specs.Ring.{ReadsAs, Rings};

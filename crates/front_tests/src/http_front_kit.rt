@@ -6,11 +6,12 @@ ghost use Rattle.shard_set.specs.OpeningState.{opening_of};
 ghost use Rattle.shared_history.specs.Parts.{AreNewPasses};
 ghost use Rattle.shared_store.specs.Starts.{IsFresh};
 
+use crate::moving_clock::MovingClock;
 use drain_order::Strategy;
 use http_front::*;
 use metric_line::read_line;
 use metric_path::CLASSES;
-use outside_io::{FixedClock, MemDisk, MemLink, MemSink, MemSource};
+use outside_io::{MemDisk, MemLink, MemSink, MemSource};
 use point_cache::Put;
 use schema_rules::Rules;
 use shard_set::{Setup, Started, start_all};
@@ -70,6 +71,8 @@ pub(crate) struct Way<'a> {
     pub(crate) reads: &'a [u64],
     pub(crate) writes: &'a [u64],
     pub(crate) most: usize,
+    // by how many seconds the clock moves on whenever it is read
+    pub(crate) step: u64,
 }
 
 // All at once, and nothing fails.
@@ -78,6 +81,7 @@ pub(crate) const WHOLE: Way<'static> = Way {
     reads: &[],
     writes: &[],
     most: 1_000_000,
+    step: 0,
 };
 
 // The text of these pieces.
@@ -133,10 +137,11 @@ fn serve_link<N: Named, R: Wait>(
     store: &Store<MemDisk, N>,
     pass: &mut StorePass<N>,
     link: MemLink,
+    step: u64,
 ) -> Came {
     let mut link = link;
     let before = pass.left();
-    let clock = FixedClock::new(u64::from(NOW));
+    let clock = MovingClock::new(u64::from(NOW), step);
     let end = serve_http(rt, alloc, store, pass, &mut link, &clock, ANSWER_BYTES);
     Came {
         written: link.sink.into_bytes(),
@@ -176,7 +181,7 @@ fn assert_case<N: Named, R: Wait + Abort>(
     number: usize,
 ) -> Result<(), Fail> {
     let link = link_of(alloc, case)?;
-    let came = serve_link(rt, alloc, store, pass, link);
+    let came = serve_link(rt, alloc, store, pass, link, case.way.step);
     assert_came(rt, alloc, &came, &case.row, number)
 }
 

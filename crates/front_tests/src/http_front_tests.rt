@@ -1,7 +1,8 @@
 // Links over a store of one metric, and what is written to them.
 use crate::http_front_kit::Piece::{One, Times};
 use crate::http_front_kit::{
-    FOUND, GET, NO_REQUEST, NO_ROUTE, NOT_FOUND, POINT, Row, assert_each, assert_rows,
+    Case, FOUND, GET, NO_REQUEST, NO_ROUTE, NOT_FOUND, POINT, Row, WHOLE, Way, assert_cases,
+    assert_each, assert_rows,
 };
 use http_front::HttpEnd;
 use std::test::Fail;
@@ -81,6 +82,34 @@ const REQUESTS: [Row<'static>; 9] = [
 #[test]
 fn a_request_has_its_reply(rt: HostRuntime) -> Result<(), Fail> {
     assert_rows(&rt, rt.alloc(), &POINT, &REQUESTS)
+}
+
+const MINUTES: &[u8] = b"GET /render?target=a.b&from=-2min&format=raw HTTP/1.1\r\n\r\n";
+
+// The point's minute moves out of the two that are asked for.
+const MOVING: Row<'static> = Row {
+    stream: &[Times(3, MINUTES)],
+    replies: &[
+        One(RAW),
+        One(b"a.b,1699999920,1700000040,60|None,1.5\n"),
+        One(RAW),
+        One(b"a.b,1699999980,1700000100,60|1.5,None\n"),
+        One(RAW_NONE),
+        One(b"a.b,1700000040,1700000160,60|None,None\n"),
+    ],
+    end: HttpEnd::Closed,
+    entries: 3,
+};
+
+const RAW: &[u8] = b"HTTP/1.1 200 OK\r\nContent-Type: text/plain\r\nContent-Length: 38\r\n\r\n";
+
+const RAW_NONE: &[u8] =
+    b"HTTP/1.1 200 OK\r\nContent-Type: text/plain\r\nContent-Length: 39\r\n\r\n";
+
+#[test]
+fn each_request_of_a_link_has_a_moment_of_its_own(rt: HostRuntime) -> Result<(), Fail> {
+    let way = Way { step: 60, ..WHOLE };
+    assert_cases(&rt, rt.alloc(), &POINT, &[Case { row: MOVING, way }])
 }
 
 const UNREADABLE: [Row<'static>; 7] = [

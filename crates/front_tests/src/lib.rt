@@ -16,3 +16,5 @@ mod http_front_reason_tests;
 mod http_front_tests;
 #[cfg(test)]
 mod line_front_tests;
+#[cfg(test)]
+mod moving_clock;

@@ -6,6 +6,7 @@ ghost use Rattle.shard_set.specs.OpeningState.{opening_of};
 ghost use Rattle.shared_history.specs.Parts.{AreNewPasses};
 ghost use Rattle.shared_store.specs.Starts.{IsFresh};
 
+use crate::moving_clock::MovingClock;
 use aggregate_front::AggRules;
 use drain_order::Strategy;
 use http_front::serve_http;
@@ -41,9 +42,11 @@ struct Given<'a> {
     rules: &'a [u8],
     // A link of requests.
     question: &'a [u8],
+    // By how many seconds the clock moves on whenever it is read.
+    step: u64,
 }
 
-// No rules, and no question.
+// No rules, no question, and a clock that stands still.
 const fn plain(limit: u64) -> Given<'static>
     ensures { result.limit ≡ limit }
 {
@@ -51,6 +54,7 @@ const fn plain(limit: u64) -> Given<'static>
         limit,
         rules: b"",
         question: b"",
+        step: 0,
     }
 }
 
@@ -105,9 +109,9 @@ fn serve_all<N: Named, R: Wait>(
     pass: StorePass<N>,
     links: Vec<MemLink>,
     rules: &AggRules,
-    question: &[u8],
+    given: &Given<'_>,
 ) -> Result<Came, AllocError> {
-    let clock = FixedClock::new(NOW);
+    let clock = MovingClock::new(NOW, given.step);
     let mut pass = pass;
     let mut cause = LineCause::Closed;
     let mut counts = Counts::none();
@@ -121,7 +125,7 @@ fn serve_all<N: Named, R: Wait>(
         written = written.saturating_add(link.sink.bytes().len());
     }
     let tally = store.tally(rt, &mut pass);
-    let answer = ask(rt, alloc, store, &mut pass, question)?;
+    let answer = ask(rt, alloc, store, &mut pass, given.question)?;
     Ok(Came {
         cause,
         counts,
@@ -152,7 +156,7 @@ fn run_store<N: Named, R: Wait>(
     passes: Vec<Pass>,
     links: Vec<MemLink>,
     rules: &AggRules,
-    question: &[u8],
+    given: &Given<'_>,
 ) -> Result<Came, Fail>
     requires fresh { IsFresh N.table N.passes N.halves N.told N.start N.faults parts }
     requires new { AreNewPasses N.table passes.items }
@@ -163,7 +167,7 @@ fn run_store<N: Named, R: Wait>(
     };
     let pass = StorePass::new(pass);
     match Store::<MemDisk, N>::start(alloc, parts) {
-        Ok(store) => Ok(serve_all(rt, alloc, &store, pass, links, rules, question)?),
+        Ok(store) => Ok(serve_all(rt, alloc, &store, pass, links, rules, given)?),
         Err(_) => Err(Fail::new("there is memory for a store")),
     }
 }
@@ -172,14 +176,13 @@ fn run_store<N: Named, R: Wait>(
 fn run_links<R: Wait>(
     rt: &R,
     alloc: Global,
-    limit: u64,
     links: Vec<MemLink>,
     rules: &AggRules,
-    question: &[u8],
+    given: &Given<'_>,
 ) -> Result<Came, Fail>
-    requires { 0 < limit }
+    requires { 0 < given.now.limit }
 {
-    let Started { shards, .. } = start_shards(alloc, limit)?;
+    let Started { shards, .. } = start_shards(alloc, given.limit)?;
     let (order, tails, passes) = make(alloc, CLASSES, 1)?;
     let parts = Parts {
         order,
@@ -187,7 +190,7 @@ fn run_links<R: Wait>(
         pairs: make_pairs(alloc)?,
         shards,
     };
-    run_store::<Brand, R>(rt, alloc, parts, passes, links, rules, question)
+    run_store::<Brand, R>(rt, alloc, parts, passes, links, rules, given)
 }
 
 fn read_rules(alloc: Global, text: &[u8]) -> Result<AggRules, Fail> {
@@ -201,7 +204,7 @@ fn run<R: Wait>(rt: &R, alloc: Global, given: &Given<'_>, links: Vec<MemLink>) -
     requires { 0 < given.now.limit }
 {
     let rules = read_rules(alloc, given.rules)?;
-    run_links(rt, alloc, given.limit, links, &rules, given.question)
+    run_links(rt, alloc, links, &rules, given)
 }
 
 // ---- links
@@ -428,6 +431,32 @@ fn a_pass_serves_one_link_after_the_other(rt: HostRuntime) -> Result<(), Fail> {
     Ok(())
 }
 
+// What the minutes from that of the clock's first moment on have.
+const MINUTES: &[u8] =
+    b"GET /render?target=a.b&format=raw&from=1699999930&until=1700000150 HTTP/1.1\r\nHost: x\r\n\r\n";
+
+#[test]
+fn a_line_without_a_time_has_the_moment_at_which_it_is_read(rt: HostRuntime) -> Result<(), Fail> {
+    let given = Given {
+        question: MINUTES,
+        step: 60,
+        ..plain(1_000)
+    };
+    let alloc = rt.alloc();
+    let mut links = Vec::new(alloc);
+    links.push(link_of(alloc, source_of(alloc, b"a.b 1 -1\na.b 2 -1\n")?))?;
+    links.push(link_of(alloc, source_of(alloc, b"a.b 4 -1\n")?))?;
+    let came = run(&rt, alloc, &given, links)?;
+    assert!(rt; came.counts == stored(1) && came.tally.stored == 3);
+    assert!(rt;
+        came.answer
+            .ends_with(b"\r\n\r\na.b,1699999980,1700000160,60|1.0,2.0,4.0\n"),
+        "{:?}",
+        came.answer
+    );
+    Ok(())
+}
+
 // ---- rules
 
 // The requests of all hosts of an application, by the minute.
@@ -471,9 +500,9 @@ fn links_of(alloc: Global, row: &Row<'_>) -> Result<Vec<MemLink>, AllocError> {
 
 fn run_row<R: Wait>(rt: &R, alloc: Global, row: &Row<'_>) -> Result<Came, Fail> {
     let given = Given {
-        limit: 1_000,
         rules: RULES,
         question: QUESTION,
+        ..plain(1_000)
     };
     run(rt, alloc, &given, links_of(alloc, row)?)
 }
@@ -613,19 +642,33 @@ fn many_lines(alloc: Global) -> Result<Vec<u8>, AllocError> {
     Ok(text)
 }
 
-// Serves them, of which at most so many bytes come at once.
+// Serves a link, of which at most so many bytes come at once.
+fn run_text<R: Wait>(
+    rt: &R,
+    alloc: Global,
+    given: &Given<'_>,
+    text: Vec<u8>,
+    most: usize,
+) -> Result<Came, Fail>
+    requires limit { 0 < given.now.limit }
+    requires most { 0 < most }
+{
+    let mut links = Vec::new(alloc);
+    let source = MemSource::new(alloc, text).at_most(most);
+    links.push(link_of(alloc, source))?;
+    run(rt, alloc, given, links)
+}
+
+// Serves them.
 fn run_many<R: Wait>(rt: &R, alloc: Global, most: usize) -> Result<Came, Fail>
     requires { 0 < most }
 {
-    let mut links = Vec::new(alloc);
-    let source = MemSource::new(alloc, many_lines(alloc)?).at_most(most);
-    links.push(link_of(alloc, source))?;
     let given = Given {
-        limit: 1_000,
         rules: RULES,
         question: QUESTION,
+        ..plain(1_000)
     };
-    run(rt, alloc, &given, links)
+    run_text(rt, alloc, &given, many_lines(alloc)?, most)
 }
 
 // The first minute has the values 0 to 19.
@@ -643,5 +686,97 @@ fn many_lines_of_a_piece_come_to_the_rules_as_if_one_by_one(rt: HostRuntime) -> 
         let came = run_many(&rt, rt.alloc(), most)?;
         assert_row_came(&rt, &came, &MANY, most);
     }
+    Ok(())
+}
+
+// ---- many points of one line
+
+// Twenty rules for the requests of an application.
+fn twenty_rules(alloc: Global) -> Result<Vec<u8>, AllocError> {
+    let mut text = Vec::new(alloc);
+    for k in 0..20_u32 {
+        let rule = format!(in alloc; "r{k}.<app>.requests (60) = sum web.<app>.*.requests\n")?;
+        text.extend_from_slice(rule.as_bytes())?;
+    }
+    Ok(text)
+}
+
+// Points of six minutes, of which the sixth has one emitted for each rule. One of the same metric
+// and time as such a point stands before them, and one for each behind them.
+fn around_six(alloc: Global) -> Result<Vec<u8>, AllocError> {
+    let mut text = Vec::from_slice(alloc, b"r3.x.requests 4 1700000100\n")?;
+    text.extend_from_slice(SIX)?;
+    for k in 0..20_u32 {
+        let line = format!(in alloc; "r{k}.x.requests 5 1700000100\n")?;
+        text.extend_from_slice(line.as_bytes())?;
+    }
+    Ok(text)
+}
+
+fn run_around<R: Wait>(rt: &R, alloc: Global, most: usize) -> Result<Came, Fail>
+    requires { 0 < most }
+{
+    let rules = twenty_rules(alloc)?;
+    let given = Given {
+        rules: &rules,
+        question: b"GET /render?target=r3.x.requests&from=1700000050&until=1700000150 HTTP/1.1\r\nHost: x\r\n\r\n",
+        ..plain(1_000)
+    };
+    run_text(rt, alloc, &given, around_six(alloc)?, most)
+}
+
+// The point before them is replaced by the emitted one, and each emitted one by that behind it. Of
+// each rule five minutes are open at the end.
+const AROUND: Row<'static> = Row {
+    links: &[],
+    stored: 7,
+    replaced: 20,
+    all_stored: 126,
+    all_replaced: 21,
+    answer: b"[[5.0, 1700000100]]}]",
+    ..SUM
+};
+
+#[test]
+fn all_that_a_line_emits_is_put_between_the_lines(rt: HostRuntime) -> Result<(), Fail> {
+    for most in [65_536, 700, 20] {
+        let came = run_around(&rt, rt.alloc(), most)?;
+        assert_row_came(&rt, &came, &AROUND, most);
+    }
+    Ok(())
+}
+
+// A point of each of 300 applications.
+fn many_applications(alloc: Global) -> Result<Vec<u8>, AllocError> {
+    let mut text = Vec::new(alloc);
+    for k in 0..300_u32 {
+        let line = format!(in alloc; "web.x{k}.h1.requests {k} 1700000100\n")?;
+        text.extend_from_slice(line.as_bytes())?;
+    }
+    Ok(text)
+}
+
+fn run_applications<R: Wait>(rt: &R, alloc: Global) -> Result<Came, Fail> {
+    let given = Given {
+        rules: RULES,
+        question: b"GET /render?target=all.x299.requests&from=1700000050&until=1700000150 HTTP/1.1\r\nHost: x\r\n\r\n",
+        ..plain(1_000)
+    };
+    run_text(rt, alloc, &given, many_applications(alloc)?, 65_536)
+}
+
+// As many outputs are open at the end.
+const APPLICATIONS: Row<'static> = Row {
+    links: &[],
+    stored: 300,
+    all_stored: 600,
+    answer: b"[[299.0, 1700000100]]}]",
+    ..SUM
+};
+
+#[test]
+fn all_that_is_open_at_the_end_of_a_link_is_put(rt: HostRuntime) -> Result<(), Fail> {
+    let came = run_applications(&rt, rt.alloc())?;
+    assert_row_came(&rt, &came, &APPLICATIONS, 300);
     Ok(())
 }

@@ -1,7 +1,7 @@
 -- The points of a batch, brought part by part.
-use Rattle.std.proofs.Common.{◌≡◌, ◌≢◌, ◌⊎◌, ◌≤◌, ◌<◌, ◌+◌, inl, inr, ℕ, zero, suc, List, [], ◌∷◌, ◌++◌, length, map, take, drop, get_or, Result, Ok, Err, refl, sym, ap, ◌∙◌, subst, arith, append_assoc, take_all, take-add, take-append-drop}
+use Rattle.std.proofs.Common.{◌≡◌, ◌≤◌, ◌<◌, ◌+◌, inl, inr, ℕ, zero, suc, List, [], ◌∷◌, ◌++◌, length, map, take, drop, get_or, Result, Ok, Err, refl, sym, ap, ◌∙◌, subst, arith, append_assoc, length-append, take_all, take-add, take-append-drop}
 use Rattle.std.specs.Prelude.{IfErr, OnOk}
-use Rattle.std.proofs.lemmas.List.{length-map, length-take-le, map-append, map_more, nil_from_length, take_more}
+use Rattle.std.proofs.lemmas.List.{length-take-le, map_more, nil_from_length, take_more}
 use Rattle.line_frame.specs.Lines.{Line}
 use Rattle.line_service.specs.declared.ends.Stop.{Stop}
 use Rattle.metric_line.specs.declared.datum.Datum.{Datum}
@@ -13,13 +13,12 @@ use Rattle.shared_history.specs.Parts.{PassValue}
 use Rattle.shared_store.specs.Passes.{HasRoom}
 use Rattle.shared_store.specs.Pieces.{HasRoomFor}
 use Rattle.line_front.specs.Batches.{HasNoRules, PutsAll, PutsFewer, PutsOne}
-use Rattle.line_front.specs.Bringing.{BringsAll, BringsFewer, BringsPart, FeedsBatch, FeedsFront, FeedsNext, FeedsQuiet, FeedsSome, StopsPoint}
+use Rattle.line_front.specs.Bringing.{BringsAll, BringsFewer, BringsPart, FeedsBatch, FeedsFront, FeedsQuiet, FewBehind, PutsBehind, StopsPoint}
 use Rattle.line_front.specs.Emits.{PutsFew, StopsBring}
 use Rattle.line_front.specs.Links.{Brings, IsPointOf, IsSpent, Puts, SessionValue}
 use Rattle.line_front.specs.Points.{PutsEach, emitted_for, gathered_with}
-use Rattle.line_front.specs.Sessions.{PutsNone, StopsBy}
+use Rattle.line_front.specs.Sessions.{StopsBy}
 use Rattle.line_front.proofs.EmitLemmas.{bring_stops, brings_plain, emitted_is, gathered_is, has_point}
-use Rattle.line_front.proofs.PutLemmas.{room_next}
 
 -- ---- lists
 
@@ -33,12 +32,6 @@ cut_at [] count x less here = absurd (omega (arith, less))
 cut_at {X} (y ∷ ys) zero x less here = record { rest = ys; split = ap (λ (z : X). z ∷ ys) here }
 cut_at {X} (y ∷ ys) (suc count) x less here =
     let more = cut_at ys count x (omega (arith, less)) here in record { rest = more.rest; split = ap (λ (l : List X). y ∷ l) more.split }
-
--- what stands there is one, whatever else is said of it
-same_item : {X : Type 0} (xs : List X) (count : ℕ) (x y : X) → count < length xs → get_or xs count x ≡ x → get_or xs count y ≡ y → x ≡ y
-same_item [] count x y less here there = absurd (omega (arith, less))
-same_item (z ∷ zs) zero x y less here there = sym here ∙ there
-same_item (z ∷ zs) (suc count) x y less here there = same_item zs count x y (omega (arith, less)) here there
 
 take_next : {X : Type 0} (xs : List X) (count : ℕ) (x : X) → count < length xs → get_or xs count x ≡ x → take (count + 1) xs ≡ take count xs ++ x ∷ []
 take_next {X} xs count x less here = take_more xs count x less ∙ ap (λ (y : X). take count xs ++ y ∷ []) here
@@ -55,9 +48,41 @@ record QuietTo (points : List Point) (a : AggregatorValue) : Type 0 where
   mid : AggregatorValue
   quiet : FeedsQuiet points a mid
 
-quiet_front : (xs ys : List Point) (a b : AggregatorValue) → FeedsQuiet (xs ++ ys) a b → QuietTo xs a
-quiet_front [] ys a b quiet = record { mid = a; quiet = refl }
-quiet_front (x ∷ xs) ys a b quiet = let more = quiet_front xs ys (gathered_with a x) b quiet.1 in record { mid = more.mid; quiet = (quiet.0, more.quiet) }
+-- fewer of them
+quiet_front : (first : List Datum) (last : Datum) (xs : List Datum) (x : Datum) (ys : List Datum) (a m : AggregatorValue) → first ++ last ∷ [] ≡ xs ++ x ∷ ys → FeedsQuiet (map seen first) a m
+    → QuietTo (map seen xs) a
+quiet_front first last [] x ys a m same quiet = record { mid = a; quiet = refl }
+quiet_front [] last (y ∷ xs) x ys a m same quiet = absurd (omega (arith, ap length same, length-append xs (x ∷ ys)))
+quiet_front (d ∷ first) last (y ∷ xs) x ys a m same quiet =
+    let head : d ≡ y = ap (λ (l : List Datum). get_or l 0 d) same in
+    let more = quiet_front first last xs x ys (gathered_with a (seen d)) m (ap (λ (l : List Datum). drop 1 l) same) quiet.1 in record {
+      mid = more.mid;
+      quiet = subst (λ (e : Datum). FeedsQuiet (map seen (e ∷ xs)) a more.mid) head (quiet.0, more.quiet);
+    }
+
+-- the last of points for which they emit nothing
+record LastQuiet (points : List Datum) (a b : AggregatorValue) : Type 0 where
+  first : List Datum
+  last : Datum
+  split : points ≡ first ++ last ∷ []
+  mid : AggregatorValue
+  quiet : FeedsQuiet (map seen first) a mid
+  none : emitted_for mid (seen last) ≡ []
+  gathered : b ≡ gathered_with mid (seen last)
+
+quiet_last : (points : List Datum) (a b : AggregatorValue) → 0 < length points → FeedsQuiet (map seen points) a b → LastQuiet points a b
+quiet_last [] a b some quiet = absurd (omega (arith, some))
+quiet_last (datum ∷ []) a b some quiet = record { first = []; last = datum; split = refl; mid = a; quiet = refl; none = quiet.0; gathered = quiet.1 }
+quiet_last (datum ∷ next ∷ points) a b some quiet =
+    let more = quiet_last (next ∷ points) (gathered_with a (seen datum)) b (omega arith) quiet.1 in record {
+      first = datum ∷ more.first;
+      last = more.last;
+      split = ap (λ (l : List Datum). datum ∷ l) more.split;
+      mid = more.mid;
+      quiet = (quiet.0, more.quiet);
+      none = more.none;
+      gathered = more.gathered;
+    }
 
 module _ (points : List Datum) (count : ℕ) (a m : AggregatorValue) (quiet : FeedsQuiet (map seen (take count points)) a m) where
   -- one point more, for which they emit nothing
@@ -72,31 +97,33 @@ module _ (points : List Datum) (count : ℕ) (a m : AggregatorValue) (quiet : Fe
 
   -- or for which they emit some
   pub feeds_next : (datum : Datum) (b : AggregatorValue) (emitted : List Datum) → m.rules ≡ a.rules → count < length points → get_or points count datum ≡ datum
-      → Feeds m b (seen datum) (map seen emitted) → length emitted ≢ 0 → FeedsFront points count (map seen emitted) a b
-  feeds_next datum b emitted rules less here feeds some = record {
+      → Feeds m b (seen datum) (map seen emitted) → FeedsFront points (count + 1) (map seen emitted) a b
+  feeds_next datum b emitted rules less here feeds = record {
     few = omega (arith, less);
+    first = take count points;
+    last = datum;
+    split = take_next points count datum less here;
     mid = m;
     quiet = quiet;
-    next = inr (record {
-      less = less;
-      datum = datum;
-      here = here;
-      emits = emitted_is m b (seen datum) (map seen emitted) feeds;
-      some = λ none. some (sym (length-map emitted seen) ∙ ap length none);
-      gathered = gathered_is m b (seen datum) (map seen emitted) feeds;
-    });
+    emits = emitted_is m b (seen datum) (map seen emitted) feeds;
+    gathered = gathered_is m b (seen datum) (map seen emitted) feeds;
     rules = feeds.rules ∙ rules;
   }
 
   -- or no other
   pub feeds_end : (emitted : List Datum) → m.rules ≡ a.rules → count ≤ length points → 0 < count → emitted ≡ [] → FeedsFront points count (map seen emitted) a m
-  feeds_end emitted rules few some none = record {
-    few = few;
-    mid = m;
-    quiet = quiet;
-    next = inl (record { some = some; none = ap (λ (l : List Datum). map seen l) none; same = refl });
-    rules = rules;
-  }
+  feeds_end emitted rules few some none =
+      let l = quiet_last (take count points) a m (omega (arith, length-take-le count points few, some)) quiet in record {
+        few = few;
+        first = l.first;
+        last = l.last;
+        split = l.split;
+        mid = l.mid;
+        quiet = l.quiet;
+        emits = ap (λ (ps : List Datum). map seen ps) none ∙ sym l.none;
+        gathered = l.gathered;
+        rules = rules;
+      }
 
 -- ---- points that are brought
 
@@ -225,23 +252,18 @@ module _ (start : State) (passes : ℕ) where
   puts_gathered [] old new same = ap (λ (s : SessionValue). s.gathered) same
   puts_gathered (datum ∷ points) old new puts = puts_gathered points puts.0 new puts.1.1 ∙ puts.1.0.puts.gathered
 
-  -- there was no memory for one of them
-  quiet_fewer : (points : List Datum) (reason : Stop) (a b : AggregatorValue) (old new : SessionValue) → FeedsQuiet (map seen points) a b
-      → PutsFewer start passes reason points old new → BringsFewer start passes reason points (with_gathered a old) new
-  quiet_fewer points reason a b old new quiet fewer =
-      let parts : map seen points ≡ map seen fewer.first ++ map seen (fewer.datum ∷ fewer.others) =
-      ap (λ (l : List Datum). map seen l) fewer.split ∙ map-append seen fewer.first (fewer.datum ∷ fewer.others) in
-      let to = quiet_front (map seen fewer.first) (map seen (fewer.datum ∷ fewer.others)) a b (subst (λ (l : List Point). FeedsQuiet l a b) parts quiet) in record {
-        first = fewer.first;
-        datum = fewer.datum;
-        others = fewer.others;
-        split = fewer.split;
-        mid = with_gathered to.mid fewer.mid;
-        brings = quiet_all fewer.first a to.mid old fewer.mid to.quiet fewer.puts;
-        stops = inr (inl (fewer.is, inr (record { enters = fewer.sees.enters; counts = fewer.sees.counts })));
-      }
-
   -- ---- a part of a batch
+
+  -- points that were put, and others behind them
+  record PutsParts (xs ys : List Datum) (old new : SessionValue) : Type 0 where
+    mid : SessionValue
+    first : PutsAll start passes xs old mid
+    behind : PutsAll start passes ys mid new
+
+  puts_parts : (xs ys : List Datum) (old new : SessionValue) → PutsAll start passes (xs ++ ys) old new → PutsParts xs ys old new
+  puts_parts [] ys old new puts = record { mid = old; first = refl; behind = puts }
+  puts_parts (x ∷ xs) ys old new puts =
+      let more = puts_parts xs ys puts.0 new puts.1.1 in record { mid = more.mid; first = (puts.0, (puts.1.0, more.first)); behind = more.behind }
 
   module _ (points : List Datum) (count : ℕ) (emitted : List Datum) (old fed : SessionValue) (f : FeedsBatch points count emitted old fed) where
     -- the session as it was, by what it is then
@@ -254,127 +276,100 @@ module _ (start : State) (passes : ℕ) where
     pub part_room : HasRoomFor points old.pass → HasRoomFor (take count points) fed.pass
     part_room room = subst (λ (pass : PassValue). HasRoomFor (take count points) pass) (sym f.pass) (omega (arith, room, few_points, f.feeds.few))
 
-    -- one of those for which they emit nothing was not put
+    -- one of them was not put
     pub part_fewer : (reason : Stop) (new : SessionValue) → PutsFewer start passes reason (take count points) fed new → BringsFewer start passes reason points old new
     part_fewer reason new fewer =
-        let quiet = quiet_fewer (take count points) reason old.gathered f.feeds.mid fed new f.feeds.quiet fewer in
-        let all : points ≡ quiet.first ++ quiet.datum ∷ (quiet.others ++ drop count points) =
-        sym (take-append-drop count points) ∙ (ap (λ (l : List Datum). l ++ drop count points) quiet.split ∙ append_assoc quiet.first (quiet.datum ∷ quiet.others) (drop count points)) in record {
-          first = quiet.first;
-          datum = quiet.datum;
-          others = quiet.others ++ drop count points;
+        let to = quiet_front f.feeds.first f.feeds.last fewer.first fewer.datum fewer.others old.gathered f.feeds.mid (sym f.feeds.split ∙ fewer.split) f.feeds.quiet in
+        let all : points ≡ fewer.first ++ fewer.datum ∷ (fewer.others ++ drop count points) =
+        sym (take-append-drop count points) ∙ (ap (λ (l : List Datum). l ++ drop count points) fewer.split ∙ append_assoc fewer.first (fewer.datum ∷ fewer.others) (drop count points)) in record {
+          first = fewer.first;
+          datum = fewer.datum;
+          others = fewer.others ++ drop count points;
           split = all;
-          mid = quiet.mid;
-          brings = subst (λ (s : SessionValue). BringsAll start passes quiet.first s quiet.mid) was quiet.brings;
-          stops = quiet.stops;
+          mid = with_gathered to.mid fewer.mid;
+          brings = subst (λ (s : SessionValue). BringsAll start passes fewer.first s (with_gathered to.mid fewer.mid)) was
+              (quiet_all fewer.first old.gathered to.mid fed fewer.mid to.quiet fewer.puts);
+          stops = inr (inl (fewer.is, inr (record { enters = fewer.sees.enters; counts = fewer.sees.counts })));
         }
 
     module _ (put : SessionValue) (puts : PutsAll start passes (take count points) fed put) where
-      quiet_part : BringsAll start passes (take count points) old (with_gathered f.feeds.mid put)
-      quiet_part = subst (λ (s : SessionValue). BringsAll start passes (take count points) s (with_gathered f.feeds.mid put)) was
-          (quiet_all (take count points) old.gathered f.feeds.mid fed put f.feeds.quiet puts)
+      parts : PutsParts f.feeds.first (f.feeds.last ∷ []) fed put
+      parts = puts_parts f.feeds.first (f.feeds.last ∷ []) fed put (subst (λ (l : List Datum). PutsAll start passes l fed put) f.feeds.split puts)
 
-      -- they emit nothing for the next
-      pub part_quiet : length emitted ≡ 0 → BringsPart start passes points count old put
-      part_quiet none = by f.feeds.next
-        where
-          by : FeedsSome count (map seen emitted) f.feeds.mid fed.gathered ⊎ FeedsNext points count (map seen emitted) f.feeds.mid fed.gathered → BringsPart start passes points count old put
-          by (inl some) = record {
-            some = some.some;
-            few = f.feeds.few;
-            brings = subst (λ (s : SessionValue). BringsAll start passes (take count points) old s)
-                (λ i. with_gathered ((sym some.same ∙ sym (puts_gathered (take count points) fed put puts)) i) put) quiet_part;
-          }
-          by (inr next) = absurd (next.some (ap (λ (l : List Datum). map seen l) (nil_from_length emitted none)))
+      -- those for which they emit nothing were put
+      quiet_part : BringsAll start passes f.feeds.first old (with_gathered f.feeds.mid parts.mid)
+      quiet_part = subst (λ (s : SessionValue). BringsAll start passes f.feeds.first s (with_gathered f.feeds.mid parts.mid)) was
+          (quiet_all f.feeds.first old.gathered f.feeds.mid fed parts.mid f.feeds.quiet parts.first)
 
-      -- or some
-      next_of_part : length emitted ≢ 0 → FeedsNext points count (map seen emitted) f.feeds.mid fed.gathered
-      next_of_part some = by f.feeds.next
-        where
-          by : FeedsSome count (map seen emitted) f.feeds.mid fed.gathered ⊎ FeedsNext points count (map seen emitted) f.feeds.mid fed.gathered
-              → FeedsNext points count (map seen emitted) f.feeds.mid fed.gathered
-          by (inl few) = absurd (some (sym (length-map emitted seen) ∙ ap length few.none))
-          by (inr next) = next
+      -- and the last
+      last_one : PutsOne start passes f.feeds.last parts.mid put
+      last_one = subst (λ (s : SessionValue). PutsOne start passes f.feeds.last parts.mid s) (sym parts.behind.1.1) parts.behind.1.0
 
-      pub part_less : length emitted ≢ 0 → count < length points
-      part_less some = (next_of_part some).less
+      last_put : Puts start passes (seen f.feeds.last) (with_gathered f.feeds.mid parts.mid) (with_gathered f.feeds.mid put)
+      last_put = record { end = last_one.puts.end; enters = last_one.puts.enters; counts = last_one.puts.counts; gathered = refl }
 
-      pub next_room : HasRoomFor points old.pass → length emitted ≢ 0 → HasRoom put.pass
-      next_room room some =
-          room_next start passes points (take count points) fed put (subst (λ (pass : PassValue). HasRoomFor points pass) (sym f.pass) room) puts
-          (omega (arith, few_points, part_less some))
+      -- but not all that they emit for it
+      pub part_few : (reason : Stop) (new : SessionValue) → FewBehind start passes (map seen emitted) reason put new → BringsFewer start passes reason points old new
+      part_few reason new behind = record {
+        first = f.feeds.first;
+        datum = f.feeds.last;
+        others = drop count points;
+        split = sym (take-append-drop count points)
+            ∙ (ap (λ (l : List Datum). l ++ drop count points) f.feeds.split ∙ append_assoc f.feeds.first (f.feeds.last ∷ []) (drop count points));
+        mid = with_gathered f.feeds.mid parts.mid;
+        brings = quiet_part;
+        stops = inr (inr (record {
+          put = with_gathered f.feeds.mid put;
+          puts = last_put;
+          gathers = record {
+            few = subst (λ (l : List Point). PutsFew start passes l reason put.pass new.pass) f.feeds.emits behind.few;
+            counts = behind.counts;
+          };
+        }));
+      }
 
-      module _ (datum : Datum) (here : get_or points count datum ≡ datum) (some : length emitted ≢ 0) where
-        next : FeedsNext points count (map seen emitted) f.feeds.mid fed.gathered
-        next = next_of_part some
+      many_points : 0 < count
+      many_points = omega (arith, few_points, ap length f.feeds.split, length-append f.feeds.first (f.feeds.last ∷ []))
 
-        is_next : next.datum ≡ datum
-        is_next = same_item points count next.datum datum next.less next.here here
+      -- or all
+      pub part_brings : (new : SessionValue) → PutsBehind start passes (map seen emitted) put new → BringsPart start passes points count old new
+      part_brings new behind = record {
+        some = many_points;
+        few = f.feeds.few;
+        brings = subst (λ (l : List Datum). BringsAll start passes l old new) (sym f.feeds.split)
+            (brings_append f.feeds.first (f.feeds.last ∷ []) old (with_gathered f.feeds.mid parts.mid) new quiet_part (
+              new,
+              (
+                record {
+                  room = last_one.room;
+                  brings = record {
+                    put = with_gathered f.feeds.mid put;
+                    puts = last_put;
+                    emits = subst (λ (l : List Point). PutsEach start passes l put.pass new.pass) f.feeds.emits behind.puts;
+                    counts = behind.counts;
+                    gathered = behind.gathered ∙ (puts_gathered (take count points) fed put puts ∙ f.feeds.gathered);
+                  };
+                },
+                refl,
+              ),
+            ));
+      }
 
-        emits_next : map seen emitted ≡ emitted_for f.feeds.mid (seen datum)
-        emits_next = next.emits ∙ ap (λ (d : Datum). emitted_for f.feeds.mid (seen d)) is_next
+  -- points that rules emit
+  module _ {T : Type 0} (result : Result T Stop) (points : List Point) (old new : SessionValue) (counts : new.counts ≡ old.counts) where
+    pub behind_ok : new.gathered ≡ old.gathered → OnOk result (PutsEach start passes points old.pass new.pass) → OnOk result (PutsBehind start passes points old new)
+    behind_ok gathered puts = by result puts
+      where
+        by : (r : Result T Stop) → OnOk r (PutsEach start passes points old.pass new.pass) → OnOk r (PutsBehind start passes points old new)
+        by (Ok u) puts = record { puts = puts; counts = counts; gathered = gathered }
+        by (Err reason) puts = tt
 
-        gathers_next : fed.gathered ≡ gathered_with f.feeds.mid (seen datum)
-        gathers_next = next.gathered ∙ ap (λ (d : Datum). gathered_with f.feeds.mid (seen d)) is_next
-
-        cut_next : Cut points count datum
-        cut_next = cut_at points count datum next.less here
-
-        next_fewer : (reason : Stop) (new : SessionValue) → StopsPoint start passes (seen datum) reason (with_gathered f.feeds.mid put) new → BringsFewer start passes reason points old new
-        next_fewer reason new stops = record {
-          first = take count points;
-          datum = datum;
-          others = cut_next.rest;
-          split = cut_next.split;
-          mid = with_gathered f.feeds.mid put;
-          brings = quiet_part;
-          stops = stops;
-        }
-
-        -- there was no memory for the next
-        pub next_none : (reason : Stop) (new : SessionValue) → PutsNone start passes reason put new → BringsFewer start passes reason points old new
-        next_none reason new none =
-            next_fewer reason new (inr (inl (none.0, inr (record { enters = none.1.enters; counts = none.1.counts }))))
-
-        module _ (brought new : SessionValue) (one : Puts start passes (seen datum) put brought) (counts : new.counts ≡ brought.counts) where
-          one_put : Puts start passes (seen datum) (with_gathered f.feeds.mid put) (with_gathered f.feeds.mid brought)
-          one_put = record { end = one.end; enters = one.enters; counts = one.counts; gathered = refl }
-
-          -- or not for all that they emit for it
-          pub next_few : (reason : Stop) → PutsFew start passes (map seen emitted) reason brought.pass new.pass → BringsFewer start passes reason points old new
-          next_few reason few = next_fewer reason new (inr (inr (record {
-            put = with_gathered f.feeds.mid brought;
-            puts = one_put;
-            gathers = record {
-              few = subst (λ (l : List Point). PutsFew start passes l reason brought.pass new.pass) emits_next few;
-              counts = counts;
-            };
-          })))
-
-          -- the next was put, with what they emit for it
-          pub next_brings : HasRoomFor points old.pass → new.gathered ≡ fed.gathered → PutsEach start passes (map seen emitted) brought.pass new.pass
-              → BringsPart start passes points (count + 1) old new
-          next_brings room gathered puts' = record {
-            some = omega arith;
-            few = omega (arith, next.less);
-            brings = subst (λ (l : List Datum). BringsAll start passes l old new) (sym (take_next points count datum next.less here))
-                (brings_append (take count points) (datum ∷ []) old (with_gathered f.feeds.mid put) new quiet_part (
-                  new,
-                  (
-                    record {
-                      room = next_room room some;
-                      brings = record {
-                        put = with_gathered f.feeds.mid brought;
-                        puts = one_put;
-                        emits = subst (λ (l : List Point). PutsEach start passes l brought.pass new.pass) emits_next puts';
-                        counts = counts;
-                        gathered = gathered ∙ gathers_next;
-                      };
-                    },
-                    refl,
-                  ),
-                ));
-          }
+    pub behind_err : IfErr result (λ reason. PutsFew start passes points reason old.pass new.pass) → IfErr result (λ reason. FewBehind start passes points reason old new)
+    behind_err few = by result few
+      where
+        by : (r : Result T Stop) → IfErr r (λ reason. PutsFew start passes points reason old.pass new.pass) → IfErr r (λ reason. FewBehind start passes points reason old new)
+        by (Ok u) few = tt
+        by (Err reason) few = record { few = few; counts = counts }
 
   -- ---- part by part
 

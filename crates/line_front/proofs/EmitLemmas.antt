@@ -1,6 +1,6 @@
 -- Points that rules emit, and the point that they are emitted for.
-use Rattle.std.proofs.Common.{◌≡◌, ◌==◌, true, ◌<◌, ◌≤◌, ◌+◌, inl, inr, ℕ, List, [], ◌∷◌, ◌++◌, length, map, take, drop, get_or, Option, Some, None, Result, Ok, Err, refl, sym, ap, ◌∙◌, subst, arith, length-drop, take-append-drop, take_all}
-use Rattle.std.proofs.lemmas.List.{map-append, map_more, length-map, nil_from_length}
+use Rattle.std.proofs.Common.{◌≡◌, ◌==◌, true, ◌<◌, ◌≤◌, ◌+◌, inl, inr, ℕ, List, [], ◌∷◌, ◌++◌, length, map, take, drop, get_or, Option, Some, None, Result, Ok, Err, refl, sym, ap, ◌∙◌, subst, arith, append_assoc, length-append, take-add, take-append-drop, take_all}
+use Rattle.std.proofs.lemmas.List.{map-append, length-map, nil_from_length}
 use Rattle.std.specs.Prelude.{IfErr, IsOk, OnOk, option_map}
 use Rattle.std.proofs.lemmas.Bool.Decides.{nat_tests}
 use Rattle.line_frame.specs.Lines.{Line, Whole, TooLong}
@@ -23,7 +23,7 @@ use Rattle.shared_history.specs.Parts.{PassValue}
 use Rattle.shared_store.specs.Passes.{Enters, HasRoom}
 use Rattle.shared_store.specs.Steps.{put_entry as entry_told}
 use Rattle.line_front.specs.Batches.{HasNoRules}
-use Rattle.line_front.specs.Emits.{BringsFew, Gathers, GathersFew, PutsFew, StopsBring, StopsPut}
+use Rattle.line_front.specs.Emits.{BringsFew, Gathers, GathersFew, PutsFew, PutsPart, StopsBring, StopsPut}
 use Rattle.line_front.specs.Ends.{end_of}
 use Rattle.line_front.specs.Links.{Brings, BringsFront, HasPoint, Idles, IsPointOf, Puts, SessionValue}
 use Rattle.line_front.specs.Points.{PutsEach, PutsPoint, emitted_for, gathered_with, put_entry}
@@ -93,36 +93,78 @@ module _ (start : State) (passes : ℕ) where
 
   -- ---- one after the other
 
-  puts_behind : (points : List Point) (point : Point) (old mid new : PassValue) → PutsEach start passes points old mid → PutsPoint start passes point mid new
-      → PutsEach start passes (points ++ point ∷ []) old new
-  puts_behind [] point old mid new same one = (new, (subst (λ (p : PassValue). PutsPoint start passes point p new) same one, refl))
-  puts_behind (first ∷ points) point old mid new puts one = (puts.0, (puts.1.0, puts_behind points point puts.0 mid new puts.1.1 one))
+  puts_append : (xs ys : List Point) (old mid new : PassValue) → PutsEach start passes xs old mid → PutsEach start passes ys mid new → PutsEach start passes (xs ++ ys) old new
+  puts_append [] ys old mid new same more = subst (λ (p : PassValue). PutsEach start passes ys p new) same more
+  puts_append (x ∷ xs) ys old mid new puts more = (puts.0, (puts.1.0, puts_append xs ys puts.0 mid new puts.1.1 more))
 
-  module _ (count : ℕ) (points : List Datum) (old : PassValue) where
-    -- one more is put
-    pub emits_more : (datum : Datum) (mid new : PassValue) → count < length points → get_or points count datum ≡ datum → PutsEach start passes (map seen (take count points)) old mid
-        → PutsPoint start passes (seen datum) mid new → PutsEach start passes (map seen (take (count + 1) points)) old new
-    emits_more datum mid new less here puts one =
-        subst (λ (all : List Point). PutsEach start passes all old new)
-        (sym (map_more seen points count datum less ∙ ap (λ (d : Datum). map seen (take count points) ++ seen d ∷ []) here))
-        (puts_behind (map seen (take count points)) (seen datum) old mid new puts one)
+  module _ (at : ℕ) (points : List Datum) (old mid : PassValue) (puts : PutsEach start passes (map seen (take at points)) old mid) where
+    -- more are put
+    pub emits_more : (count : ℕ) (new : PassValue) → PutsPart start passes (drop at points) count mid new → PutsEach start passes (map seen (take (at + count) points)) old new
+    emits_more count new part =
+        subst (λ (all : List Datum). PutsEach start passes (map seen all) old new) (sym (take-add at count points))
+        (subst (λ (all : List Point). PutsEach start passes all old new) (sym (map-append seen (take at points) (take count (drop at points))))
+        (puts_append (map seen (take at points)) (map seen (take count (drop at points))) old mid new puts part.puts))
 
-    -- or not
-    pub emits_few : (reason : Stop) (mid new : PassValue) → count < length points → PutsEach start passes (map seen (take count points)) old mid
-        → StopsPut start passes reason mid new → PutsFew start passes (map seen points) reason old new
-    emits_few reason mid new less puts stops = record {
-      first = map seen (take count points);
-      others = map seen (drop count points);
-      split = ap (map seen) (sym (take-append-drop count points)) ∙ map-append seen (take count points) (drop count points);
-      mid = mid;
-      emits = puts;
-      some = λ spent none. absurd (omega (arith, ap length none, length-map (drop count points) seen, length-drop count points, less));
-      stops = stops;
+    -- or some of them
+    pub emits_few : (reason : Stop) (new : PassValue) → PutsFew start passes (map seen (drop at points)) reason mid new → PutsFew start passes (map seen points) reason old new
+    emits_few reason new few = record {
+      first = map seen (take at points) ++ few.first;
+      others = few.others;
+      split = ap (map seen) (sym (take-append-drop at points))
+          ∙ (map-append seen (take at points) (drop at points)
+          ∙ (ap (λ (l : List Point). map seen (take at points) ++ l) few.split ∙ sym (append_assoc (map seen (take at points)) few.first few.others)));
+      mid = few.mid;
+      emits = puts_append (map seen (take at points)) few.first old mid few.mid puts few.emits;
+      some = few.some;
+      stops = few.stops;
     }
 
     -- all are
-    pub emits_all : (new : PassValue) → length points ≤ count → PutsEach start passes (map seen (take count points)) old new → PutsEach start passes (map seen points) old new
-    emits_all new all puts = subst (λ (ps : List Datum). PutsEach start passes (map seen ps) old new) (take_all count points all) puts
+    pub emits_all : length points ≤ at → PutsEach start passes (map seen points) old mid
+    emits_all all = subst (λ (ps : List Datum). PutsEach start passes (map seen ps) old mid) (take_all at points all) puts
+
+  -- ---- some at the front
+
+  none_left_of : (xs ys : List Point) → xs ++ ys ≡ [] → xs ≡ []
+  none_left_of xs ys none = nil_from_length xs (omega (arith, ap length none, length-append xs ys))
+
+  -- not all of a piece were put
+  pub few_of_part : (count : ℕ) (points : List Datum) (reason : Stop) (old new : PassValue) → PutsFew start passes (map seen (take count points)) reason old new
+      → PutsFew start passes (map seen points) reason old new
+  few_of_part count points reason old new few = record {
+    first = few.first;
+    others = few.others ++ map seen (drop count points);
+    split = ap (map seen) (sym (take-append-drop count points))
+        ∙ (map-append seen (take count points) (drop count points)
+        ∙ (ap (λ (l : List Point). l ++ map seen (drop count points)) few.split ∙ append_assoc few.first few.others (map seen (drop count points))));
+    mid = few.mid;
+    emits = few.emits;
+    some = λ spent none. few.some spent (none_left_of few.others (map seen (drop count points)) none);
+    stops = few.stops;
+  }
+
+  -- the first point was put
+  pub first_put : (points : List Datum) (datum : Datum) (old new : PassValue) → 0 < length points → get_or points 0 datum ≡ datum → PutsPoint start passes (seen datum) old new
+      → PutsPart start passes points 1 old new
+  first_put [] datum old new some here one = absurd (omega (arith, some))
+  first_put (d ∷ points) datum old new some here one = record {
+    some = omega arith;
+    few = omega arith;
+    puts = (new, (subst (λ (e : Datum). PutsPoint start passes (seen e) old new) (sym here) one, refl));
+  }
+
+  -- or not
+  pub first_few : (points : List Datum) (reason : Stop) (old new : PassValue) → 0 < length points → StopsPut start passes reason old new
+      → PutsFew start passes (map seen points) reason old new
+  first_few points reason old new some stops = record {
+    first = [];
+    others = map seen points;
+    split = refl;
+    mid = old;
+    emits = refl;
+    some = λ spent none. absurd (omega (arith, ap length none, length-map points seen, some));
+    stops = stops;
+  }
 
   -- there was no memory for any
   pub few_none : (points : List Point) (pass : PassValue) → PutsFew start passes points stop.NoMemory pass pass

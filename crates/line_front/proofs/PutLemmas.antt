@@ -1,12 +1,15 @@
 -- The points of a batch, put one after the other.
-use Rattle.std.proofs.Common.{◌≡◌, ◌⊎◌, ◌≤◌, ◌<◌, ◌+◌, ◌^◌, inl, inr, ℕ, suc, List, [], ◌∷◌, ◌++◌, length, refl, sym, ap, ◌∙◌, subst, arith, length-append, append_assoc, append-nil}
-use Rattle.std.specs.Prelude.{slice_index_or}
+use Rattle.std.proofs.Common.{◌≡◌, ◌⊎◌, ◌≤◌, ◌<◌, ◌+◌, ◌-◌, ◌^◌, inl, inr, ℕ, suc, List, [], ◌∷◌, ◌++◌, length, map, take, refl, sym, ap, ◌∙◌, subst, arith, length-append, append_assoc, append-nil}
+use Rattle.std.specs.Prelude.{min, slice_index_or}
+use Rattle.std.proofs.lemmas.List.{length-take-le}
 use Rattle.line_service.specs.declared.ends.Stop.{Stop}
 use Rattle.line_service.specs.declared.ends.Stop.TheVariants as stop
 use Rattle.carbon_history.specs.declared.entry.Entry.{Entry}
 use Rattle.carbon_history.specs.declared.entry.PutEnd.{PutEnd}
 use Rattle.carbon_model.specs.State.{State}
 use Rattle.metric_line.specs.declared.datum.Datum.{Datum}
+use Rattle.metric_line.specs.Point.{Point}
+use Rattle.metric_line.specs.Seen.{seen}
 use Rattle.shared_history.specs.Parts.{PassValue, own_entries}
 use Rattle.shared_history.proofs.ListLemmas.{prefix_self}
 use Rattle.shared_store.specs.Passes.{Enters, HasRoom}
@@ -14,7 +17,9 @@ use Rattle.shared_store.specs.Pieces.{HasRoomFor, PutsFirst, PutsNone, counts_of
 use Rattle.shared_store.specs.declared.put_counts.PutCounts.{PutCounts}
 use Rattle.line_front.specs.Batches.{HasBatchRoom, PutsAll, PutsFewer, PutsOne}
 use Rattle.line_front.specs.Counts.{counted, counted_puts}
+use Rattle.line_front.specs.Emits.{HasCallRoom, PutsFew}
 use Rattle.line_front.specs.Links.{SeesMore, SessionValue}
+use Rattle.line_front.specs.Points.{PutsEach}
 use Rattle.line_front.specs.Sessions.{LinkValue}
 use Rattle.line_front.specs.declared.counts.Counts.{Counts}
 use Rattle.line_front.proofs.CountLemmas.{counted_each, puts_each}
@@ -28,6 +33,14 @@ has_batch_room left pass all enough = omega (arith, all, enough)
 
 pub room_for_points : (points : List Datum) (pass : PassValue) → HasBatchRoom pass → length points ≤ 256 → HasRoomFor points pass
 room_for_points points pass room few = omega (arith, room, few)
+
+-- as many points as a call may put are within the room of the pass
+pub call_room : (left count : ℕ) (pass : PassValue) → left + length (own_entries pass) ≡ 2 ^ 48 → count ≡ min (left - 4) 256 → 0 < count → HasCallRoom count pass
+call_room left count pass all is some = omega (arith, all, is, some)
+
+pub room_piece : (points : List Datum) (count most : ℕ) (pass : PassValue) → count ≡ min (length points) most → 16 ≤ count → (0 < most → HasCallRoom most pass)
+    → HasRoomFor (take count points) pass
+room_piece points count most pass is many room = omega (arith, length-take-le count points (omega (arith, is)), room (omega (arith, is, many)), is)
 
 -- ---- lists
 
@@ -246,6 +259,89 @@ module _ (start : State) (passes : ℕ) where
             (enters_none (puts_of old.pass.number points (ended ∷ ends)) old.pass new.pass enters)
             (subst (λ (n : ℕ). n < length points) (sym (done_of (ended ∷ ends) counted)) less)
     puts_fewer less (inr none) = none_put points old new some none.enters (counts_as old.counts new.counts counts [] is none.counted)
+
+  -- ---- points that rules emit, together
+
+  each_put : (points : List Datum) (ended : PutEnd) (ends : List PutEnd) (old new : PassValue) → HasRoomFor points old → length points ≡ length (ended ∷ ends)
+      → Enters start passes (puts_of old.number points (ended ∷ ends)) old new → PutsEach start passes (map seen points) old new
+  each_put [] ended ends old new room many enters = absurd (omega (arith, many))
+  each_put (datum ∷ []) ended [] old new room many enters = (new, (record { room = room_now (length (own_entries old)) 0 room; end = ended; enters = enters }, refl))
+  each_put (datum ∷ other ∷ points) ended [] old new room many enters = absurd (omega (arith, many))
+  each_put (datum ∷ points) ended (next ∷ ends) old new room many enters =
+      let entry : Entry = put_by old.number datum ended in
+      let parts = split_enters start passes (entry ∷ []) (puts_of old.number points (next ∷ ends)) old new enters in
+      let own : length (own_entries parts.mid) ≡ length (own_entries old) + 1 = own_more (own_entries old) (own_entries parts.mid) entry parts.begins.once in (
+        parts.mid,
+        (
+          record { room = room_now (length (own_entries old)) (length points) room; end = ended; enters = parts.begins },
+          each_put points next ends parts.mid new (room_then (length (own_entries old)) (length (own_entries parts.mid)) (length points) own room) (omega (arith, many))
+              (subst (λ (n : ℕ). Enters start passes (puts_of n points (next ∷ ends)) parts.mid new) (sym parts.begins.number) parts.goes_on),
+        ),
+      )
+
+  each_few : (points : List Datum) (ended : PutEnd) (ends : List PutEnd) (old new : PassValue) → HasRoomFor points old → length (ended ∷ ends) < length points
+      → Enters start passes (puts_of old.number points (ended ∷ ends)) old new → PutsFew start passes (map seen points) stop.NoMemory old new
+  each_few [] ended ends old new room less enters = absurd (omega (arith, less))
+  each_few (datum ∷ points) ended [] old new room less enters = record {
+    first = seen datum ∷ [];
+    others = map seen points;
+    split = refl;
+    mid = new;
+    emits = (new, (record { room = room_now (length (own_entries old)) (length points) room; end = ended; enters = enters }, refl));
+    some = λ spent none. absurd (cc spent);
+    stops = inl refl;
+  }
+  each_few (datum ∷ points) ended (next ∷ ends) old new room less enters =
+      let entry : Entry = put_by old.number datum ended in
+      let parts = split_enters start passes (entry ∷ []) (puts_of old.number points (next ∷ ends)) old new enters in
+      let own : length (own_entries parts.mid) ≡ length (own_entries old) + 1 = own_more (own_entries old) (own_entries parts.mid) entry parts.begins.once in
+      let more = each_few points next ends parts.mid new (room_then (length (own_entries old)) (length (own_entries parts.mid)) (length points) own room) (omega (arith, less))
+      (subst (λ (n : ℕ). Enters start passes (puts_of n points (next ∷ ends)) parts.mid new) (sym parts.begins.number) parts.goes_on) in
+      record {
+        first = seen datum ∷ more.first;
+        others = more.others;
+        split = ap (λ (l : List Point). seen datum ∷ l) more.split;
+        mid = more.mid;
+        emits = (parts.mid, (record { room = room_now (length (own_entries old)) (length points) room; end = ended; enters = parts.begins }, more.emits));
+        some = λ spent none. absurd (cc spent);
+        stops = more.stops;
+      }
+
+  -- none of them was put
+  few_entered : (points : List Point) (old new : PassValue) → Enters start passes [] old new → PutsFew start passes points stop.NoMemory old new
+  few_entered points old new enters = record {
+    first = [];
+    others = points;
+    split = refl;
+    mid = old;
+    emits = refl;
+    some = λ spent none. absurd (cc spent);
+    stops = inr enters;
+  }
+
+  module _ (points : List Datum) (counts : PutCounts) (old new : PassValue) (some : 0 < length points) (room : HasRoomFor points old) where
+    many_of : (ends : List PutEnd) → counts ≡ counts_of ends → length ends ≡ counts.done
+    many_of ends counted = sym (ap (λ (p : PutCounts). p.done) counted)
+
+    -- a call of the store put all
+    pub many_put : length points ≤ counts.done → PutsFirst start passes points counts old new ⊎ PutsNone start passes counts old new → PutsEach start passes (map seen points) old new
+    many_put all (inl first) = by first.ends first.few first.enters first.counted
+      where
+        by : (ends : List PutEnd) → length ends ≤ length points → Enters start passes (puts_of old.number points ends) old new → counts ≡ counts_of ends → PutsEach start passes (map seen points) old new
+        by [] few enters counted = absurd (omega (arith, many_of [] counted, all, some))
+        by (ended ∷ ends) few enters counted = each_put points ended ends old new room (omega (arith, many_of (ended ∷ ends) counted, few, all)) enters
+    many_put all (inr none) = absurd (omega (arith, many_of [] none.counted, all, some))
+
+    -- or had no memory for one
+    pub many_few : counts.done < length points → PutsFirst start passes points counts old new ⊎ PutsNone start passes counts old new
+        → PutsFew start passes (map seen points) stop.NoMemory old new
+    many_few less (inl first) = by first.ends first.enters first.counted
+      where
+        by : (ends : List PutEnd) → Enters start passes (puts_of old.number points ends) old new → counts ≡ counts_of ends → PutsFew start passes (map seen points) stop.NoMemory old new
+        by [] enters counted = few_entered (map seen points) old new enters
+        by (ended ∷ ends) enters counted =
+            each_few points ended ends old new room (subst (λ (n : ℕ). n < length points) (sym (many_of (ended ∷ ends) counted)) less) enters
+    many_few less (inr none) = few_entered (map seen points) old new none.enters
 
   -- by a session of which this is seen
   module _ {C : Type 0} (points : List Datum) (counts : PutCounts) (inside old : LinkValue C) (new : SessionValue) (same : inside ≡ old) (some : 0 < length points) (room : HasRoomFor points old.session.pass) (gathered : new.gathered ≡ inside.session.gathered) (is : new.counts ≡ counted_puts inside.session.counts counts) where

@@ -1,5 +1,5 @@
 -- The points of a batch, each with those that rules emit for it.
-use Rattle.std.specs.Prelude.{◌≡◌, ◌≢◌, ◌⊎◌, ◌<◌, ◌≤◌, ℕ, List, [], ◌∷◌, ◌++◌, get_or, length, map, take}
+use Rattle.std.specs.Prelude.{◌≡◌, ◌⊎◌, ◌<◌, ◌≤◌, ℕ, List, [], ◌∷◌, ◌++◌, length, map, take}
 use Rattle.line_service.specs.declared.ends.Stop.{Stop}
 use Rattle.line_service.specs.declared.ends.Stop.TheVariants as stop
 use Rattle.metric_line.specs.declared.datum.Datum.{Datum}
@@ -8,9 +8,9 @@ use Rattle.metric_line.specs.Seen.{seen}
 use Rattle.aggregate_front.specs.Emitting.{AggregatorValue}
 use Rattle.carbon_model.specs.State.{State}
 use Rattle.shared_store.specs.Passes.{HasRoom}
-use Rattle.line_front.specs.Emits.{BringsFew}
+use Rattle.line_front.specs.Emits.{BringsFew, PutsFew}
 use Rattle.line_front.specs.Links.{Brings, Idles, IsSpent, SessionValue}
-use Rattle.line_front.specs.Points.{emitted_for, gathered_with}
+use Rattle.line_front.specs.Points.{PutsEach, emitted_for, gathered_with}
 
 -- ---- what the rules are given
 
@@ -19,27 +19,16 @@ abbrev pub FeedsQuiet : List Point → AggregatorValue → AggregatorValue → T
 FeedsQuiet [] a b = b ≡ a
 FeedsQuiet (point ∷ points) a b = (emitted_for a point ≡ []) × FeedsQuiet points (gathered_with a point) b
 
--- for the point at this place they emit some
-pub record FeedsNext (points : List Datum) (count : ℕ) (emitted : List Point) (a b : AggregatorValue) : Type 0 where
-  pub less : count < length points
-  pub datum : Datum
-  pub here : get_or points count datum ≡ datum
-  pub emits : emitted ≡ emitted_for a (seen datum)
-  pub some : emitted ≢ []
-  pub gathered : b ≡ gathered_with a (seen datum)
-
--- some points were given to them, and no other
-pub record FeedsSome (count : ℕ) (emitted : List Point) (a b : AggregatorValue) : Type 0 where
-  pub some : 0 < count
-  pub none : emitted ≡ []
-  pub same : b ≡ a
-
--- so many points were given to the rules, for which they emit nothing, and perhaps the next, for which they emit these
+-- So many points were given to the rules, one after the other: they emit these for the last one, and nothing for those before it.
 pub record FeedsFront (points : List Datum) (count : ℕ) (emitted : List Point) (a b : AggregatorValue) : Type 0 where
   pub few : count ≤ length points
+  pub first : List Datum
+  pub last : Datum
+  pub split : take count points ≡ first ++ last ∷ []
   pub mid : AggregatorValue
-  pub quiet : FeedsQuiet (map seen (take count points)) a mid
-  pub next : FeedsSome count emitted mid b ⊎ FeedsNext points count emitted mid b
+  pub quiet : FeedsQuiet (map seen first) a mid
+  pub emits : emitted ≡ emitted_for mid (seen last)
+  pub gathered : b ≡ gathered_with mid (seen last)
   pub rules : b.rules ≡ a.rules
 
 -- the same of a session, whose points are not put yet
@@ -59,6 +48,17 @@ pub record BringsOne (start : State) (passes : ℕ) (datum : Datum) (old new : S
 abbrev pub BringsAll : State → ℕ → List Datum → SessionValue → SessionValue → Type 0
 BringsAll start passes [] old new = new ≡ old
 BringsAll start passes (datum ∷ points) old new = (mid : SessionValue) × (BringsOne start passes datum old mid × BringsAll start passes points mid new)
+
+-- points that rules emit were put, one after the other
+pub record PutsBehind (start : State) (passes : ℕ) (points : List Point) (old new : SessionValue) : Type 0 where
+  pub puts : PutsEach start passes points old.pass new.pass
+  pub counts : new.counts ≡ old.counts
+  pub gathered : new.gathered ≡ old.gathered
+
+-- or the first of them
+pub record FewBehind (start : State) (passes : ℕ) (points : List Point) (reason : Stop) (old new : SessionValue) : Type 0 where
+  pub few : PutsFew start passes points reason old.pass new.pass
+  pub counts : new.counts ≡ old.counts
 
 -- some points at the front were
 pub record BringsPart (start : State) (passes : ℕ) (points : List Datum) (count : ℕ) (old new : SessionValue) : Type 0 where

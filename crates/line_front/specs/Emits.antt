@@ -1,12 +1,14 @@
 -- What the puts of points that rules emit make of a pass and of a link.
-use Rattle.std.specs.Prelude.{◌≡◌, ◌≢◌, ◌⊎◌, ◌<◌, ◌^◌, ℕ, List, [], ◌++◌, Option, length}
+use Rattle.std.specs.Prelude.{◌≡◌, ◌≢◌, ◌⊎◌, ◌<◌, ◌≤◌, ◌+◌, ◌^◌, ℕ, List, [], ◌++◌, Option, length, map, take}
 use Rattle.std.specs.Io.KnownBytes.{Consumes}
 use Rattle.line_service.specs.Service.{RunsOut}
 use Rattle.line_service.specs.declared.ends.Stop.{Stop}
 use Rattle.line_service.specs.declared.ends.Stop.TheVariants as stop
+use Rattle.metric_line.specs.declared.datum.Datum.{Datum}
 use Rattle.metric_line.specs.Point.{Point}
+use Rattle.metric_line.specs.Seen.{seen}
 use Rattle.carbon_model.specs.State.{State}
-use Rattle.shared_history.specs.Parts.{PassValue}
+use Rattle.shared_history.specs.Parts.{PassValue, own_entries}
 use Rattle.shared_store.specs.Passes.{Enters, HasRoom}
 use Rattle.line_front.specs.Points.{PutsEach, emitted_for, gathered_with}
 use Rattle.line_front.specs.Links.{HandlesWhole, IsRead, IsSpent, Puts, RunsFull, RunsShort, SessionValue, TakesNone}
@@ -32,6 +34,16 @@ pub record PutsFew (start : State) (passes : ℕ) (points : List Point) (reason 
   pub emits : PutsEach start passes first old mid
   pub some : reason ≡ stop.Spent → others ≢ []
   pub stops : StopsPut start passes reason mid new
+
+-- the pass has room for so many points and the entries of a call
+abbrev pub HasCallRoom : ℕ → PassValue → Type 0
+HasCallRoom count pass = length (own_entries pass) + (count + 4) ≤ 2 ^ 48
+
+-- some at the front were put
+pub record PutsPart (start : State) (passes : ℕ) (points : List Datum) (count : ℕ) (old new : PassValue) : Type 0 where
+  pub some : 0 < count
+  pub few : count ≤ length points
+  pub puts : PutsEach start passes (map seen (take count points)) old new
 
 -- ---- behind a point
 

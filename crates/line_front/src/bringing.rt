@@ -1,5 +1,5 @@
 //! Bringing the points of a batch to the store and to the rules.
-ghost use Rattle.std.specs.Prelude.{◌≡◌, ◌<◌, true, length, map, OnOk, OnErr, IfErr, IfOk};
+ghost use Rattle.std.specs.Prelude.{◌≡◌, ◌<◌, [], true, length, map, OnOk, OnErr, IfErr, IfOk};
 ghost use Rattle.metric_line.specs.Seen.{seen};
 ghost use Rattle.line_front.specs.Bringing.{FeedsFront};
 
@@ -13,8 +13,8 @@ use shared_store::{MOST_CALL_ENTRIES, Named};
 use std::alloc::{AllocError, Global};
 use std::sync::Wait;
 
-/// The first points of a batch that rules were given: so many for which they emit nothing, and what
-/// they emit for the one behind these. That one was not given to them where it is no point.
+/// The first points of a batch that rules were given: how many, and what they emit for the last of
+/// these. For those before it they emit nothing.
 #[derive(Drop)]
 pub(crate) struct Fed {
     count: usize,
@@ -22,9 +22,10 @@ pub(crate) struct Fed {
 }
 
 impl<'a, R: Wait, D: Disk, N: Named, C: Clock> LineSession<'a, R, D, N, C> {
-    ghost use Rattle.std.specs.Prelude.{◌≡◌, ◌<◌, true, length, OnOk, OnErr, IfErr, IfOk};
+    ghost use Rattle.std.specs.Prelude.{◌≡◌, ◌<◌, true, length, map, OnOk, OnErr, IfErr, IfOk};
+    ghost use Rattle.metric_line.specs.Seen.{seen};
     ghost use Rattle.shared_store.specs.Pieces.{HasRoomFor};
-    ghost use Rattle.line_front.specs.Bringing.{BringsAll, BringsFewer, BringsPart, FeedsBatch};
+    ghost use Rattle.line_front.specs.Bringing.{BringsAll, BringsFewer, BringsPart, FeedsBatch, FewBehind, PutsBehind};
 
     // Puts the points of a batch in order, and behind each those that the rules emit for it.
     #[tactic(auto, using(crate::proofs::BringLemmas::plain_ok, crate::proofs::BringLemmas::plain_err))]
@@ -102,8 +103,7 @@ impl<'a, R: Wait, D: Disk, N: Named, C: Clock> LineSession<'a, R, D, N, C> {
         }
     }
 
-    // Puts together the points for which the rules emit nothing, and then the next one, with those
-    // that they emit for it.
+    // Puts together the points up to the first for which the rules emit others, and then these.
     fn bring_front(&mut self, points: &[Datum]) -> Result<usize, Stop>
         requires some { 0 < length points.now }
         requires room { HasRoomFor points.now self.old.session.pass }
@@ -120,17 +120,22 @@ impl<'a, R: Wait, D: Disk, N: Named, C: Clock> LineSession<'a, R, D, N, C> {
             Ok(()) => {}
             Err(stop) => return Err(stop),
         }
-        if fed.emitted.is_empty() {
-            return Ok(fed.count);
-        }
-        match self.put(&points[fed.count]) {
-            Ok(()) => {}
-            Err(stop) => return Err(stop),
-        }
-        match put_emitted(self.rt, self.store, &mut self.pass, fed.emitted.as_slice()) {
-            Ok(()) => Ok(fed.count + 1),
+        match self.put_behind(fed.emitted.as_slice()) {
+            Ok(()) => Ok(fed.count),
             Err(stop) => Err(stop),
         }
+    }
+
+    // Puts the points that the rules emit for the last one.
+    #[tactic(auto, using(crate::proofs::BringLemmas::behind_ok, crate::proofs::BringLemmas::behind_err))]
+    fn put_behind(&mut self, points: &[Datum]) -> Result<(), Stop>
+        ensures puts { OnOk result (PutsBehind N.start N.passes (map seen points.now)
+            self.old.session self.new.session) }
+        ensures stops { IfErr result (λ stop. FewBehind N.start N.passes (map seen points.now) stop
+            self.old.session self.new.session) }
+        ensures clock { self.new.clock ≡ self.old.clock }
+    {
+        put_emitted(self.rt, self.alloc, self.store, &mut self.pass, points)
     }
 
     // Gives points to the rules, up to the first for which they emit others.
@@ -161,6 +166,7 @@ fn feed_quiet(
     while count < points.len() {
         match aggregator.feed(&points[count]) {
             Ok(emitted) => {
+                count += 1;
                 if !emitted.is_empty() {
                     return Ok(Fed { count, emitted });
                 }
@@ -169,16 +175,19 @@ fn feed_quiet(
                 if count == 0 {
                     return Err(fault);
                 }
-                return Ok(Fed {
-                    count,
-                    emitted: Vec::new(alloc),
-                });
+                return Ok(fed_quiet(alloc, count));
             }
         }
-        count += 1;
     }
-    Ok(Fed {
+    Ok(fed_quiet(alloc, count))
+}
+
+// So many points, for which the rules emit nothing.
+fn fed_quiet(alloc: Global, count: usize) -> Fed
+    ensures { (result.count ≡ count) × (result.emitted.items ≡ []) }
+{
+    Fed {
         count,
         emitted: Vec::new(alloc),
-    })
+    }
 }

@@ -8,6 +8,7 @@ mod bringing;
 mod counts;
 mod emitting;
 mod ends;
+mod room;
 mod serve;
 mod session;
 mod sink;

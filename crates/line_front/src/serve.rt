@@ -74,7 +74,7 @@ pub fn serve_lines<R: Wait, D: Disk, N: Named, L: Link, C: Clock>(
         ..
     } = session;
     let mut pass = pass;
-    let cause = end_link(rt, store, read, aggregator, &mut pass);
+    let cause = end_link(rt, alloc, store, read, aggregator, &mut pass);
     Served {
         cause,
         counts,

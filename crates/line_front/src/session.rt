@@ -119,7 +119,13 @@ impl<'a, R: Wait, D: Disk, N: Named, C: Clock> LineSession<'a, R, D, N, C> {
             return Ok(());
         }
         match self.aggregator.feed(datum) {
-            Ok(points) => put_emitted(self.rt, self.store, &mut self.pass, points.as_slice()),
+            Ok(points) => put_emitted(
+                self.rt,
+                self.alloc,
+                self.store,
+                &mut self.pass,
+                points.as_slice(),
+            ),
             Err(_) => Err(Stop::NoMemory),
         }
     }

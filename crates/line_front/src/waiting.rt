@@ -12,7 +12,7 @@ use std::mem;
 use std::sync::Wait;
 
 /// The fewest points that are put together, under the locks of all their classes.
-const FEWEST_TOGETHER: usize = 16;
+pub(crate) const FEWEST_TOGETHER: usize = 16;
 
 /// The most entries that a batch makes, and the room that the line behind it wants.
 const MOST_BATCH_ENTRIES: u64 = MOST_BATCH_POINTS as u64 + MOST_CALL_ENTRIES;

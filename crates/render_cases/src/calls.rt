@@ -1,7 +1,8 @@
 //! The verbs of the cases.
 
 use crate::{
-    answers, choices, combining, grids, groups, plans, refusals, shapes, slow_json, texts, values,
+    answers, choices, combining, grids, groups, plans, read_json, refusals, shapes, slow_json,
+    texts, values,
 };
 use case_lines::{Calls, Case, CaseFault};
 use std::alloc::Global;
@@ -28,6 +29,7 @@ impl Calls for RenderCalls {
             "choose" => choices::tell_choice(alloc, &mut told, case),
             "json" | "raw" | "csv" => texts::tell(alloc, &mut told, case),
             "slow-json" => slow_json::tell_sweep(alloc, &mut told, case),
+            "read-json" => read_json::tell_read(alloc, &mut told, case),
             _ => Err(CaseFault::Malformed),
         }?;
         Ok(told)

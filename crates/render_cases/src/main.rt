@@ -13,6 +13,7 @@ mod groups;
 mod notation;
 mod numbers;
 mod plans;
+mod read_json;
 mod refusals;
 mod room;
 mod rows;

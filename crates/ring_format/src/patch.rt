@@ -5,6 +5,7 @@ ghost use Rattle.std.specs.Map.{keys_of};
 ghost use Rattle.std.specs.Ordering.{is_gt};
 ghost use Rattle.ring_format.specs.Patch.{IsFreeAt, IsLaidAt, IsPlace, PutsAt, cell_at, cells_before, first_cell_from, place_cmp, with_cell};
 
+use crate::cell::CELL_BYTES;
 use crate::layout::Layout;
 use fixed_num::Milli;
 use metric_path::MetricPath;
@@ -89,6 +90,15 @@ impl Patch {
             (cell.archive, cell.slot),
             (cell.bucket, cell.value),
         )
+    }
+
+    /// Asks at once for room for a cell at each place of the layout, so that laying asks for none
+    /// again. The patch stays as it is.
+    pub fn reserve_all(&mut self) -> Result<(), NoMemory>
+        ensures { self.new ≡ self.old }
+    {
+        let most = self.layout.file_size() / CELL_BYTES as u64;
+        self.cells.reserve_exact(most as usize)
     }
 
     /// The bucket and the value laid at a place, or `None` where no cell is.
