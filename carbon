@@ -549,6 +549,8 @@ Options:
                       [262144]
   --order O           Which metric is drained next: sorted, naive, max or
                       timesorted. [sorted]
+  --redo              Each drain goes through a log, so that a crash or a power
+                      failure leaves whole drains.
   --line-patience S   Seconds after which a silent connection of metric lines
                       is closed: 0 to 86400, 0 for never. [900]
   --links N           Connections after which each port closes: 0 to
@@ -574,7 +576,9 @@ Options:
   --limit N           Pending points of each of sixteen classes: 1 to 10000000.
                       [262144]
   --order O           Which metric is drained next: sorted, naive, max or
-                      timesorted. [sorted]'
+                      timesorted. [sorted]
+  --redo              Each drain goes through a log, so that a crash or a power
+                      failure leaves whole drains.'
 
 SAMPLE_HELP='carbon sample - run a script that is made from a number
 
@@ -586,7 +590,8 @@ and the summary.
 
 Options:
   --limit N           As of `script`.
-  --order O           As of `script`.'
+  --order O           As of `script`.
+  --redo              As of `script`.'
 
 BUILD_HELP='carbon build - prove the sources, and build the program of them
 

@@ -6,8 +6,8 @@ Usage: bench/edge.py [WORD..]      (all cases without a word; else those whose n
 
 Each case runs the program over a folder in memory and real sockets, and prints `ok` or what it found instead, with its seconds. What is shown is
 what a sender, a dashboard or an operator sees: exit statuses, lines, replies, files. Cases that wait for a patience take as long as that, up to
-half a minute. Those that need another user's rights, few descriptors or a small file system are passed over, and say so, where this user may not
-have them. The exit status is 1 where a case found something else. Run ./carbon build first.
+a minute and a half. Those that need another user's rights, few descriptors or a small file system are passed over, and say so, where this user may
+not have them. The exit status is 1 where a case found something else. Run ./carbon build first.
 """
 import contextlib
 import os
@@ -22,6 +22,7 @@ import sys
 import tempfile
 import threading
 import time
+import urllib.parse
 
 from live import HERE, PROGRAM, class_of, folder, need_program, write_rules
 
@@ -48,8 +49,8 @@ def want(told, wanted, what):
 class Daemon:
     """`carbon serve` in a folder, begun without its launcher unless one is asked for."""
 
-    def __init__(self, place, *words, launched=False, user=None, **more):
-        command = [LAUNCHER if launched else PROGRAM, "serve", "--line-port", "0", "--http-port", "0", *words]
+    def __init__(self, place, *words, ports=(0, 0), launched=False, user=None, **more):
+        command = [LAUNCHER if launched else PROGRAM, "serve", "--line-port", str(ports[0]), "--http-port", str(ports[1]), *words]
         self.place = place
         self.said = open(os.path.join(place, "stderr.txt"), "w+")
         self.process = subprocess.Popen(
@@ -102,6 +103,15 @@ class Daemon:
         if self.process.poll() is None:
             self.process.kill()
             self.process.wait()
+
+    def spent(self):
+        """Seconds of the processor so far."""
+        return time.clock_gettime((~self.process.pid << 3) | 2)
+
+    def most_held(self):
+        """The most megabytes of memory that it held."""
+        with open("/proc/%d/status" % self.process.pid) as file:
+            return int(dict(line.split(":", 1) for line in file)["VmHWM"].split()[0]) * 1024 / 1e6
 
 
 def exchange(port, request, seconds=5, host="127.0.0.1"):
@@ -258,6 +268,27 @@ def a_file_that_is_cut_while_it_serves_does_not_grow_again():
 
 
 @case
+def a_file_that_is_replaced_while_it_serves_is_told_and_the_new_one_is_written():
+    with folder() as place:
+        want(script(place, "a.b 1 1700000000\n")[0], 0, "a first run")
+        ring = path_of(place, "a.b")
+        other = os.path.join(place, "other.ring")
+        first = open(ring, "rb").read()
+        with serving(place=place) as daemon:
+            daemon.send(point("a.b", 7))
+            want(settled(lambda: open(ring, "rb").read() != first), True, "a drain")
+            time.sleep(0.3)
+            second = open(ring, "rb").read()
+            with open(other, "wb") as file:
+                file.write(second)
+            os.rename(other, ring)
+            daemon.send("a.b 8 %d\n" % (time.time() + 60))
+            want(settled(lambda: "removed or replaced" in daemon.told()), True, "the reason on standard error")
+            want(settled(lambda: open(ring, "rb").read() != second), True, "the next drain, in the file that has the name now")
+            want(daemon.stop()[0:2], (0, "stored 2 replaced 0 full 0 drains 2"), "the stop")
+
+
+@case
 def a_pipe_in_the_place_of_a_file_holds_up_its_class_alone():
     with folder() as place:
         want(script(place, "a.b 1 1700000000\n")[0], 0, "a first run")
@@ -337,6 +368,16 @@ def a_rule_file_that_cannot_be_read_is_no_empty_one():
             want(daemon.end()[0], 5, "status")
 
 
+@case
+def a_folder_of_rules_that_cannot_be_searched_is_not_without_rules():
+    with own_folder() as place:
+        os.makedirs(os.path.join(place, "conf"))
+        as_nobody(place)
+        os.chmod(os.path.join(place, "conf"), 0o600)
+        with serving(place=place, user=NOBODY) as daemon:
+            want(daemon.end(), (5, "carbon: disk fault conf"), "status and line")
+
+
 @contextlib.contextmanager
 def own_folder():
     """A folder whose files may be another user's."""
@@ -357,20 +398,58 @@ def as_nobody(place):
             os.chown(os.path.join(root, name), NOBODY, NOBODY)
 
 
-@case
-def a_full_disk_loses_nothing_but_what_cannot_be_written():
+@contextlib.contextmanager
+def small_disk(options):
+    """A folder that is a file system of its own."""
     with tempfile.TemporaryDirectory() as place:
-        if os.geteuid() != 0 or subprocess.run(["mount", "-t", "tmpfs", "-o", "size=1m", "carbon", place]).returncode:
+        if os.geteuid() != 0 or subprocess.run(["mount", "-t", "tmpfs", "-o", options, "carbon", place]).returncode:
             raise Passed("no file system can be mounted")
         try:
-            with serving(place=place) as daemon:
-                daemon.send("".join(point("m.n%d" % k) for k in range(600)))
-                want(settled(lambda: "No space left" in daemon.told()), True, "the reason on standard error")
-                want(daemon.ask("m.n599")[0], 200, "a question meanwhile")
-                status, line, took = daemon.stop()
-                want(status, 5, "the status of a stop that cannot write")
+            yield place
         finally:
             subprocess.run(["umount", "--lazy", place])
+
+
+@case
+def a_full_disk_loses_nothing_but_what_cannot_be_written():
+    with small_disk("size=1m") as place:
+        with serving(place=place) as daemon:
+            daemon.send("".join(point("m.n%d" % k) for k in range(600)))
+            want(settled(lambda: "No space left" in daemon.told()), True, "the reason on standard error")
+            want(daemon.ask("m.n599")[0], 200, "a question meanwhile")
+            status, line, took = daemon.stop()
+            want(status, 5, "the status of a stop that cannot write")
+
+
+def take_inodes(place):
+    """Makes files until there is no inode left, and tells which."""
+    names = []
+    with contextlib.suppress(OSError):
+        for k in range(10_000):
+            name = os.path.join(place, "filler%d" % k)
+            open(name, "x").close()
+            names.append(name)
+    return names
+
+
+@case
+def a_file_that_cannot_be_made_holds_up_its_class_alone():
+    with small_disk("size=100m,nr_inodes=400") as place:
+        want(script(place, "".join(point("o.n%d" % k) for k in range(100)))[0], 0, "a first run")
+        with serving(place=place) as daemon:
+            fillers = take_inodes(place)
+            daemon.send(point("new.metric"))
+            want(settled(lambda: "new/metric.ring: No space left" in daemon.told()), True, "the reason on standard error")
+            begun = time.time()
+            daemon.send("".join("o.n%d 2 %d\n" % (k, time.time() + 60) for k in range(100)))
+            others = [path_of(place, "o.n%d" % k) for k in range(100) if class_of(b"o.n%d" % k) != class_of(b"new.metric")]
+            changed = lambda: sum(os.path.getmtime(path) > begun for path in others)
+            want(settled(lambda: changed() == len(others), 5), True, "drains of the other classes in five seconds")
+            want(daemon.ask("new.metric")[1].count("\n"), 1, "the new metric, which is shown meanwhile")
+            for name in fillers:
+                os.remove(name)
+            want(settled(lambda: os.path.exists(path_of(place, "new.metric"))), True, "its file, once there is room")
+            want(daemon.stop()[0:2], (0, "stored 101 replaced 0 full 0 drains 101"), "the stop")
 
 
 # ---- one carbon a folder, and what the system gives
@@ -451,6 +530,38 @@ def few_threads_are_told_at_the_start():
 
 
 @case
+def streams_that_fail_have_their_status():
+    with serving() as daemon, folder() as place, open("/dev/full", "w") as full:
+        inside = os.open(place, os.O_RDONLY)
+        ran = subprocess.run([PROGRAM, "script"], stdin=inside, cwd=place, capture_output=True, text=True, timeout=60)
+        os.close(inside)
+        want((ran.returncode, ran.stdout), (6, "carbon: read fault\n"), "an input that is a folder")
+        for what, words, where in (
+            ("a summary", ["script"], place),
+            ("a usage", ["serve", "--ports"], place),
+            ("a folder in use", ["script"], daemon.place),
+        ):
+            ran = subprocess.run([PROGRAM, *words], stdin=subprocess.DEVNULL, stdout=full, stderr=subprocess.DEVNULL, cwd=where, timeout=60)
+            want(ran.returncode, 7, what + " that cannot be written")
+
+
+@case
+def an_input_that_is_reset_has_not_ended():
+    with folder() as place, socket.create_server(("127.0.0.1", 0)) as server:
+        sender = socket.create_connection(server.getsockname(), 10)
+        input_of_script, _ = server.accept()
+        with input_of_script:
+            process = subprocess.Popen([PROGRAM, "script"], stdin=input_of_script, stdout=subprocess.PIPE, cwd=place, text=True)
+        sender.sendall(point("a.b").encode())
+        time.sleep(0.5)
+        sender.setsockopt(socket.SOL_SOCKET, socket.SO_LINGER, struct.pack("ii", 1, 0))
+        sender.close()
+        told, _ = process.communicate(timeout=30)
+        want((process.returncode, told), (6, "carbon: read fault\n"), "status and line")
+        want(os.path.exists(path_of(place, "a.b")), False, "a drain behind it")
+
+
+@case
 def words_that_are_no_command_touch_nothing():
     with serving() as daemon:
         ran = subprocess.run([PROGRAM, "serve", "--ports"], cwd=daemon.place, capture_output=True, text=True)
@@ -467,6 +578,21 @@ def each_port_has_its_own_kind_on_all_addresses():
             daemon.send(point("host." + host.replace(".", "_")), host)
         status, body = daemon.ask("host.*", host="127.0.0.2")
         want((status, body.count("\n")), (200, 2), "the answer")
+
+
+def free_ports():
+    """Two ports that nobody has."""
+    with socket.create_server(("", 0)) as one, socket.create_server(("", 0)) as other:
+        return one.getsockname()[1], other.getsockname()[1]
+
+
+@case
+def each_port_has_the_number_that_was_asked_for():
+    asked = free_ports()
+    with serving(ports=asked) as daemon:
+        want((daemon.line_port, daemon.http_port), asked, "the ports on standard error")
+        daemon.send(point("a.b"))
+        want(daemon.ask("a.b")[1].startswith("a.b,"), True, "the answer")
 
 
 def refuses(host, port):
@@ -656,15 +782,71 @@ def thirty_two_links_of_each_kind_are_served_at_once():
             link.close()
 
 
-@case
-def every_class_is_drained_while_lines_come():
+def one_of_each_class(front):
     names = {}
     for k in range(1000):
-        names.setdefault(class_of(b"c.n%d" % k), "c.n%d" % k)
+        name = "%s.n%d" % (front, k)
+        names.setdefault(class_of(name.encode()), name)
+    want(len(names), 16, "classes")
+    return [names[k] for k in range(16)]
+
+
+def have_files(daemon, names):
+    return settled(lambda: all(os.path.exists(path_of(daemon.place, name)) for name in names))
+
+
+@case
+def every_class_is_drained_while_lines_come():
+    names = one_of_each_class("c")
     with serving() as daemon:
-        daemon.send("".join(point(name) for name in names.values()))
-        want(len(names), 16, "classes")
-        want(settled(lambda: all(os.path.exists(path_of(daemon.place, name)) for name in names.values())), True, "a file of each class")
+        daemon.send("".join(point(name) for name in names))
+        want(have_files(daemon, names), True, "a file of each class")
+
+
+@contextlib.contextmanager
+def sending(daemon, metric):
+    """A sender that goes on meanwhile."""
+    is_over = threading.Event()
+
+    def send():
+        with contextlib.suppress(OSError), socket.create_connection(("127.0.0.1", daemon.line_port), timeout=10) as link:
+            while not is_over.is_set():
+                link.sendall(point(metric).encode())
+                time.sleep(0.001)
+
+    sender = threading.Thread(target=send, daemon=True)
+    sender.start()
+    try:
+        yield
+    finally:
+        is_over.set()
+        sender.join()
+
+
+@case
+def no_class_waits_for_one_that_gets_points_all_the_time():
+    busy = one_of_each_class("busy")
+    with serving() as daemon:
+        for front, one in ("c", busy[0]), ("d", busy[15]):
+            names = one_of_each_class(front)
+            with sending(daemon, one):
+                time.sleep(0.2)
+                daemon.send("".join(point(name) for name in names))
+                want(have_files(daemon, names), True, "a file of each class beside " + one)
+
+
+@case
+def a_daemon_that_has_nothing_to_do_takes_no_processor():
+    for words in [], ["--drainers", "4"]:
+        with serving(*words) as daemon:
+            daemon.send(point("a.b"))
+            want(settled(lambda: os.path.exists(path_of(daemon.place, "a.b"))), True, "the drain")
+            time.sleep(0.5)
+            before = daemon.spent()
+            time.sleep(2)
+            took = daemon.spent() - before
+            want(took < 0.4, True, "%.2f seconds of the processor in two" % took)
+            want(daemon.stop()[0:2], (0, "stored 1 replaced 0 full 0 drains 1"), "the stop")
 
 
 def paced(words, place):
@@ -738,6 +920,15 @@ def files_that_are_there_are_drained_without_the_pace_of_new_ones():
 
 
 @case
+def a_drainer_goes_on_where_no_sender_is_left():
+    with serving("--links", "1", "--creates", "20") as daemon:
+        daemon.send("".join(point("p.n%d" % k) for k in range(100)))
+        want(settled(lambda: len(rings_in(daemon.place)) == 100, 12), True, "the files of all metrics while the port of HTTP waits for its link")
+        want(daemon.ask("p.n*")[1].count("\n"), 100, "the answer over that link")
+        want(daemon.end(), (0, "stored 100 replaced 0 full 0 drains 100"), "the end")
+
+
+@case
 def drainers_write_all_that_comes():
     with folder() as place:
         with serving("--drainers", "4", place=place) as daemon:
@@ -765,6 +956,42 @@ def a_long_reply_arrives_whole_at_a_slow_reader():
         want(size > 100_000 * 16, True, "its length")
 
 
+@case
+def a_reply_of_twenty_megabytes_arrives_whole_in_small_pieces():
+    count = 999_990
+    with folder() as place:
+        write_rules(place, b"[all]\npattern = .*\nretentions = 1s:1000000\n")
+        with serving(place=place) as daemon:
+            daemon.send(point("a.b"))
+            now = int(time.time())
+            request = "GET /render?target=a.b&from=%d&until=%d HTTP/1.0\r\n\r\n" % (now - count, now)
+            reply = bytearray()
+            with socket.create_connection(("127.0.0.1", daemon.http_port), 20) as link:
+                link.sendall(request.encode())
+                while piece := link.recv(1000):
+                    reply += piece
+            head, _, body = bytes(reply).partition(b"\r\n\r\n")
+            want(int(re.search(rb"Content-Length: (\d+)", head)[1]), len(body), "its length")
+            want(len(body) > 19_000_000, True, "some twenty megabytes")
+            want((body.count(b"], [") + 1, body[-4:]), (count, b"]]}]"), "its values and its end")
+
+
+@case
+def a_line_without_a_time_has_the_second_of_the_system():
+    with folder() as place:
+        write_rules(place, b"[all]\npattern = .*\nretentions = 1s:600\n")
+        with serving(place=place) as daemon:
+            # odd seconds and even ones
+            for k in range(5):
+                before = int(time.time())
+                daemon.send("now.n%d 1 -1\n" % k)
+                after = int(time.time())
+                front, _, values = daemon.ask("now.n%d" % k)[1].partition("|")
+                at = int(front.split(",")[1]) + values.strip().split(",").index("1.0")
+                want(before <= at <= after, True, "%d, sent from %d to %d" % (at, before, after))
+                time.sleep(0.5)
+
+
 # ---- questions that take too much
 
 
@@ -788,6 +1015,28 @@ def a_question_that_takes_too_much_is_told_by_its_first_bytes():
                 want(lines, ["carbon: out of memory, status 503: " + told], "standard error behind the line of the ports")
                 want(daemon.ask("a.b")[0], 200, "a question that takes less")
                 want(daemon.stop()[0:2], (0, "stored 1 replaced 0 full 0 drains 1"), "the stop")
+
+
+def doubled(levels):
+    """A target whose name is twice as long with each level."""
+    target = "a.b"
+    for _ in range(levels):
+        target = "aliasSub(%s,'^(.*)$','\\1\\1')" % target
+    return urllib.parse.quote(target, safe="(),'")
+
+
+@case
+def names_that_grow_are_refused():
+    with serving() as daemon:
+        daemon.send(point("a.b"))
+        status, body = daemon.ask(doubled(8))
+        want((status, body.partition(",")[0]), (200, "a.b" * 256), "a name of 768 bytes")
+        begun = time.time()
+        want(daemon.ask(doubled(27), 30)[0], 503, "one of 400 megabytes")
+        want(time.time() - begun < 5, True, "within five seconds")
+        want(daemon.most_held() < 100, True, "%.0f MB held at most" % daemon.most_held())
+        want(daemon.ask("a.b")[0], 200, "a question afterwards")
+        want(daemon.stop()[0:2], (0, "stored 1 replaced 0 full 0 drains 1"), "the stop")
 
 
 # ---- patience
@@ -821,6 +1070,43 @@ def slow_heads_do_not_keep_the_renderers():
             time.sleep(0.5)
         want(answered, 200, "a question behind two slow heads")
         want(time.time() - begun < 30, True, "within half a minute")
+
+
+@case
+def a_body_that_never_comes_ends_after_a_minute():
+    with serving("--renderers", "1") as daemon:
+        begun = time.time()
+        with socket.create_connection(("127.0.0.1", daemon.http_port), 90) as slow:
+            slow.sendall(b"POST /render HTTP/1.1\r\nHost: a\r\nContent-Length: 1000000\r\n\r\ntarget=a")
+            while slow.recv(4096):
+                pass
+        took = time.time() - begun
+        want(59 < took < 75, True, "the end after %.1f seconds" % took)
+        want(daemon.ask("a.b", 15)[0], 200, "a question behind it")
+
+
+def stalled(daemon):
+    """A connection that asks for more than the buffers of the system take, and takes nothing."""
+    link = socket.socket()
+    link.setsockopt(socket.SOL_SOCKET, socket.SO_RCVBUF, 4096)
+    link.connect(("127.0.0.1", daemon.http_port))
+    link.sendall(b"GET /metrics/index.json HTTP/1.1\r\nHost: a\r\n\r\n" * 64)
+    return link
+
+
+@case
+def a_reply_that_nobody_takes_does_not_keep_its_renderer():
+    with serving("--renderers", "1") as daemon:
+        daemon.send("".join(point("long.n%06d" % k) for k in range(20_000)))
+        link = stalled(daemon)
+        time.sleep(0.5)
+        begun = time.time()
+        want(daemon.ask("a.b", 300)[0], 200, "a question behind it")
+        took = time.time() - begun
+        print("    (%.1f s)" % took)
+        # 20 seconds and one for each KiB that the system's buffers took: 165 were measured
+        want(18 < took < 200, True, "in %.1f seconds" % took)
+        link.close()
 
 
 @case
@@ -859,11 +1145,7 @@ def a_stop_waits_for_no_reader_that_stalls_or_sips():
         with serving() as daemon:
             daemon.send("".join(point("long.n%06d" % k) for k in range(count)))
             want(settled(lambda: files_in(daemon.place) == count, 60), True, "all drained before the stop")
-            link = socket.socket()
-            link.setsockopt(socket.SOL_SOCKET, socket.SO_RCVBUF, 4096)
-            link.connect(("127.0.0.1", daemon.http_port))
-            # more than the buffers of the system take
-            link.sendall(b"GET /metrics/index.json HTTP/1.1\r\nHost: a\r\n\r\n" * 64)
+            link = stalled(daemon)
             if sips:
                 threading.Thread(target=sip, args=(link,), daemon=True).start()
             time.sleep(1)
@@ -889,12 +1171,16 @@ def files_in(place):
 def lines_that_were_sent_before_the_stop_are_taken():
     lost = 0
     for turn in range(20):
-        with serving() as daemon:
+        with serving(launched=turn % 2 == 1) as daemon:
             links = [socket.create_connection(("127.0.0.1", daemon.line_port)) for _ in range(8)]
             for k, link in enumerate(links):
                 link.sendall(point("a.n%d" % k).encode())
                 link.close()
-            status, line, _ = daemon.stop()
+            if turn % 2 == 1:
+                daemon.process.send_signal(signal.SIGTERM)
+                status, line = daemon.end()
+            else:
+                status, line, _ = daemon.stop()
             want(status, 0, "the status")
             lost += line != "stored 8 replaced 0 full 0 drains 8"
     want(lost, 0, "rounds of twenty in which a line was lost")

@@ -18,7 +18,8 @@ turns and how much of the answers' speed is left, and for how long the daemon, t
 the turns. Each of the two clients has a processor of its own, and the daemon the others, where there are four. With `--first` all three come before
 what else runs on the machine (by the real-time class of the scheduler, for which one has to be root): then a busy machine tells what a quiet one does.
 
-At the end the most memory that the daemon held is told, and each metric is asked for once more over a new connection. Run ./carbon build first.
+At the end the most memory that the daemon held is told, which has to be 32 MiB or less, and each metric is asked for once more over a new connection.
+Run ./carbon build first.
 """
 import contextlib
 import http.client
@@ -37,6 +38,7 @@ from live import PROGRAM, folder, need_program
 PORTS = re.compile(r"carbon: lines on (\d+), HTTP on (\d+)")
 METRICS = 100
 RENDERERS = 64
+MOST_HELD = 32  # MiB
 TURN = 0.5
 PROCESSORS = sorted(os.sched_getaffinity(0))
 APART = len(PROCESSORS) >= 4
@@ -231,7 +233,10 @@ def main():
         by_turns("long heads", calm, port, long_heads, max(requests // 100, 2_000))
         while_open("bodies", calm, port, bodies, RENDERERS // 2, 10, 0.5)
         while_open("silent", calm, port, silent, 10_000, 5, 2)
-        print("most memory held: %.0f MiB; the well-behaved client opened its connection anew %d times" % (held(process.pid, "VmHWM"), calm.reopened))
+        most = held(process.pid, "VmHWM")
+        print("most memory held: %.0f MiB; the well-behaved client opened its connection anew %d times" % (most, calm.reopened))
+        if most > MOST_HELD:
+            sys.exit("more than %d MiB" % MOST_HELD)
         begun = time.time()
         for k in range(METRICS):
             link = http.client.HTTPConnection("127.0.0.1", port, timeout=100)

@@ -448,7 +448,7 @@ a_file_that_is_cut_is_told_and_drained_once_it_is_back() {
 }
 
 a_file_that_is_put_back_while_it_runs_is_read_at_the_next_start() {
-    says '| `carbon: data/K/NAME: a file is there ..` | a file was put back of which carbon knew nothing at its start: start again, and it is read |'
+    says '| `carbon: data/K/NAME: a file is there ..` | a file was put back of which carbon knew nothing at its start: start again, and it is read. '
     serve
     send 'a.b 5 -1'
     until_so 50 test -s "$(ring_of a.b)"

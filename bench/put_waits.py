@@ -17,6 +17,7 @@ millisecond of 10,000 of them, whose points are there and are replaced, and besi
   head       four targets of such patterns, which differ: about the most that a head of 16,384 bytes holds
   form       64 targets of four such patterns each, which differ, in a form of 1 MB
   find       `/metrics/find?query=*`, for which all names are gone over
+  pending    the 10,000 metrics of the lines over an hour, once each of them has sixty points pending: these are copied while all classes are locked
 
 Printed are the answers and the milliseconds of half of them and of the longest, and of the batches of lines how many there were and the milliseconds that
 half of them, 99 of 100, 999 of 1,000 and the longest took. A batch takes some time of its own, and waits for a processor too: that is what the first row
@@ -73,6 +74,12 @@ def questions(count):
     ]
 
 
+def an_hour(count):
+    """The question that finds every so manyth name, so that they are 10,000."""
+    node = "m?0" if count // METRICS < 100 else "m00"
+    return "/render?" + urllib.parse.urlencode([("target", "servers.*." + node), ("from", "-61min"), ("format", "raw")])
+
+
 def library(place):
     made = os.path.join(place, "put_waits.so")
     subprocess.run(["cc", "-O2", "-shared", "-fPIC", "-o", made, os.path.join(HERE, "put_waits_c.c"), "-ldl"], check=True)
@@ -116,6 +123,14 @@ class Daemon:
         with socket.create_connection(("127.0.0.1", self.lines)) as link:
             for at in range(0, len(names), 10_000):
                 link.sendall("".join("%s 1 %d\n" % (name, NOW) for name in names[at : at + 10_000]).encode())
+            link.shutdown(socket.SHUT_WR)
+            link.recv(1)
+
+    def put_hour(self, names):
+        """59 points more of each, a minute apart."""
+        with socket.create_connection(("127.0.0.1", self.lines)) as link:
+            for minute in range(1, 60):
+                link.sendall("".join("%s 1 %d\n" % (name, NOW - 60 * minute) for name in names).encode())
             link.shutdown(socket.SHUT_WR)
             link.recv(1)
 
@@ -185,6 +200,8 @@ def measure(count, seconds, preload):
         time.sleep(1)
         for what, way, form in [("nothing", None, None), *questions(count), ("nothing", None, None)]:
             row(daemon, count, seconds, what, way, form)
+        daemon.put_hour([names[k * (count // METRICS)] for k in range(METRICS)])
+        row(daemon, count, seconds, "pending", an_hour(count), None)
         sender.kill()
         daemon.end()
 

@@ -1,7 +1,8 @@
 #!/usr/bin/env python3
 """Memory that is refused: the built program runs once for each request for memory that it makes, which is refused, and only that one.
 
-Usage: bench/refused_memory.py [EXAMPLE..]      (all scripts of examples/, and a server, without a word; `server` alone is the server)
+Usage: bench/refused_memory.py [EXAMPLE..]      (all scripts of examples/, and two servers, without a word; `server` is the one without options,
+                                                and `server-redo` the one whose drains go through a log)
 
 A library that stands before `malloc` and its kin (`bench/refuse_c.c`, for which a C compiler is needed) refuses the first request of a run, in the
 next run the second, and so on, until a run makes no more. A run of a script has to end by itself
@@ -17,8 +18,8 @@ and a run of a server, which takes two lines, answers a question and a request f
   by fault   a reply is 500, or status 5, as above
   unserved   the requests wait for the one renderer until the server is stopped, which drains all, with status 0: there was no memory for its thread
 
-After each run a second one over the same folder has to find its files whole. What ends in another way is told, and makes the exit status 1. Run
-./carbon build first.
+After each run a second one over the same folder has to find its files whole, and behind a server to show just what its last line told as stored where
+that ended with status 0, and else a front of the two points. What ends in another way is told, and makes the exit status 1. Run ./carbon build first.
 """
 import contextlib
 import glob
@@ -145,13 +146,31 @@ def judge_server(status, replies, allowed, last, said):
     return None
 
 
-def run_server(library, number):
+def shown_later(place, query, moment):
+    """What a run over what a server left shows of its metric; None where its files are not whole."""
+    text = b"!clock %d\n!ask %s\n" % (moment, query)
+    ran = subprocess.run([PROGRAM, "script"], input=text, cwd=place, capture_output=True, timeout=60)
+    if ran.returncode:
+        return None
+    shown = b"".join(ran.stdout.splitlines(keepends=True)[:-1])
+    return b"" if shown == b"\n" else shown
+
+
+def may_show(status, last, fronts):
+    """What a later run may show: just what the last line tells as stored where the server ended well, and else any front. `fronts` begins with both."""
+    stored = re.match(rb"stored ([012]) ", last)
+    if status == 0:
+        return [fronts[2 - int(stored[1])]] if stored else []
+    return fronts
+
+
+def run_server(library, number, options):
     now = int(time.time()) // 60 * 60 - 60
     ends = now - 60, now + 60
     allowed = [(b"a.b,%d,%d,60|1.5,2.5\n" % ends, b"a.b,%d,%d,60|1.5,None\n" % ends, b""), (b'["a.b"]', b"[]")]
     with tempfile.TemporaryDirectory() as beside, folder() as place:
         refusing = Refusing(library, beside, number)
-        words = [PROGRAM, "serve", "--line-port", "0", "--http-port", "0", "--receivers", "1", "--renderers", "1"]
+        words = [PROGRAM, "serve", "--line-port", "0", "--http-port", "0", "--receivers", "1", "--renderers", "1", *options]
         told = open(os.path.join(beside, "said"), "w+b")
         process = subprocess.Popen(words, cwd=place, env=refusing.words, stdin=subprocess.PIPE, stdout=subprocess.PIPE, stderr=told)
         ports, replies = None, []
@@ -160,9 +179,9 @@ def run_server(library, number):
             if ports or process.poll() is not None:
                 break
             time.sleep(0.005)
+        query = b"target=a.b&from=%d&until=%d&format=raw" % (now - 120, now)
         if ports:
             send(int(ports[1]), b"a.b 1.5 %d\na.b 2.5 %d\n" % (now - 60, now))
-            query = b"target=a.b&from=%d&until=%d&format=raw" % (now - 120, now)
             replies.append(exchange(int(ports[2]), b"GET /render?%s HTTP/1.0\r\n\r\n" % query))
             replies.append(exchange(int(ports[2]), b"GET /metrics/index.json HTTP/1.0\r\n\r\n"))
         try:
@@ -171,7 +190,7 @@ def run_server(library, number):
             process.kill()
             out, _ = process.communicate()
         last = (out.splitlines() or [b""])[-1]
-        return refusing.came(), process.returncode, replies, allowed, last, said(told), is_sound(place)
+        return refusing.came(), process.returncode, replies, allowed, last, said(told), shown_later(place, query, now + 60)
 
 
 def said(file):
@@ -179,13 +198,14 @@ def said(file):
     return file.read()
 
 
-def try_server(library):
+def try_server(library, name, options=()):
     def once(number):
-        came, status, replies, allowed, last, told, sound = run_server(library, number)
-        kind = judge_server(status, replies, allowed, last, told) if sound else None
-        return came, kind, "status %d, %s, %r, %r, standard error %r" % (status, "sound files" if sound else "damaged files", replies, last, told[-200:])
+        came, status, replies, allowed, last, told, later = run_server(library, number, options)
+        kind = judge_server(status, replies, allowed, last, told)
+        kind = kind if later in may_show(status, last, allowed[0]) else None
+        return came, kind, "status %d, %r, %r, later %r, standard error %r" % (status, replies, last, later, told[-200:])
 
-    return try_each("server", once)
+    return try_each(name, once)
 
 
 # ----
@@ -213,10 +233,11 @@ def try_each(name, once):
 
 def main():
     need_program()
-    names = sys.argv[1:] or [*sorted(glob.glob(os.path.join(TOP, "examples", "*.txt"))), "server"]
+    servers = {"server": [], "server-redo": ["--redo"]}
+    names = sys.argv[1:] or [*sorted(glob.glob(os.path.join(TOP, "examples", "*.txt"))), *servers]
     with tempfile.TemporaryDirectory() as place:
         library = built(place)
-        fine = [try_server(library) if name == "server" else try_script(library, name) for name in names]
+        fine = [try_server(library, name, servers[name]) if name in servers else try_script(library, name) for name in names]
     sys.exit(0 if all(fine) else 1)
 
 

@@ -10,6 +10,7 @@ Runs `carbon serve` over a folder on the disk of /tmp and checks, over its ports
   series     a question that finds 10,000 series, and one that finds 10,001, which is refused in words
   values     a question for nearly 4,000,000 values, in each of the three forms
   head       a question whose head has 16,384 bytes
+  form       a question in a form, whose target has 16,384 bytes, and one whose target has a byte more, which is refused in words
   eight      eight questions at once for nearly 4,000,000 values each, of one series and of 10,000, as JSON, and the most memory that they took beyond
              what the daemon held before: alone, and the eight together
   again      a second daemon over the same folder finds all names by their files
@@ -93,9 +94,9 @@ class Daemon:
             link.shutdown(socket.SHUT_WR)
             link.recv(1)
 
-    def get(self, target, want=200):
+    def get(self, target, want=200, form=None):
         link = http.client.HTTPConnection("127.0.0.1", self.http, timeout=600)
-        link.request("GET", target)
+        link.request("GET" if form is None else "POST", target, form)
         reply = link.getresponse()
         body = reply.read()
         link.close()
@@ -159,6 +160,15 @@ def ask_long(daemon):
     room = 16_384 - len("GET  HTTP/1.1\r\nHost: 127.0.0.1:%d\r\nAccept-Encoding: identity\r\n\r\n" % daemon.http) - len(front)
     names = "group(" + ",".join("many.b0000.m%03d" % (k % 1000) for k in range(room // 16 - 1)) + ")"
     need("series of a long head", len(daemon.get(front + names + "&" * (room - len(names))).splitlines()), names.count("many"))
+
+
+def ask_form(daemon):
+    names = ["many.b0000.m%03d" % (k % 1000) for k in range(1_023)]
+    target = ("group(%s)" % ",".join(names)).ljust(16_384)
+    rest = "&from=-3min&format=raw"
+    need("series of a long target", len(daemon.get("/render", form="target=" + target.replace(" ", "+") + rest).splitlines()), len(names))
+    said = daemon.get("/render", 400, "target=" + target.replace(" ", "+") + "+" + rest)
+    need("a target of 16,385 bytes", said, b"target 1: too long\n")
 
 
 def at_once(count, ask):
@@ -256,6 +266,8 @@ def show_all(daemon, count, shown):
     shown("values")
     ask_long(daemon)
     shown("head")
+    ask_form(daemon)
+    shown("form")
     ask_eight(daemon)
     shown("eight")
     daemon.stop()

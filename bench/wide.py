@@ -10,10 +10,15 @@ once all of one node. Then each of these is asked, alone and while another clien
   braces     `{` and 400 times `*w*e*b*x`, each with another ending, `}` for a node: 4,000 bytes
   a head     three targets of such globs, which differ: about the most that a head of 16,384 bytes holds
   a form     128 targets of such globs, which differ, in a form of half a megabyte
-  left       the form again, whose client leaves at once: how long the daemon goes on computing
+  names      the same globs as queries of `/metrics/expand`
+  expand     one short glob that finds all names, 128 times as a query of it, by a GET of some two kilobytes
+  functions  `integral` thirty times in itself over 300 series of a week, three million values
+  patterns   16 targets, each with `grep` thirty times in itself over these series, of a pattern whose states take more than half of what they may
+  left       the last five again, whose client leaves at once: how long the daemon goes on computing
 
 Printed are the status, the seconds until the answer and those of the processor, with no other client; and the longest time that another client waits
-for one of its answers while the question is asked once more: it takes the same locks as a line's point, and more. Nothing timed here is a test. Run
+for one of its answers while the question is asked once more: it takes the same locks as a line's point, and more. That a form over 100,000 names or
+more is refused, and that a head over as many or fewer is answered within two seconds, is all that is checked; nothing else timed here is a test. Run
 ./carbon build first.
 """
 import http.client
@@ -44,6 +49,20 @@ def braces(salt):
     return "{" + ",".join("*w*e*b*%c%c" % (97 + (salt + k) % 26, 97 + (salt + k // 26) % 26) for k in range(390)) + "}"
 
 
+def integrals(some):
+    return "integral(" * 30 + "isNonNull(" + some + ")" * 31
+
+
+def greps(some):
+    """One that keeps all series, each of which has an `e` in its name."""
+    return "grep(" * 30 + some + r",'[a-z]\w{40}|e')" * 30
+
+
+def query_of(targets, way, since):
+    field = "target" if way == "/render" else "query"
+    return urllib.parse.urlencode([(field, target) for target in targets] + [("from", since), ("format", "raw")], safe="{},*.")
+
+
 class Daemon:
     def __init__(self, place):
         self.process = subprocess.Popen(
@@ -68,25 +87,25 @@ class Daemon:
             link.shutdown(socket.SHUT_WR)
             link.recv(1)
 
-    def ask(self, globs, method="GET"):
-        query = urllib.parse.urlencode([("target", glob) for glob in globs] + [("from", "-5min"), ("format", "raw")], safe="{},*.")
-        link = http.client.HTTPConnection("127.0.0.1", self.http, timeout=300)
+    def ask(self, targets, method="GET", way="/render", since="-5min"):
+        query = query_of(targets, way, since)
+        link = http.client.HTTPConnection("127.0.0.1", self.http, timeout=600)
         begun = time.perf_counter()
         if method == "GET":
-            link.request("GET", "/render?" + query)
+            link.request("GET", way + "?" + query)
         else:
-            link.request("POST", "/render", query, {"Content-Type": "application/x-www-form-urlencoded"})
+            link.request("POST", way, query, {"Content-Type": "application/x-www-form-urlencoded"})
         reply = link.getresponse()
         count = len(reply.read().splitlines())
         link.close()
         return reply.status, count, time.perf_counter() - begun
 
-    def leave(self, globs):
+    def leave(self, targets, way, since):
         """Asks and leaves at once: how long the processor still works."""
-        query = urllib.parse.urlencode([("target", glob) for glob in globs], safe="{},*.").encode()
-        head = b"POST /render HTTP/1.1\r\nHost: a\r\nContent-Type: application/x-www-form-urlencoded\r\nContent-Length: %d\r\n\r\n" % len(query)
+        query = query_of(targets, way, since)
+        head = "POST %s HTTP/1.1\r\nHost: a\r\nContent-Type: application/x-www-form-urlencoded\r\nContent-Length: %d\r\n\r\n" % (way, len(query))
         link = socket.create_connection(("127.0.0.1", self.http))
-        link.sendall(head + query)
+        link.sendall((head + query).encode())
         link.close()
         begun, last, at = time.perf_counter(), self.seconds(), time.perf_counter()
         while time.perf_counter() - at < 0.3:
@@ -125,31 +144,51 @@ class Other(threading.Thread):
         return self.longest
 
 
-def measure(shape, names, usual, front, back):
+def check(what, count, status, seconds):
+    """What has to be so over so many names, on whatever machine."""
+    if what == "a form" and count >= 100_000 and status != 503:
+        sys.exit("a form was answered by %d" % status)
+    if what in ("usual", "braces", "a head") and count <= 100_000 and (status != 200 or seconds > 2):
+        sys.exit("%s: %d after %.1f seconds" % (what, status, seconds))
+
+
+def measure(shape, names, usual, front, back, every, some):
     hostile = [front + braces(salt) + back for salt in range(128)]
+    questions = [
+        ("usual", [usual], "GET", "/render", "-5min"),
+        ("braces", hostile[:1], "GET", "/render", "-5min"),
+        ("a head", hostile[:3], "GET", "/render", "-5min"),
+        ("a form", hostile, "POST", "/render", "-5min"),
+        ("names", hostile, "POST", "/metrics/expand", "-5min"),
+        ("expand", [every] * 128, "GET", "/metrics/expand", "-5min"),
+        ("functions", [integrals(some)], "POST", "/render", "-7d"),
+        ("patterns", [greps(some)] * 16, "POST", "/render", "-5min"),
+    ]
     with folder() as place:
         daemon = Daemon(place)
         daemon.put(names)
-        for what, globs, method in (("usual", [usual], "GET"), ("braces", hostile[:1], "GET"), ("a head", hostile[:3], "GET"), ("a form", hostile, "POST")):
+        for what, targets, method, way, since in questions:
             before = daemon.seconds()
-            status, count, seconds = daemon.ask(globs, method)
+            status, count, seconds = daemon.ask(targets, method, way, since)
             spent = daemon.seconds() - before
+            check(what, len(names), status, seconds)
             other = Other(daemon, names[0])
             time.sleep(0.2)
-            daemon.ask(globs, method)
+            daemon.ask(targets, method, way, since)
             told = shape, what, status, count, seconds, spent, 1000 * other.end()
-            print("%-9s %-7s %d, %d series, %.3f s (%.3f of the processor), the other waited %.1f ms" % told, flush=True)
-        before = daemon.seconds()
-        took = daemon.leave(hostile)
-        print("%-9s %-7s computed on for %.2f s (%.2f of the processor)" % (shape, "left", took, daemon.seconds() - before), flush=True)
+            print("%-9s %-9s %d, %d lines, %.3f s (%.3f of the processor), the other waited %.1f ms" % told, flush=True)
+        for what, targets, _, way, since in questions[3:]:
+            before = daemon.seconds()
+            took = daemon.leave(targets, way, since)
+            print("%-9s %-9s left: computed on for %.2f s (%.2f of the processor)" % (shape, what, took, daemon.seconds() - before), flush=True)
         daemon.stop()
 
 
 def main():
     need_program()
     count = int(sys.argv[1]) if len(sys.argv) > 1 else 100_000
-    measure("branches", branches(count), "servers.*.m01", "servers.", ".m01")
-    measure("one node", nodes(count), "web00001*", "", "")
+    measure("branches", branches(count), "servers.*.m01", "servers.", ".m01", "servers.*.*", "servers.web000[0-2].m*")
+    measure("one node", nodes(count), "web00001*", "", "", "*", "web0000[0-2]*")
 
 
 main()

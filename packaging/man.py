@@ -89,7 +89,7 @@ def page():
 def missing_options():
     """The options of the program that no help names, and those in a help that the program does not have."""
     with open(WORDS) as file:
-        known = set(re.findall(r'(?:option|repeatable)\(alloc, "([a-z-]+)"\)', file.read()))
+        known = set(re.findall(r'(?:option|repeatable|flag)\(alloc, "([a-z-]+)"\)', file.read()))
     named = set(re.findall(r"^  --([a-z-]+)", "".join(told("help", command) for command in COMMANDS), re.MULTILINE))
     return sorted(known - named), sorted(named - known)
 

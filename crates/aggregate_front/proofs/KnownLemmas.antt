@@ -1,7 +1,8 @@
 -- The outputs of the paths that are known.
-use Rattle.std.proofs.Common.{◌≡◌, ◌∙◌, ◌⊎◌, inl, inr, ◌+◌, ◌<◌, ◌≤◌, ℕ, suc, Bool, true, false, cond, not, List, [], ◌∷◌, ◌++◌, Option, None, Some, add-one, drop, drop-cons, get_or, length, option_map, position, slice_get, refl, sym, ap, subst, arith}
-use Rattle.std.proofs.lemmas.List.{append-nil, drop_all}
+use Rattle.std.proofs.Common.{◌≡◌, ◌∙◌, ◌⊎◌, inl, inr, ◌+◌, ◌<◌, ℕ, zero, suc, Bool, true, false, cond, if◌then◌else◌, not, List, [], ◌∷◌, ◌++◌, Option, None, Some, drop, get_or, length, option_map, position, slice_get, refl, sym, ap, subst, arith}
+use Rattle.std.proofs.Math.Seq.{drop-nil}
 use Rattle.std.proofs.lemmas.List.Elements.{All-head, All-nil, All-push, All-tail}
+use Rattle.std.proofs.lemmas.Option.{slice_get_read}
 use Rattle.std.proofs.lemmas.Slice.Eq.{bytes_eq-Decides}
 use Rattle.std.specs.List.{position_or_len}
 use Rattle.std.specs.Map.{keys_of, lookup}
@@ -11,25 +12,54 @@ use Rattle.indexmap.specs.IndexMap.{insert_entry}
 use Rattle.indexmap.proofs.MapLemmas.{Found-position, absent_from_lookup, insert_entry-absent}
 use Rattle.aggregate_rules.specs.RuleTexts.{RuleValue}
 use Rattle.aggregate_rules.specs.Readings.{output_path}
+use Rattle.aggregate_rules.specs.RulePlaces.{class_of_path, may_fit, places_for, places_from}
+use Rattle.aggregate_rules.proofs.ClassLemmas.{no_output}
 use Rattle.aggregate_front.specs.Fitting.{HitValue, hit_of, hits_from, hits_of}
 use Rattle.aggregate_front.specs.Emitting.{Knows}
 
--- the output of one rule more
-pub hits_step : (place : ℕ) (rules : List RuleValue) (path : List ℕ) (rule : RuleValue) → place < length rules → rule ≡ get_or rules place rule
-    → hits_from place (drop place rules) path ≡ option_to_list (option_map (hit_of place rule) (output_path rule path)) ++ hits_from (place + 1) (drop (place + 1) rules) path
-unfolding hits_from
-hits_step place rules path rule lt is =
-    let cut : drop place rules ≡ rule ∷ drop (place + 1) rules = rw (add-one, drop-cons rules place rule) (ap (λ r. r ∷ drop (suc place) rules) (sym is)) in
-    rw cut (by (output_path rule path))
-  where
-    by : (o : Option (List ℕ)) → option_map_or (λ output. hit_of place rule output ∷ hits_from (place + 1) (drop (place + 1) rules) path) o (hits_from (place + 1) (drop (place + 1) rules) path)
-        ≡ option_to_list (option_map (hit_of place rule) o) ++ hits_from (place + 1) (drop (place + 1) rules) path
-    by None = refl
-    by (Some output) = refl
+-- the output of the rule at a place, where there is one
+abbrev pub hit_at : List RuleValue → List ℕ → ℕ → List HitValue
+hit_at rules path place = option_map_or (λ rule. option_to_list (option_map (hit_of place rule) (output_path rule path))) (slice_get rules place) []
 
-pub no_hits : (place : ℕ) (rules : List RuleValue) (path : List ℕ) (hits : List HitValue) → length rules ≤ place → hits ++ hits_from place (drop place rules) path ≡ hits
+-- the outputs of the rules at these places
+abbrev pub hits_at : List RuleValue → List ℕ → List ℕ → List HitValue
+hits_at rules path [] = []
+hits_at rules path (place ∷ places) = hit_at rules path place ++ hits_at rules path places
+
+get_cut : (rules : List RuleValue) (place : ℕ) (rule : RuleValue) (rest : List RuleValue) → drop place rules ≡ rule ∷ rest → (slice_get rules place ≡ Some rule) × (drop (place + 1) rules ≡ rest)
+get_cut [] place rule rest cut = let none = drop-nil {A = RuleValue} place in absurd cc
+get_cut (r ∷ rs) zero rule rest cut = let same : r ≡ rule = cc in let behind : rs ≡ rest = cc in (rw same refl, behind)
+get_cut (r ∷ rs) (suc place) rule rest cut =
+    let more = get_cut rs place rule rest cut in
+    let next : suc place + 1 ≡ suc (place + 1) = omega arith in
+    (more.0, rw next more.1)
+
+-- the outputs of the rules from a place on are those of the ones that may have one
+hits_among : (rules : List RuleValue) (path : List ℕ) (place : ℕ) (rest : List RuleValue) → drop place rules ≡ rest
+    → hits_from place rest path ≡ hits_at rules path (places_from (may_fit (class_of_path path)) place rest)
 unfolding hits_from
-no_hits place rules path hits le = ap (λ (rs : List RuleValue). hits ++ hits_from place rs path) (drop_all place rules le) ∙ append-nil hits
+hits_among rules path place [] cut = refl
+hits_among rules path place (rule ∷ rest) cut =
+    let here = get_cut rules place rule rest cut in by (may_fit (class_of_path path) rule) refl here.0 (hits_among rules path (place + 1) rest here.1)
+  where
+    joined : (o : Option (List ℕ)) (hits : List HitValue) → option_map_or (λ output. hit_of place rule output ∷ hits) o hits ≡ option_to_list (option_map (hit_of place rule) o) ++ hits
+    joined None hits = refl
+    joined (Some output) hits = refl
+
+    by : (b : Bool) → may_fit (class_of_path path) rule ≡ b → slice_get rules place ≡ Some rule
+        → hits_from (place + 1) rest path ≡ hits_at rules path (places_from (may_fit (class_of_path path)) (place + 1) rest)
+        → option_map_or (λ output. hit_of place rule output ∷ hits_from (place + 1) rest path) (output_path rule path) (hits_from (place + 1) rest path)
+        ≡ hits_at rules path (if b then place ∷ places_from (may_fit (class_of_path path)) (place + 1) rest else places_from (may_fit (class_of_path path)) (place + 1) rest)
+    by true fits at more = rw (at, more) (joined (output_path rule path) (hits_at rules path (places_from (may_fit (class_of_path path)) (place + 1) rest)))
+    by false not at more = rw (no_output rule path not) more
+
+pub hits_are_at : (rules : List RuleValue) (path : List ℕ) → hits_of rules path ≡ hits_at rules path (places_for rules path)
+hits_are_at rules path = hits_among rules path 0 rules refl
+
+-- the output of one place more
+pub hits_step : (rules : List RuleValue) (path : List ℕ) (place : ℕ) (places : List ℕ) (rule : RuleValue) → place < length rules → rule ≡ get_or rules place rule
+    → hits_at rules path (place ∷ places) ≡ option_to_list (option_map (hit_of place rule) (output_path rule path)) ++ hits_at rules path places
+hits_step rules path place places rule lt is = rw (slice_get_read rules (length rules) place rule refl lt is) refl
 
 abbrev Paths : Type 0
 Paths = List (List ℕ × List HitValue)

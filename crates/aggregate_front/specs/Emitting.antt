@@ -42,6 +42,10 @@ points_held outputs = sum_by (λ output. points_open output.1) outputs
 
 -- ---- which points are passed over
 
+-- what is held for one link at most
+abbrev pub link_limits : Limits
+link_limits = record { outputs = 20000; points = 1000000 }
+
 -- whether one more point may be held, and the output is there or one more may be
 abbrev pub has_room : Limits → Outputs → HitValue → Bool
 has_room limits outputs hit =

@@ -44,13 +44,12 @@ impl<'a> Model for Aggregator<'a> {
 
 impl<'a> Aggregator<'a> {
     ghost use Rattle.metric_line.specs.Seen.{seen};
-    ghost use Rattle.aggregate_front.specs.Emitting.{Feeds, at_end};
-    ghost use Rattle.aggregate_front.specs.declared.aggregator.TheConstants.{LINK_LIMITS};
+    ghost use Rattle.aggregate_front.specs.Emitting.{Feeds, at_end, link_limits};
 
     /// Nothing gathered, for the rules of a link.
     pub fn new(alloc: Global, rules: &'a AggRules) -> Result<Aggregator<'a>, AllocError>
         ensures { IfOk result
-            (λ a. a ≡ record { rules = rules.now; limits = LINK_LIMITS; outputs = [] }) }
+            (λ a. a ≡ record { rules = rules.now; limits = link_limits; outputs = [] }) }
     {
         Ok(Aggregator::within(alloc, rules, LINK_LIMITS))
     }
@@ -80,7 +79,7 @@ impl<'a> Aggregator<'a> {
         ensures err { OnErr result (self.new ≡ self.old) }
     {
         let alloc = self.alloc;
-        let rules = self.rules.as_slice();
+        let rules = self.rules;
         let place = self
             .known
             .place_of(alloc, rules, &datum.path, &self.outputs)?;

@@ -9,7 +9,7 @@ ghost use Rattle.aggregate_front.specs.Emitting.{Knows};
 
 use crate::hit::{Hit, OutputKey};
 use crate::outputs::Outputs;
-use aggregate_rules::Rule;
+use aggregate_rules::{AggRules, Rule};
 use indexmap::IndexMap;
 use metric_path::MetricPath;
 use std::alloc::{AllocError, Global};
@@ -37,7 +37,7 @@ impl Hits {
     /// The outputs of a path, with what is held so far.
     fn of(
         alloc: Global,
-        rules: &[Rule],
+        rules: &AggRules,
         path: &MetricPath,
         outputs: &Outputs,
     ) -> Result<Hits, AllocError>
@@ -45,7 +45,9 @@ impl Hits {
     {
         let mut items = Vec::new(alloc);
         let mut next = outputs.len();
-        for (place, rule) in rules.iter().enumerate() {
+        let mut places = rules.places_for(path);
+        while let Some(place) = places.next() {
+            let rule = &rules.as_slice()[place];
             let hit = hit_of(alloc, place, rule, path, outputs, &mut next)?;
             push_hit(&mut items, hit)?;
         }
@@ -127,7 +129,7 @@ impl Known {
     pub(crate) fn place_of(
         &mut self,
         alloc: Global,
-        rules: &[Rule],
+        rules: &AggRules,
         path: &MetricPath,
         outputs: &Outputs,
     ) -> Result<usize, AllocError>
@@ -146,7 +148,7 @@ impl Known {
     fn learn(
         &mut self,
         alloc: Global,
-        rules: &[Rule],
+        rules: &AggRules,
         path: &MetricPath,
         outputs: &Outputs,
     ) -> Result<usize, AllocError>

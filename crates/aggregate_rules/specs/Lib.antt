@@ -1,3 +1,4 @@
 pub mod RuleTexts
 pub mod SeenWords
 pub mod Readings
+pub mod RulePlaces

@@ -8,7 +8,7 @@ use Rattle.std.specs.Str.Parse.{digits_value}
 use Rattle.metric_path.specs.Path.{is_dot, is_node_byte, nodes_of}
 use Rattle.ring_format.specs.declared.archive.Method.{Method}
 use Rattle.ring_format.specs.declared.archive.Method.TheVariants.{Average, Sum, Last, Max, Min}
-use Rattle.schema_rules.specs.RuleLines.{is_blank, is_passed_over, lines_of, without_first_blanks, without_last_blanks}
+use Rattle.rule_lines.specs.TextLines.{is_blank, is_passed_over, lines_of, without_first_blanks, without_last_blanks}
 use Rattle.aggregate_rules.specs.declared.fault.AggCause.{AggCause}
 use Rattle.aggregate_rules.specs.declared.fault.AggCause.TheVariants.{TooLong, Line}
 use Rattle.aggregate_rules.specs.declared.fault.AggFault.{AggFault}

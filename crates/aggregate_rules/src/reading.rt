@@ -77,12 +77,13 @@ fn push_row<'a>(rows: &mut Vec<&'a [u8]>, gap: Gap, row: &'a [u8]) -> Result<(),
 
 // The first node of a path, and what follows its dot, if one does.
 #[derive(Clone, Copy)]
-struct FirstNode<'a> {
-    text: &'a [u8],
-    more: Option<&'a [u8]>,
+pub(crate) struct FirstNode<'a> {
+    pub(crate) text: &'a [u8],
+    pub(crate) more: Option<&'a [u8]>,
 }
 
-fn first_node(text: &[u8]) -> FirstNode<'_>
+/// The first node of a path.
+pub(crate) fn first_node(text: &[u8]) -> FirstNode<'_>
     ensures { nodes_of text.now ≡ result.text.now ∷ left_nodes (option_copied result.more) }
 {
     match next_node(text) {

@@ -1,9 +1,11 @@
 //! A rule.
 ghost use Rattle.std.specs.Prelude.{◌≡◌, ◌<◌, ◌≤◌};
+ghost use Rattle.aggregate_rules.specs.RulePlaces.{class_of_rule, front_classes, front_in, front_of, is_closed};
 
-use crate::node::PatternNode;
+use crate::node::{Gap, PatternNode};
 use crate::output::Output;
 use crate::pattern::Nodes;
+use crate::rule_index::class_of;
 use ring_format::Method;
 use std::marker::Model;
 
@@ -70,5 +72,41 @@ impl Rule {
         ensures { result.now ≡ self.now.nodes }
     {
         self.nodes.as_slice()
+    }
+
+    /// The class of the pattern's first node, or 0 where that has a gap.
+    pub(crate) fn class(&self) -> usize
+        ensures value { result ≡ class_of_rule self.now }
+        ensures within { result < front_classes }
+    {
+        class_of(front_in(self.nodes()))
+    }
+}
+
+// The bytes of the first of some nodes where it has no gap, and else no bytes.
+fn front_in(nodes: &[PatternNode]) -> &[u8]
+    ensures { result.now ≡ front_in nodes.now }
+{
+    match nodes.first() {
+        Some(node) => return front_of(node),
+        None => return &[],
+    }
+}
+
+fn front_of(node: &PatternNode) -> &[u8]
+    ensures { result.now ≡ front_of node.now }
+{
+    if is_closed(node.gap) && node.after.as_slice().is_empty() {
+        return node.before.as_slice();
+    }
+    &[]
+}
+
+fn is_closed(gap: Gap) -> bool
+    ensures { result ≡ is_closed gap }
+{
+    match gap {
+        Gap::Closed => true,
+        _ => false,
     }
 }

@@ -1,12 +1,15 @@
 //! The rules of a file.
-ghost use Rattle.std.specs.Prelude.{◌≡◌, ◌≤◌, Ok, IfOk, IfErr, length};
-ghost use Rattle.aggregate_rules.specs.RuleTexts.{file_rules, line_rules, or_bad_line, IsFaultOf};
+ghost use Rattle.std.specs.Prelude.{◌≡◌, Ok, IfOk, IfErr};
+ghost use Rattle.aggregate_rules.specs.RuleTexts.{file_rules, IsFaultOf};
 
 use crate::fault::{AggCause, AggFault};
-use crate::lines::{is_passed_over, is_text, next_line, without_last_blanks};
+use crate::places::Places;
+use crate::reading::first_node;
 use crate::rule::Rule;
-use crate::rule_text::rule_of;
-use std::alloc::{AllocError, Global};
+use crate::rule_index::{RuleIndex, class_of};
+use crate::rule_list::{RuleList, read_lines};
+use metric_path::MetricPath;
+use std::alloc::Global;
 use std::marker::Model;
 
 // The most bytes of a file.
@@ -15,21 +18,25 @@ const MOST_FILE_BYTES: usize = 1_048_576;
 /// Aggregation rules in the order of their file.
 #[derive(Drop)]
 pub struct AggRules {
-    items: Vec<Rule>,
+    rules: RuleList,
+    index: RuleIndex,
 }
 
 impl Model for AggRules {
     ghost use Rattle.std.specs.Prelude.{List};
     ghost use Rattle.aggregate_rules.specs.RuleTexts.{RuleValue};
+    ghost use Rattle.aggregate_rules.specs.RulePlaces.{IsIndexFrom};
 
     ghost Value = { List RuleValue };
 
-    ghost view = { λ r. r.items.items };
+    ghost view = { λ r. r.rules };
+
+    ghost invariant = { λ r. IsIndexFrom r.rules 0 r.index };
 }
 
 impl AggRules {
-    ghost use Rattle.std.specs.Prelude.{[], Some, None, if◌then◌else◌};
-    ghost use Rattle.aggregate_rules.specs.RuleTexts.{after_line};
+    ghost use Rattle.std.specs.Prelude.{◌≤◌, ◌<◌, ◌+◌, Some, ℕ, length};
+    ghost use Rattle.aggregate_rules.specs.RulePlaces.{IsFirst, front_classes, places_for};
 
     /// Reads `aggregation-rules.conf`, which has at most 1,048,576 bytes. Lines end with a line
     /// feed; a carriage return before it and blanks (space and tab) at the end are dropped, and the
@@ -57,58 +64,51 @@ impl AggRules {
         if text.len() > MOST_FILE_BYTES {
             return Err(AggFault::Fault(AggCause::TooLong));
         }
-        read_lines(alloc, text)
+        match read_lines(alloc, text) {
+            Ok(rules) => return AggRules::of(alloc, rules),
+            Err(fault) => return Err(fault),
+        }
+    }
+
+    // These rules with their index.
+    fn of(alloc: Global, rules: RuleList) -> Result<AggRules, AggFault>
+        ensures rules { IfOk result (λ all. all ≡ rules) }
+        ensures fault { IfErr result (λ fault. fault ≡ AggFault.NoMemory) }
+    {
+        let index = RuleIndex::of(alloc, rules.as_slice())?;
+        Ok(AggRules { rules, index })
     }
 
     /// The rules in their order.
     pub fn as_slice(&self) -> &[Rule]
         ensures { result.now ≡ self.now }
     {
-        self.items.as_slice()
+        self.rules.as_slice()
     }
 
-    // Adds what a line says, from which the blanks at its end were dropped: `false` exactly where
-    // it may not stand there.
-    #[tactic(auto, unfolding(crate::specs::RuleTexts::after_line))]
-    fn take_line(&mut self, alloc: Global, line: &[u8]) -> Result<bool, AllocError>
-        ensures { IfOk result
-            (λ fits. (if fits then Some self.new else None) ≡ after_line self.old line.now) }
+    /// The places of the rules that may have an output for a path: those whose pattern begins with
+    /// a node that has a gap, and those whose first node has the class of the path's. The others
+    /// have none.
+    pub fn places_for(&self, path: &MetricPath) -> Places<'_>
+        ensures { result ≡ places_for self.now path.now }
     {
-        if !is_text(line) {
-            return Ok(false);
-        }
-        if is_passed_over(line) {
-            return Ok(true);
-        }
-        let Some(rule) = rule_of(alloc, line)? else {
-            return Ok(false);
-        };
-        self.items.push(rule)?;
-        Ok(true)
+        Places::of(self, class_of(first_node(path.text()).text))
     }
-}
 
-// The rules of the lines of a file, or the number of the first that may not stand there.
-#[tactic(auto, unfolding(crate::specs::RuleTexts::rules_from))]
-fn read_lines(alloc: Global, file: &[u8]) -> Result<AggRules, AggFault>
-    requires { length file.now ≤ 1048576 }
-    ensures rules { IfOk result (λ rules. or_bad_line (line_rules file.now) ≡ Ok rules) }
-    ensures fault { IfErr result (IsFaultOf (or_bad_line (line_rules file.now))) }
-{
-    let mut rules = AggRules {
-        items: Vec::new(alloc),
-    };
-    let mut number = 1;
-    let mut rest = file;
-    while let Some(line) = next_line(rest) {
-        if !rules.take_line(alloc, without_last_blanks(line.front))? {
-            return Err(AggFault::Fault(AggCause::Line(number)));
-        }
-        number += 1;
-        rest = line.rest;
+    /// The place of the first rule of a class.
+    pub(crate) fn first_of(&self, class: usize) -> Option<usize>
+        requires { class < front_classes }
+        ensures { IsFirst self.now class 0 result }
+    {
+        self.index.first(class)
     }
-    if !rules.take_line(alloc, without_last_blanks(rest))? {
-        return Err(AggFault::Fault(AggCause::Line(number)));
+
+    /// The place of the next rule behind one, of the same class.
+    pub(crate) fn next_of(&self, place: usize) -> Option<usize>
+        requires { place < length self.now }
+        ensures { (class from : ℕ) → from ≤ place → IsFirst self.now class from (Some place)
+            → IsFirst self.now class (place + 1) result }
+    {
+        self.index.next(place)
     }
-    Ok(rules)
 }

@@ -1,14 +1,16 @@
 //! The words of a line that says a rule.
-ghost use Rattle.std.specs.Prelude.{◌≡◌, ◌<◌, ◌≤◌, IfSome, Some, None, option_map, if◌then◌else◌};
+ghost use Rattle.std.specs.Prelude.{◌≡◌, ◌<◌, ◌≤◌, IfSome, Some, None, option_map, position, if◌then◌else◌};
 ghost use Rattle.std.specs.Prelude.{codes};
 ghost use Rattle.std.specs.Str.{bytes_eq};
-ghost use Rattle.aggregate_rules.specs.RuleTexts.{method_of, most_seconds, seconds_in, seconds_of, seconds_within, words_of};
-ghost use Rattle.aggregate_rules.specs.SeenWords.{seen_words};
+ghost use Rattle.rule_lines.specs.TextLines.{is_blank};
+ghost use Rattle.aggregate_rules.specs.RuleTexts.{method_of, most_seconds, seconds_in, seconds_of, seconds_within, word_and_rest, words_of};
+ghost use Rattle.aggregate_rules.specs.SeenWords.{seen_cut, seen_words};
 
-use crate::lines::word_and_rest;
+use crate::cut::Cut;
 use crate::text::is_same;
 use fixed_num::{all_digits, capped_number};
 use ring_format::Method;
+use rule_lines::{is_blank, without_first_blanks};
 
 /// The words of a line: `OUTPUT (SECONDS) = METHOD PATTERN`.
 #[derive(Clone, Copy)]
@@ -40,6 +42,24 @@ pub(crate) fn words_of(line: &[u8]) -> Option<LineWords<'_>>
         method: method.front,
         pattern: method.rest,
     })
+}
+
+// The word at the front of a text, and what stands behind the blanks that follow it: `None` where
+// none follow.
+fn word_and_rest(text: &[u8]) -> Option<Cut<'_>>
+    ensures { option_map seen_cut result ≡ word_and_rest text.now }
+{
+    let at = blank_in(text)?;
+    Some(Cut {
+        front: &text[..at],
+        rest: without_first_blanks(&text[at + 1..]),
+    })
+}
+
+fn blank_in(text: &[u8]) -> Option<usize>
+    ensures { result ≡ position is_blank text.now }
+{
+    text.iter().position(|b| is_blank(*b))
 }
 
 /// Whether a word is `=`.

@@ -13,6 +13,7 @@ use Rattle.ring_format.specs.declared.fault.HeadFault.TheVariants as faults
 use Rattle.ring_format.specs.Head.{head_result}
 use Rattle.ring_format.specs.Patch.{PatchValue}
 use Rattle.ring_archive.specs.Ring.{IsRingFile, bare, value_of}
+use Rattle.redo_log.specs.Steps.{gate_name, log_name}
 use Rattle.carbon_model.specs.State.{Kept, State}
 
 -- a path that may have a file on the disk of a class
@@ -56,11 +57,12 @@ SameKept (Some a) (Some b) =
     × ((i bucket : ℕ) → a.rings i bucket ≡ b.rings i bucket)
 
 -- The disk of a class stands for what is kept: each path of the class has there what is kept of it, no file of the class is damaged, and
--- every other file is as it was at the opening.
+-- every other file, but the log of drains and its gate, is as it was at the opening.
 pub record Stands (opening now : Image) (kept : List ℕ → Option Kept) (class : ℕ) : Type 0 where
   pub rings : (path : List ℕ) → IsOfClass class path → SameKept (kept_on now path) (kept path)
   pub sound : (path : List ℕ) → IsOfClass class path → IfSome (now (file_name_of path)) (λ file. is_sound file ≡ true)
-  pub others : (name : List ℕ) → ((path : List ℕ) → IsOfClass class path → file_name_of path ≢ name) → now name ≡ opening name
+  pub others : (name : List ℕ) → name ≢ log_name → name ≢ gate_name
+      → ((path : List ℕ) → IsOfClass class path → file_name_of path ≢ name) → now name ≡ opening name
 
 -- ---- under a patch
 
@@ -88,7 +90,8 @@ pub record StandsUnder (opening now : Image) (shelf : Option PatchValue) (kept :
   pub sound : (path : List ℕ) → IsOfClass class path → is_patched shelf path ≡ false
       → IfSome (now (file_name_of path)) (λ file. is_sound file ≡ true)
   pub patched : IfSome shelf (λ patch. patch.fresh ≡ false → IsSomeAnd (now (file_name_of patch.path)) (IsRingFile patch.layout))
-  pub others : (name : List ℕ) → ((path : List ℕ) → IsOfClass class path → file_name_of path ≢ name) → now name ≡ opening name
+  pub others : (name : List ℕ) → name ≢ log_name → name ≢ gate_name
+      → ((path : List ℕ) → IsOfClass class path → file_name_of path ≢ name) → now name ≡ opening name
 
 -- ---- the opening
 

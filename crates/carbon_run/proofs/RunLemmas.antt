@@ -1,12 +1,11 @@
 -- From a store that was closed to the end of a run.
-use Rattle.std.proofs.Common.{◌≡◌, ◌⊎◌, inl, inr, ◌∙◌, ℕ, zero, suc, ◌+◌, ◌<◌, ◌≤◌, ◌==◌, true, List, [], ◌∷◌, ◌++◌, length, map, Option, Some, None, IfSome, option_map, refl, sym, ap, subst, arith, append_assoc, length-append}
+use Rattle.std.proofs.Common.{◌≡◌, ◌⊎◌, inl, inr, ◌∙◌, ℕ, zero, suc, ◌+◌, ◌<◌, ◌≤◌, ◌==◌, Bool, true, List, [], ◌∷◌, ◌++◌, length, map, Option, Some, None, IfSome, option_map, refl, sym, ap, subst, arith, append_assoc, length-append}
 use Rattle.std.specs.Prelude.{count_by, filter, option_and_then, slice_get}
 use Rattle.std.specs.Option.{option_map_or}
 use Rattle.std.proofs.lemmas.Bool.Decides.{eqb_tells}
 use Rattle.std.proofs.lemmas.List.Elements.{filter-append}
 use Rattle.std.proofs.lemmas.List.Sums.{length-filter}
 use Rattle.std.proofs.lemmas.Option.{none-some, slice_get-map, slice_get_within}
-use mathlib.Core.Path.{fun_ext}
 use Rattle.outside_io.specs.Image.{Image, WhereKnown}
 use Rattle.outside_io.specs.Faults.{Rose}
 use Rattle.outside_io.specs.declared.disk.Disk.{Ghosts}
@@ -18,12 +17,14 @@ use Rattle.ring_format.specs.Patch.{PatchValue}
 use Rattle.carbon_model.specs.State.{Kept, State}
 use Rattle.carbon_model.specs.RingFiles.{Settings, Stands, StandsUnder}
 use Rattle.carbon_model.specs.Replay.{IsLegalHistory, replay}
+use Rattle.shard_core.specs.Opened.{IsOpening, StillOpens}
 use Rattle.shard_core.specs.declared.fault.StartFault.TheVariants.{NoMemory}
 use Rattle.shard_core.specs.declared.shard.Shard.{Shard}
 use Rattle.shard_set.specs.Disks.{disk_faults, faults_at, told_at, told_of}
 use Rattle.shard_set.specs.Opening.{StartsAll}
 use Rattle.shard_core.specs.Started.{AreReadyShards}
 use Rattle.shard_set.specs.OpeningState.{opening_of}
+use Rattle.shard_set.proofs.OpeningLemmas.{opens_known}
 use Rattle.shard_set.proofs.StateLemmas.{opens_run}
 use Rattle.shared_history.specs.Parts.{HasSeen, PassValue, PassesOfTable}
 use Rattle.shared_store.specs.Closes.{Closes, EndsAs, HasSettled}
@@ -287,15 +288,21 @@ pub length_back : {D : Type 0} {d : Ghosts D} (shards : List (Shard D d)) → le
 length_back [] = refl
 length_back (shard ∷ shards) = ap suc (length_back shards)
 
+-- they open as they did
+pub back_opens : {D : Type 0} {d : Ghosts D} (given back : List D) (shards : List (Shard D d)) → back ≡ map (λ shard. shard.files.disk) shards → ((k : ℕ) → WhereKnown (told_of d.image given k) (told_at shards k) IsOpening)
+    → (k : ℕ) → WhereKnown (told_of d.image given k) (told_of d.image back k) StillOpens
+back_opens {d = d} given back shards is opening k = opens_known (told_of d.image given k) (told_of d.image back k)
+    (subst (λ (o : Option Image). WhereKnown (told_of d.image given k) o IsOpening) (sym (ap (λ (ds : List _). told_of d.image ds k) is ∙ back_same shards k)) (opening k))
+
 -- shards of these disks started: memory runs out for their history, or the script runs
-pub started : {D : Type 0} {d : Ghosts D} (settings : Settings) (given : List D) (shards : List (Shard D d)) (streams : Streams) (answer : Answer D) → StartsAll settings given shards
+pub started : {D : Type 0} {d : Ghosts D} (settings : Settings) (redo : Bool) (given : List D) (shards : List (Shard D d)) (streams : Streams) (answer : Answer D) → StartsAll settings redo given shards
     → RunsShards (told_at shards) (opening_of shards) (faults_at shards) shards streams answer → NoStart d streams given answer ⊎ Scripted d settings streams given answer
-started {d = d} settings given shards streams answer starts (inl lacks) = inl (record {
+started {d = d} settings redo given shards streams answer starts (inl lacks) = inl (record {
   refusal = record { class = 0; fault = NoMemory };
   refuses = record {
     class = omega arith;
     all = ap (λ (ds : List _). length ds) lacks.disks ∙ (length_back shards ∙ starts.all);
-    same = λ k. ap (λ (ds : List _). told_of d.image ds k) lacks.disks ∙ (back_same shards k ∙ starts.same k);
+    opens = back_opens given answer.disks shards lacks.disks starts.opening;
     damaged = tt;
     below = λ k few. absurd (omega (arith, few));
     cause = λ failed. absurd failed;
@@ -304,15 +311,16 @@ started {d = d} settings given shards streams answer starts (inl lacks) = inl (r
   history = lacks.history;
   input = lacks.input;
 })
-started {d = d} settings given shards streams answer starts (inr came) = inr (record {
+started {d = d} settings redo given shards streams answer starts (inr came) = inr (record {
+  told = told_at shards;
+  opening = starts.opening;
   sound = starts.sound;
   start = opening_of shards;
-  opens = opens_run settings (told_of d.image given) given shards starts.all starts.each (λ k. refl);
-  came = came_earlier d (told_of d.image given) (opening_of shards) (faults_at shards) (disk_faults d.faults given) streams answer starts.later
-      (subst (λ (told : ℕ → Option Image). CameTo d told (opening_of shards) (faults_at shards) streams answer) (fun_ext starts.same) came);
+  opens = opens_run settings redo (told_at shards) given shards starts.all starts.each (λ k. refl);
+  came = came_earlier d (told_at shards) (opening_of shards) (faults_at shards) (disk_faults d.faults given) streams answer starts.later came;
 })
 
 -- shards that are ready are those that a store starts from
 pub fresh_from : {D : Type 0} {d : Ghosts D} (told : ℕ → Option Image) (start : State) (earlier : ℕ → ℕ) (shards : List (Shard D d)) → AreReadyShards told start earlier shards → AreReadyShards told start earlier shards
 fresh_from told start earlier shards ready k shard there =
-    let one = ready k shard there in record { class = one.class; empty = one.empty; holds = one.holds; faults = one.faults }
+    let one = ready k shard there in record { class = one.class; empty = one.empty; idle = one.idle; holds = one.holds; faults = one.faults }

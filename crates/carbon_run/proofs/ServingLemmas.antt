@@ -1,7 +1,6 @@
 -- From shards that started to the end of a server.
-use Rattle.std.proofs.Common.{◌≡◌, ◌⊎◌, inl, inr, ◌∙◌, ℕ, ◌<◌, ◌≤◌, List, [], length, map, Option, None, Some, refl, sym, ap, subst, arith}
+use Rattle.std.proofs.Common.{◌≡◌, ◌⊎◌, inl, inr, ◌∙◌, ℕ, ◌<◌, ◌≤◌, Bool, List, [], length, map, Option, None, Some, IfSome, refl, sym, ap, subst, arith}
 use Rattle.std.specs.Prelude.{count_by, slice_get}
-use mathlib.Core.Path.{fun_ext}
 use Rattle.outside_io.specs.Image.{Image}
 use Rattle.outside_io.specs.Faults.{Rose}
 use Rattle.outside_io.specs.Frames.{CountsWrites}
@@ -11,6 +10,7 @@ use Rattle.carbon_history.specs.declared.entry.Entry.{Entry}
 use Rattle.carbon_history.specs.Entries.{about_class}
 use Rattle.carbon_model.specs.State.{State}
 use Rattle.carbon_model.specs.RingFiles.{Settings}
+use Rattle.shard_core.specs.Opened.{IsSoundDisk}
 use Rattle.shard_core.specs.declared.fault.StartFault.TheVariants.{NoMemory}
 use Rattle.shard_core.specs.declared.shard.Shard.{Shard}
 use Rattle.shard_set.specs.Disks.{disk_faults, faults_at, told_at, told_of}
@@ -26,7 +26,7 @@ use Rattle.carbon_serve.specs.Courses.{Staff}
 use Rattle.carbon_serve.specs.Serves.{EndsByFault, EndsServed, Serves}
 use Rattle.carbon_run.specs.Runs.{Answer, NoStart, Streams}
 use Rattle.carbon_run.specs.Serves.{LacksPort, NoPort, ServeRuns, Served, ServesAll, ServesShards, TellsServed, unread}
-use Rattle.carbon_run.proofs.RunLemmas.{back_same, length_back, less_rose, less_told}
+use Rattle.carbon_run.proofs.RunLemmas.{back_opens, back_same, length_back, less_rose, less_told}
 
 -- ---- earlier counts of failed calls
 
@@ -76,25 +76,25 @@ serves_earlier {D} d staff told start earlier earlier' streams answer later all 
 
 -- ---- from the shards to the disks that were given
 
-pub served_over : {D E L : Type 0} {d : Ghosts D} (net_faults : E → ℕ) (net net' : E) (settings : Settings) (given : List D) (shards : List (Shard D d)) (staff : Staff L) (streams : Streams) (answer : Answer D)
-    → StartsAll settings given shards
+pub served_over : {D E L : Type 0} {d : Ghosts D} (net_faults : E → ℕ) (net net' : E) (settings : Settings) (redo : Bool) (given : List D) (shards : List (Shard D d)) (staff : Staff L) (streams : Streams) (answer : Answer D)
+    → StartsAll settings redo given shards
     → LacksPort net_faults net net' shards streams answer ⊎ ServesShards staff (told_at shards) (opening_of shards) (faults_at shards) shards streams answer
     → ServeRuns d net_faults net net' settings staff streams given answer
-served_over {d = d} net_faults net net' settings given shards staff streams answer starts (inl lacks) = inr (inl (record {
+served_over {d = d} net_faults net net' settings redo given shards staff streams answer starts (inl lacks) = inr (inl (record {
   cause = lacks.cause;
   tells = lacks.tells;
-  sound = starts.sound;
+  sound = λ k few. subst (λ (o : Option Image). IfSome o (IsSoundDisk k)) (sym (ap (λ (ds : List _). told_of d.image ds k) lacks.disks ∙ back_same shards k)) (starts.sound k few);
   sixteen = ap (λ (ds : List _). length ds) lacks.disks ∙ (length_back shards ∙ starts.all);
-  same = λ k. ap (λ (ds : List _). told_of d.image ds k) lacks.disks ∙ (back_same shards k ∙ starts.same k);
+  still = back_opens given answer.disks shards lacks.disks starts.opening;
   history = lacks.history;
   input = lacks.input;
 }))
-served_over {d = d} net_faults net net' settings given shards staff streams answer starts (inr (inl lacks)) = inl (record {
+served_over {d = d} net_faults net net' settings redo given shards staff streams answer starts (inr (inl lacks)) = inl (record {
   refusal = record { class = 0; fault = NoMemory };
   refuses = record {
     class = omega arith;
     all = ap (λ (ds : List _). length ds) lacks.disks ∙ (length_back shards ∙ starts.all);
-    same = λ k. ap (λ (ds : List _). told_of d.image ds k) lacks.disks ∙ (back_same shards k ∙ starts.same k);
+    opens = back_opens given answer.disks shards lacks.disks starts.opening;
     damaged = tt;
     below = λ k few. absurd (omega (arith, few));
     cause = λ failed. absurd failed;
@@ -103,12 +103,13 @@ served_over {d = d} net_faults net net' settings given shards staff streams answ
   history = lacks.history;
   input = lacks.input;
 })
-served_over {d = d} net_faults net net' settings given shards staff streams answer starts (inr (inr serves)) = inr (inr (record {
+served_over {d = d} net_faults net net' settings redo given shards staff streams answer starts (inr (inr serves)) = inr (inr (record {
+  told = told_at shards;
+  opening = starts.opening;
   sound = starts.sound;
   start = opening_of shards;
-  opens = opens_run settings (told_of d.image given) given shards starts.all starts.each (λ k. refl);
-  serves = serves_earlier d staff (told_of d.image given) (opening_of shards) (faults_at shards) (disk_faults d.faults given) streams answer starts.later
-      (subst (λ (told : ℕ → Option Image). ServesAll d staff told (opening_of shards) (faults_at shards) streams answer) (fun_ext starts.same) serves);
+  opens = opens_run settings redo (told_at shards) given shards starts.all starts.each (λ k. refl);
+  serves = serves_earlier d staff (told_at shards) (opening_of shards) (faults_at shards) (disk_faults d.faults given) streams answer starts.later serves;
 }))
 
 -- ---- streams
@@ -120,9 +121,11 @@ pub beside_input : {D E L : Type 0} (d : Ghosts D) (net_faults : E → ℕ) (net
 beside_input d net_faults net net' settings staff left before after given answer (inl none) =
     inl (record { refusal = none.refusal; refuses = none.refuses; tells = none.tells; history = none.history; input = refl })
 beside_input d net_faults net net' settings staff left before after given answer (inr (inl none)) =
-    inr (inl (record { cause = none.cause; tells = none.tells; sound = none.sound; sixteen = none.sixteen; same = none.same; history = none.history; input = refl }))
+    inr (inl (record { cause = none.cause; tells = none.tells; sound = none.sound; sixteen = none.sixteen; still = none.still; history = none.history; input = refl }))
 beside_input d net_faults net net' settings staff left before after given answer (inr (inr served)) =
     inr (inr (record {
+      told = served.told;
+      opening = served.opening;
       sound = served.sound;
       start = served.start;
       opens = served.opens;

@@ -1,7 +1,7 @@
 -- What a run of carbon comes to.
 use Rattle.std.specs.Prelude.{◌≡◌, ◌<◌, ◌⊎◌, ℕ, List, [], ◌∷◌, ◌++◌, Option, Some, None, IfSome, Ok, slice_get, string_bytes}
 use Rattle.std.specs.Io.KnownBytes.{Appends}
-use Rattle.outside_io.specs.Image.{Image}
+use Rattle.outside_io.specs.Image.{Image, WhereKnown}
 use Rattle.outside_io.specs.Faults.{Rose}
 use Rattle.outside_io.specs.Sink.{AppendsFront}
 use Rattle.outside_io.specs.declared.disk.Disk.{Ghosts}
@@ -14,6 +14,7 @@ use Rattle.carbon_model.specs.RingFiles.{Opens, Settings}
 use Rattle.carbon_model.specs.Replay.{IsLegalHistory, replay}
 use Rattle.shard_core.specs.declared.fault.StartFault.{StartFault}
 use Rattle.shard_core.specs.declared.fault.StartFault.TheVariants.{Damaged, DiskFault, NoMemory}
+use Rattle.shard_core.specs.Opened.{IsOpening}
 use Rattle.shard_set.specs.Disks.{disk_faults, told_of}
 use Rattle.shard_set.specs.Opening.{AreSound, RefusesAll}
 use Rattle.shard_set.specs.declared.refused.Refusal.{Refusal}
@@ -133,7 +134,7 @@ TellsStart NoMemory class answer before after = TellsAlone 8 no_memory_line answ
 
 -- A shard did not start: its class has a damaged file, the first of which is told, or its disk's count of failed calls rose, or memory ran out; and no
 -- class before it has a damaged file. Or all did, and memory ran out for their history. That alone is told, nothing was put, drained or asked, and the
--- disks tell what they told.
+-- disks open as they did.
 pub record NoStart {D : Type 0} (d : Ghosts D) (streams : Streams) (disks : List D) (answer : Answer D) : Type 0 where
   pub refusal : Refusal
   pub refuses : RefusesAll d disks answer.disks refusal
@@ -195,9 +196,12 @@ pub record CameTo {D : Type 0} (d : Ghosts D) (told : ℕ → Option Image) (sta
   pub done : reason ≡ end.Done → IsDrained d.image told answer.disks (replay start answer.history)
   pub fault : (class : ℕ) → reason ≡ end.DiskFault class → EndsByDisk d earlier class answer
 
--- The script ran over the shards of all classes, none of whose disks has a damaged file, from a state in which a run may begin over these disks.
+-- The script ran over the shards of all classes: what an open gate held is laid on their disks, none of which then has a damaged file. It ran from a
+-- state in which a run may begin over these disks.
 pub record Scripted {D : Type 0} (d : Ghosts D) (settings : Settings) (streams : Streams) (given : List D) (answer : Answer D) : Type 0 where
-  pub sound : AreSound (told_of d.image given) 16
+  pub told : ℕ → Option Image
+  pub opening : (k : ℕ) → WhereKnown (told_of d.image given k) (told k) IsOpening
+  pub sound : AreSound told 16
   pub start : State
-  pub opens : Opens settings (told_of d.image given) start
-  pub came : CameTo d (told_of d.image given) start (disk_faults d.faults given) streams answer
+  pub opens : Opens settings told start
+  pub came : CameTo d told start (disk_faults d.faults given) streams answer

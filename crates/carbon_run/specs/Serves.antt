@@ -1,11 +1,12 @@
 -- What a run of `serve` comes to.
 use Rattle.std.specs.Prelude.{◌≡◌, ◌⊎◌, ◌+◌, ℕ, List, [], length, map, Option, None}
-use Rattle.outside_io.specs.Image.{Image}
+use Rattle.outside_io.specs.Image.{Image, WhereKnown}
 use Rattle.outside_io.specs.Faults.{Rose}
 use Rattle.outside_io.specs.declared.disk.Disk.{Ghosts}
 use Rattle.carbon_model.specs.State.{State}
 use Rattle.carbon_model.specs.RingFiles.{Opens, Settings}
 use Rattle.shard_core.specs.declared.shard.Shard.{Shard}
+use Rattle.shard_core.specs.Opened.{IsOpening, StillOpens}
 use Rattle.shard_set.specs.Disks.{disk_faults, told_of}
 use Rattle.shard_set.specs.Opening.{AreSound}
 use Rattle.shared_store.specs.Tallies.{tally_of}
@@ -55,22 +56,25 @@ pub record ServesAll {D L : Type 0} (d : Ghosts D) (staff : Staff L) (told : ℕ
 -- ---- runs of the command
 
 -- The shards of all classes started, none of whose disks has a damaged file, and the ports could not be had: the net's count of failed calls rose.
--- That alone is told, nothing was put, drained or asked, and the disks tell what they told.
+-- That alone is told, nothing was put, drained or asked, and the disks open as they did.
 pub record NoPort {D : Type 0} {E : Type 0} (d : Ghosts D) (net_faults : E → ℕ) (net net' : E) (streams : Streams) (given : List D) (answer : Answer D) : Type 0 where
   pub cause : Rose (net_faults net) (net_faults net')
   pub tells : TellsAlone 9 no_port_line answer.status streams.written streams.written'
-  pub sound : AreSound (told_of d.image given) 16
+  pub sound : AreSound (told_of d.image answer.disks) 16
   pub sixteen : length answer.disks ≡ 16
-  pub same : (k : ℕ) → told_of d.image answer.disks k ≡ told_of d.image given k
+  pub still : (k : ℕ) → WhereKnown (told_of d.image given k) (told_of d.image answer.disks k) StillOpens
   pub history : answer.history ≡ []
   pub input : streams.left' ≡ streams.left
 
--- The shards of all classes started, and the store served what the net brought, from a state in which a run may begin over these disks.
+-- The shards of all classes started: what an open gate held is laid on their disks. The store served what the net brought, from a state in which a
+-- run may begin over these disks.
 pub record Served {D L : Type 0} (d : Ghosts D) (settings : Settings) (staff : Staff L) (streams : Streams) (given : List D) (answer : Answer D) : Type 0 where
-  pub sound : AreSound (told_of d.image given) 16
+  pub told : ℕ → Option Image
+  pub opening : (k : ℕ) → WhereKnown (told_of d.image given k) (told k) IsOpening
+  pub sound : AreSound told 16
   pub start : State
-  pub opens : Opens settings (told_of d.image given) start
-  pub serves : ServesAll d staff (told_of d.image given) start (disk_faults d.faults given) streams answer
+  pub opens : Opens settings told start
+  pub serves : ServesAll d staff told start (disk_faults d.faults given) streams answer
 
 -- A server over these disks: a shard does not start, or there is no port, or it serves.
 abbrev pub ServeRuns : {D E L : Type 0} → Ghosts D → (E → ℕ) → E → E → Settings → Staff L → Streams → List D → Answer D → Type 0

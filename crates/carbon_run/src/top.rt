@@ -40,6 +40,7 @@ use std::thread::Threads;
 /// |---|---|---|
 /// | `--limit N` | how many points of a class may be pending: 1 to 10,000,000 | 262,144 |
 /// | `--order O` | which metric of a class is drained next: `max`, `sorted`, `timesorted` or `naive` | `sorted` |
+/// | `--redo` | drains go through a log, so that a crash leaves whole drains; it has no value | they go straight to their files |
 /// | `--line-port P`, `--http-port P` | `serve`: the ports, 0 to 65,535 | 2003, 8080 |
 /// | `--line-host A`, `--http-host A` | `serve`: at which addresses of IPv4 each port is open, up to 16. The net that is handed in keeps to it | 0.0.0.0: all |
 /// | `--receivers N`, `--renderers N` | `serve`: how many threads serve the links of each port: 1 to 256 | 16 |
@@ -186,6 +187,7 @@ fn setup(rules: Rules, options: Options) -> Setup
         rules,
         limit: options.limit,
         strategy: options.order,
+        redo: options.redo,
     }
 }
 

@@ -13,4 +13,3 @@ mod OrderLemmas
 mod MusterLemmas
 mod CrewLemmas
 mod EndLemmas
-mod RulesCross

@@ -20,7 +20,7 @@ use Rattle.line_front.proofs.LinkLemmas.{same_pass}
 use Rattle.line_front.proofs.PointLemmas.{Makes, bring_append, gathered_one, makes_append, makes_each, makes_none, makes_point, put_append, put_one}
 use Rattle.http_front.specs.Origin.{Origin}
 use Rattle.carbon_serve.specs.Deeds.{InTurn, LineLink, ServesLineLink, Telling}
-use Rattle.carbon_serve.specs.OneHistory.{AreHandled, ArePut, PutsOf, PutsOfAll}
+use Rattle.carbon_serve.specs.OneHistory.{AreFirst, AreHandled, ArePut, PutsOf, PutsOfAll}
 use Rattle.carbon_serve.specs.Workers.{Works}
 use Rattle.carbon_serve.proofs.LineLemmas.{link_works}
 
@@ -60,54 +60,51 @@ line_brings moments (Whole line) point is =
 line_brings moments TooLong point is = absurd is
 
 -- the lines that were handled of a link, the points of theirs that were put, and how
-record Handled (moments : ℕ → Type 0) (rules : List RuleValue) (reason : LineCause) (taken : List ℕ) (old new : PassValue) : Type 0 where
+record Handled (moments : ℕ → Type 0) (rules : List RuleValue) (reason : LineCause) (taken : List ℕ) (left : Option (List ℕ)) (old new : PassValue) : Type 0 where
   handled : List Line
   are : AreHandled reason taken handled
   points : List Point
   read : LinesBring moments handled points
   put : List Point
-  all : ArePut reason rules points put
+  all : ArePut reason rules taken left handled points put
   makes : Makes put old new
 
 -- the first lines of a link, and the first points that are put of it
-record Begun (moments : ℕ → Type 0) (rules : List RuleValue) (taken : List ℕ) (old new : PassValue) : Type 0 where
+record Begun (moments : ℕ → Type 0) (rules : List RuleValue) (taken : List ℕ) (left : Option (List ℕ)) (old new : PassValue) : Type 0 where
   handled : List Line
   are : IsPrefix handled (lines taken)
   points : List Point
   read : LinesBring moments handled points
   put : List Point
-  all : IsPrefix put (points_of_link rules points)
+  all : AreFirst rules taken left handled points put
   makes : Makes put old new
 
 -- so many of them, where the rules emit more
 more_put : (rules : List RuleValue) (points : List Point) (point : Point) (first others : List Point) → emitted_for (gathered_after (none_gathered rules) points) point ≡ first ++ others
-    → IsPrefix (points_put (none_gathered rules) points ++ point ∷ first) (points_of_link rules (points ++ point ∷ []))
+    → IsPrefix (points_put (none_gathered rules) points ++ point ∷ first) (points_put (none_gathered rules) (points ++ point ∷ []))
 more_put rules points point first others split =
     let g : AggregatorValue = none_gathered rules in
     let now : AggregatorValue = gathered_after g points in
-    let last : List Point = emitted_at_end (gathered_after g (points ++ point ∷ [])) in
     let one : points_put now (point ∷ []) ≡ point ∷ (first ++ others) = put_one now point ∙ ap (λ (l : List Point). point ∷ l) split in
     let whole : points_put g (points ++ point ∷ []) ≡ points_put g points ++ (point ∷ (first ++ others)) =
     put_append g points (point ∷ []) ∙ ap (λ (l : List Point). points_put g points ++ l) one in
-    let parts : (points_put g points ++ point ∷ first) ++ others ≡ points_put g (points ++ point ∷ []) =
-    append_assoc (points_put g points) (point ∷ first) others ∙ sym whole in
-    (others ++ last, sym (append_assoc (points_put g points ++ point ∷ first) others last) ∙ ap (λ (l : List Point). l ++ last) parts)
+    (others, append_assoc (points_put g points) (point ∷ first) others ∙ sym whole)
 
-module _ (moments : ℕ → Type 0) (start : State) (passes : ℕ) (rules : List RuleValue) (taken : List ℕ) (old : PassValue) where
+module _ (moments : ℕ → Type 0) (start : State) (passes : ℕ) (rules : List RuleValue) (taken : List ℕ) (left : Option (List ℕ)) (old : PassValue) where
   -- no line
-  none_begun : (new : PassValue) → new ≡ old → Begun moments rules taken old new
+  none_begun : (new : PassValue) → new ≡ old → Begun moments rules taken left old new
   none_begun new same = record {
     handled = [];
     are = prefix_nil (lines taken);
     points = [];
     read = refl;
     put = [];
-    all = prefix_nil (points_of_link rules []);
+    all = inl (prefix_nil (points_put (none_gathered rules) []));
     makes = makes_none old new same;
   }
 
   -- some lines
-  front_begun : (new : SessionValue) → HandlesFront moments start passes taken (new_session rules old) new → Begun moments rules taken old new.pass
+  front_begun : (new : SessionValue) → HandlesFront moments start passes taken (new_session rules old) new → Begun moments rules taken left old new.pass
   front_begun new front =
       let h = front.front in record {
         handled = front.handled;
@@ -115,13 +112,13 @@ module _ (moments : ℕ → Type 0) (start : State) (passes : ℕ) (rules : List
         points = h.points;
         read = h.read;
         put = points_put (none_gathered rules) h.points;
-        all = (emitted_at_end (gathered_after (none_gathered rules) h.points), refl);
+        all = inl ([], append-nil (points_put (none_gathered rules) h.points));
         makes = lines_make moments start passes front.handled (new_session rules old) new h;
       }
 
   -- and of the next one the point, and the first of those that the rules emit for it
   line_begun : (mid new : SessionValue) (front : HandlesFront moments start passes taken (new_session rules old) mid) → BringsFront moments start passes front.line mid new
-      → Begun moments rules taken old new.pass
+      → Begun moments rules taken left old new.pass
   line_begun mid new front b =
       let h = front.front in record {
         handled = front.handled ++ front.line ∷ [];
@@ -129,15 +126,15 @@ module _ (moments : ℕ → Type 0) (start : State) (passes : ℕ) (rules : List
         points = h.points ++ b.point ∷ [];
         read = bring_append moments front.handled (front.line ∷ []) h.points (b.point ∷ []) h.read (line_brings moments front.line b.point b.is);
         put = points_put (none_gathered rules) h.points ++ b.point ∷ b.emits.first;
-        all = more_put rules h.points b.point b.emits.first b.emits.others (ap (λ (a : AggregatorValue). emitted_for a b.point) (sym h.gathered) ∙ b.emits.split);
+        all = inl (more_put rules h.points b.point b.emits.first b.emits.others (ap (λ (a : AggregatorValue). emitted_for a b.point) (sym h.gathered) ∙ b.emits.split));
         makes = makes_append (points_put (none_gathered rules) h.points) (b.point ∷ b.emits.first) old mid.pass new.pass
             (lines_make moments start passes front.handled (new_session rules old) mid h) (brings_make moments start passes front.line mid new b);
       }
 
   -- all lines, and the first points that the rules have open
-  open_begun : (left : Option (List ℕ)) (mid new : SessionValue) → IsRead moments start passes taken left (new_session rules old) mid
-      → PutsFront start passes (emitted_at_end mid.gathered) mid new → Begun moments rules taken old new.pass
-  open_begun left mid new read some =
+  open_begun : (mid new : SessionValue) → IsRead moments start passes taken left (new_session rules old) mid
+      → PutsFront start passes (emitted_at_end mid.gathered) mid new → Begun moments rules taken left old new.pass
+  open_begun mid new read some =
       let h = read.handles in
       let g : AggregatorValue = none_gathered rules in
       let split : some.first ++ some.others ≡ emitted_at_end (gathered_after g h.points) = sym some.split ∙ ap (λ (a : AggregatorValue). emitted_at_end a) h.gathered in record {
@@ -146,12 +143,12 @@ module _ (moments : ℕ → Type 0) (start : State) (passes : ℕ) (rules : List
         points = h.points;
         read = h.read;
         put = points_put g h.points ++ some.first;
-        all = (some.others, append_assoc (points_put g h.points) some.first some.others ∙ ap (λ (l : List Point). points_put g h.points ++ l) split);
+        all = inr (read.at_end, (refl, (some.others, append_assoc (points_put g h.points) some.first some.others ∙ ap (λ (l : List Point). points_put g h.points ++ l) split)));
         makes = makes_append (points_put g h.points) some.first old mid.pass new.pass (lines_make moments start passes (lines taken) (new_session rules old) mid h)
             (makes_each start passes some.first mid.pass new.pass some.emits);
       }
 
-  begun_idle : (mid new : SessionValue) → Begun moments rules taken old mid.pass → Idles start passes mid new → Begun moments rules taken old new.pass
+  begun_idle : (mid new : SessionValue) → Begun moments rules taken left old mid.pass → Idles start passes mid new → Begun moments rules taken left old new.pass
   begun_idle mid new begun idles = record {
     handled = begun.handled;
     are = begun.are;
@@ -163,29 +160,29 @@ module _ (moments : ℕ → Type 0) (start : State) (passes : ℕ) (rules : List
   }
 
   full_begun : (mid new : SessionValue) (front : HandlesFront moments start passes taken (new_session rules old) mid)
-      → (new ≡ mid) ⊎ LacksRoom moments start passes front.line mid new → Begun moments rules taken old new.pass
-  full_begun mid new front (inl same) = subst (λ (session : SessionValue). Begun moments rules taken old session.pass) (sym same) (front_begun mid front)
+      → (new ≡ mid) ⊎ LacksRoom moments start passes front.line mid new → Begun moments rules taken left old new.pass
+  full_begun mid new front (inl same) = subst (λ (session : SessionValue). Begun moments rules taken left old session.pass) (sym same) (front_begun mid front)
   full_begun mid new front (inr lacks) = line_begun mid new front lacks.brings
 
   short_begun : (mid new : SessionValue) (front : HandlesFront moments start passes taken (new_session rules old) mid) → LacksMemory moments start passes front.line mid new
-      → Begun moments rules taken old new.pass
+      → Begun moments rules taken left old new.pass
   short_begun mid new front lacks = begun_idle lacks.mid new (by lacks.begun) lacks.idles
     where
-      by : (HasPoint moments front.line × (lacks.mid ≡ mid)) ⊎ BringsFront moments start passes front.line mid lacks.mid → Begun moments rules taken old lacks.mid.pass
-      by (inl none) = subst (λ (session : SessionValue). Begun moments rules taken old session.pass) (sym none.1) (front_begun mid front)
+      by : (HasPoint moments front.line × (lacks.mid ≡ mid)) ⊎ BringsFront moments start passes front.line mid lacks.mid → Begun moments rules taken left old lacks.mid.pass
+      by (inl none) = subst (λ (session : SessionValue). Begun moments rules taken left old session.pass) (sym none.1) (front_begun mid front)
       by (inr brings) = line_begun mid lacks.mid front brings
 
-  spent_handled : (new : PassValue) → Begun moments rules taken old new → Handled moments rules cause.Spent taken old new
+  spent_handled : (new : PassValue) → Begun moments rules taken left old new → Handled moments rules cause.Spent taken left old new
   spent_handled new begun =
       record { handled = begun.handled; are = begun.are; points = begun.points; read = begun.read; put = begun.put; all = begun.all; makes = begun.makes }
 
-  short_handled : (new : PassValue) → Begun moments rules taken old new → Handled moments rules cause.NoMemory taken old new
+  short_handled : (new : PassValue) → Begun moments rules taken left old new → Handled moments rules cause.NoMemory taken left old new
   short_handled new begun =
       record { handled = begun.handled; are = inr begun.are; points = begun.points; read = begun.read; put = begun.put; all = begun.all; makes = begun.makes }
 
-  ends_handled : (left : Option (List ℕ)) (new : SessionValue) (reason : LineCause) → EndsAs moments start passes reason taken left (new_session rules old) new
-      → Handled moments rules reason taken old new.pass
-  ends_handled left new cause.Closed ends =
+  ends_handled : (new : SessionValue) (reason : LineCause) → EndsAs moments start passes reason taken left (new_session rules old) new
+      → Handled moments rules reason taken left old new.pass
+  ends_handled new cause.Closed ends =
       let h = ends.read.handles in
       let mid : SessionValue = ends.mid in
       let put : List Point = points_put (none_gathered rules) h.points in record {
@@ -194,12 +191,12 @@ module _ (moments : ℕ → Type 0) (start : State) (passes : ℕ) (rules : List
         points = h.points;
         read = h.read;
         put = points_of_link rules h.points;
-        all = refl;
+        all = (ends.read.at_end, refl);
         makes = subst (λ (a : AggregatorValue). Makes (put ++ emitted_at_end a) old new.pass) h.gathered
             (makes_append put (emitted_at_end mid.gathered) old mid.pass new.pass (lines_make moments start passes (lines taken) (new_session rules old) mid h)
             (makes_each start passes (emitted_at_end mid.gathered) mid.pass new.pass ends.emits));
       }
-  ends_handled left new cause.ReadFault ends =
+  ends_handled new cause.ReadFault ends =
       let h = ends.0 in record {
         handled = lines taken;
         are = refl;
@@ -209,7 +206,7 @@ module _ (moments : ℕ → Type 0) (start : State) (passes : ℕ) (rules : List
         all = refl;
         makes = lines_make moments start passes (lines taken) (new_session rules old) new h;
       }
-  ends_handled left new cause.LinkLimit ends =
+  ends_handled new cause.LinkLimit ends =
       let h = ends.0 in record {
         handled = lines taken;
         are = refl;
@@ -219,23 +216,23 @@ module _ (moments : ℕ → Type 0) (start : State) (passes : ℕ) (rules : List
         all = refl;
         makes = lines_make moments start passes (lines taken) (new_session rules old) new h;
       }
-  ends_handled left new cause.Spent (inl none, spent) =
+  ends_handled new cause.Spent (inl none, spent) =
       spent_handled new.pass (none_begun new.pass (ap (λ (session : SessionValue). session.pass) none.same))
-  ends_handled left new cause.Spent (inr (inl full), spent) = spent_handled new.pass (full_begun full.mid new full.handles full.lacks)
-  ends_handled left new cause.Spent (inr (inr late), spent) = spent_handled new.pass (open_begun left late.mid new late.read late.emits)
-  ends_handled left new cause.NoMemory (inl whole) =
+  ends_handled new cause.Spent (inr (inl full), spent) = spent_handled new.pass (full_begun full.mid new full.handles full.lacks)
+  ends_handled new cause.Spent (inr (inr late), spent) = spent_handled new.pass (open_begun late.mid new late.read late.emits)
+  ends_handled new cause.NoMemory (inl whole) =
       let h = whole.1.1 in record {
         handled = lines whole.0;
         are = inl (whole.0, (whole.1.0, refl));
         points = h.points;
         read = h.read;
         put = points_put (none_gathered rules) h.points;
-        all = (emitted_at_end (gathered_after (none_gathered rules) h.points), refl);
+        all = inl ([], append-nil (points_put (none_gathered rules) h.points));
         makes = lines_make moments start passes (lines whole.0) (new_session rules old) new h;
       }
-  ends_handled left new cause.NoMemory (inr (inl short)) = short_handled new.pass (short_begun short.mid new short.handles short.lacks)
-  ends_handled left new cause.NoMemory (inr (inr late)) =
-      short_handled new.pass (begun_idle late.put new (open_begun left late.mid late.put late.read late.emits) late.idles)
+  ends_handled new cause.NoMemory (inr (inl short)) = short_handled new.pass (short_begun short.mid new short.handles short.lacks)
+  ends_handled new cause.NoMemory (inr (inr late)) =
+      short_handled new.pass (begun_idle late.put new (open_begun late.mid late.put late.read late.emits) late.idles)
 
 -- ---- links one after the other
 
@@ -250,8 +247,8 @@ turn_puts links w number [] a c same turns = record { entries = []; all = refl; 
 turn_puts links w number (link ∷ served) a c same turns =
     let mid : PassValue = turns.0 in
     let ends = turns.1.0.ends in
-    let one : Handled w.moments links.rules link.cause ends.taken a mid =
-    ends_handled w.moments w.start w.passes links.rules ends.taken a (links.left link.after) (record { pass = mid; counts = link.counts; gathered = ends.gathered }) link.cause ends.ends in
+    let one : Handled w.moments links.rules link.cause ends.taken (links.left link.after) a mid =
+    ends_handled w.moments w.start w.passes links.rules ends.taken (links.left link.after) a (record { pass = mid; counts = link.counts; gathered = ends.gathered }) link.cause ends.ends in
     let works : Works w.moments w.start a mid =
     link_works w.moments w.start w.passes links.rules link.cause (links.left link.before) (links.left link.after) a mid link.counts ends in
     let rest : Put links w number served mid c = turn_puts links w number served mid c (works.number ∙ same) turns.1.1 in

@@ -1,6 +1,6 @@
 -- What of a server's links is of its one history.
 use Rattle.std.specs.Prelude.{◌≡◌, ◌⊎◌, ℕ, List, [], ◌∷◌, ◌++◌, Option, Result, Ok, Err}
-use Rattle.std.specs.Io.KnownBytes.{Appends, Consumes}
+use Rattle.std.specs.Io.KnownBytes.{Appends, Consumes, IsAtEnd}
 use Rattle.std.specs.List.{AllZip}
 use mathlib.Core.List.{IsPrefix}
 use Rattle.outside_io.specs.Sink.{AppendsFront}
@@ -136,14 +136,21 @@ AreHandled cause.Spent taken handled = IsPrefix handled (lines taken)
 AreHandled cause.NoMemory taken handled =
     ((front : List ℕ) × (RunsOut front taken × (handled ≡ lines front))) ⊎ IsPrefix handled (lines taken)
 
--- which points were put of a link whose lines brought these: each of them, and behind it those that the rules emit for it, and at the link's end those that
--- they have open; or the first of these, where the pass was spent or memory ran out
-abbrev pub ArePut : LineCause → List RuleValue → List Point → List Point → Type 0
-ArePut cause.Closed rules points put = put ≡ points_of_link rules points
-ArePut cause.ReadFault rules points put = put ≡ points_put (none_gathered rules) points
-ArePut cause.LinkLimit rules points put = put ≡ points_put (none_gathered rules) points
-ArePut cause.Spent rules points put = IsPrefix put (points_of_link rules points)
-ArePut cause.NoMemory rules points put = IsPrefix put (points_of_link rules points)
+-- The first points of a link, of which these lines were handled and brought these points: of theirs, each with those that the rules emit for it; or, where it
+-- was read to its end and all its lines were handled, all of these and the first of those that the rules have open then.
+abbrev pub AreFirst : List RuleValue → List ℕ → Option (List ℕ) → List Line → List Point → List Point → Type 0
+AreFirst rules taken left handled points put =
+    IsPrefix put (points_put (none_gathered rules) points)
+    ⊎ (IsAtEnd left × ((handled ≡ lines taken) × IsPrefix put (points_of_link rules points)))
+
+-- Which points were put of a link, of which these bytes were taken and these are left, and whose handled lines brought these: each of them, and behind it those
+-- that the rules emit for it, and at the link's end those that they have open; or the first of these, where the pass was spent or memory ran out.
+abbrev pub ArePut : LineCause → List RuleValue → List ℕ → Option (List ℕ) → List Line → List Point → List Point → Type 0
+ArePut cause.Closed rules taken left handled points put = IsAtEnd left × (put ≡ points_of_link rules points)
+ArePut cause.ReadFault rules taken left handled points put = put ≡ points_put (none_gathered rules) points
+ArePut cause.LinkLimit rules taken left handled points put = put ≡ points_put (none_gathered rules) points
+ArePut cause.Spent rules taken left handled points put = AreFirst rules taken left handled points put
+ArePut cause.NoMemory rules taken left handled points put = AreFirst rules taken left handled points put
 
 -- These entries are the puts of a link: one for each line that is read as a point, in order, of the lines that were handled, and behind it one for each
 -- point that the rules emit for it.
@@ -155,7 +162,7 @@ pub record PutsOf {L : Type 0} (links : Telling L) (w : Origin) (number : ℕ) (
   pub points : List Point
   pub read : LinesBring w.moments handled points
   pub put : List Point
-  pub all : ArePut link.cause links.rules points put
+  pub all : ArePut link.cause links.rules taken (links.left link.after) handled points put
   pub made : ArePuts number put entries
 
 -- the same of links one after the other

@@ -30,8 +30,9 @@ pub fn every_reply_is_of_the_one_history<C: Clock, N: Named, E: Net>()
 /// nothing else: one for each line that was read as a point, and right behind it one for each point
 /// that the rules emit for it. Of a link that was read to its end they are followed by one for each
 /// point that the rules have open then; of one that a failed read or its limit ended they are not.
-/// Where the pass was spent or memory ran out they are the first of these. The function does
-/// nothing: what it ensures is the law.
+/// Where the pass was spent or memory ran out they are the first of these: none of what is open,
+/// unless the link was read to its end and all its lines were handled. The function does nothing:
+/// what it ensures is the law.
 pub fn every_point_is_put_once<C: Clock, N: Named, E: Net>()
     ensures { (clock : C) (rules : List RuleValue) (duties : Duties) (number : ℕ)
         (history : List Entry)

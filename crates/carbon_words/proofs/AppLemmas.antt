@@ -4,12 +4,17 @@ use Rattle.clap.specs.Words.{AddsArg, AddsSubcommand, App, Text, app_of, rule_of
 use Rattle.clap.specs.declared.builder.Arg.{Arg}
 use Rattle.clap.specs.declared.builder.Command.{Command}
 use Rattle.clap.proofs.SimpleLemmas.{plain_fields}
-use Rattle.carbon_words.specs.CommandLine.{number_rule, option_rule, repeatable_rule, with_number, with_option, with_repeatable}
+use Rattle.carbon_words.specs.CommandLine.{flag_rule, number_rule, option_rule, repeatable_rule, with_flag, with_number, with_option, with_repeatable}
 
 -- a command with an option more
 pub option_added : (name : Text) (arg : Arg) (old new : Command) (app : App) → AddsArg old arg new → arg.global ≡ false
     → rule_of arg ≡ option_rule name → app_of old ≡ app → app_of new ≡ with_option name app
 option_added name arg old new app added local rule before = added.shape local ∙ ap₂ with_rule before rule
+
+-- a command with an option more that stands alone
+pub flag_added : (name : Text) (arg : Arg) (old new : Command) (app : App) → AddsArg old arg new → arg.global ≡ false
+    → rule_of arg ≡ flag_rule name → app_of old ≡ app → app_of new ≡ with_flag name app
+flag_added name arg old new app added local rule before = added.shape local ∙ ap₂ with_rule before rule
 
 -- a command with an option more that may be given several times
 pub repeatable_added : (name : Text) (arg : Arg) (old new : Command) (app : App) → AddsArg old arg new → arg.global ≡ false

@@ -1,5 +1,5 @@
 -- The words of a command line, without the program's name.
-use Rattle.std.specs.Prelude.{◌≡◌, ◌<◌, ◌≤◌, ℕ, ◌&&◌, nat_le, true, List, [], ◌∷◌, codes, Option, Some, None, option_map, option_and_then, if◌then◌else◌}
+use Rattle.std.specs.Prelude.{◌≡◌, ◌<◌, ◌≤◌, ℕ, ◌&&◌, nat_le, true, false, Bool, List, [], ◌∷◌, codes, Option, Some, None, option_map, option_and_then, if◌then◌else◌}
 use Rattle.std.specs.Option.{option_map_or}
 use Rattle.std.specs.Str.{bytes_eq}
 use Rattle.fixed_num.specs.Whole.{whole_number}
@@ -9,7 +9,7 @@ use Rattle.clap.specs.Faults.{fault_of}
 use Rattle.clap.specs.Kinds.{Kinds}
 use Rattle.clap.specs.Simple.{App, Shape, new_app, new_rule, on_top, subcommand_of, subcommand_rows_of, with_rule, with_subcommand}
 use Rattle.clap.specs.Walk.{Row, Rule, Text, all_of, first_of}
-use Rattle.clap.specs.declared.builder.action.ArgAction.TheVariants.{Append}
+use Rattle.clap.specs.declared.builder.action.ArgAction.TheVariants.{Append, SetTrue}
 use Rattle.clap.specs.declared.parser.matches.ArgMatches.{ArgMatches}
 use Rattle.carbon_words.specs.declared.command.Command.{Command}
 use Rattle.carbon_words.specs.declared.command.Command.TheVariants.{Sample, Script, Serve}
@@ -28,12 +28,19 @@ use Rattle.carbon_words.specs.HostTexts.{all_hosts, hosts_by}
 abbrev pub option_rule : Text → Rule
 option_rule name = record (new_rule name) { long = Some name }
 
+-- an option that stands alone, once at most
+abbrev pub flag_rule : Text → Rule
+flag_rule name = record (option_rule name) { action = Some SetTrue }
+
 -- one that may be given several times
 abbrev pub repeatable_rule : Text → Rule
 repeatable_rule name = record (option_rule name) { action = Some Append }
 
 abbrev pub with_option : Text → App → App
 with_option name app = with_rule app (option_rule name)
+
+abbrev pub with_flag : Text → App → App
+with_flag name app = with_rule app (flag_rule name)
 
 abbrev pub with_repeatable : Text → App → App
 with_repeatable name app = with_rule app (repeatable_rule name)
@@ -48,9 +55,10 @@ with_number name app = with_rule app (number_rule name)
 abbrev pub without_help : App → App
 without_help = on_top (λ s. record s { disable_help_flag = true })
 
--- the words behind every command: the limit and the order
+-- the words behind every command: the limit, the order, and whether there is a redo log
 unfoldable pub command_app : Text → App
-command_app name = with_option (codes "order") (with_option (codes "limit") (without_help (new_app name)))
+command_app name =
+    with_flag (codes "redo") (with_option (codes "order") (with_option (codes "limit") (without_help (new_app name))))
 
 -- the words behind `script`
 abbrev pub script_app : App
@@ -122,10 +130,18 @@ order_of text =
 unfoldable pub order_in : List Row → Option Strategy
 order_in rows = option_map_or order_of (first_of (codes "order") rows) (Some Sorted)
 
+-- an option that stands alone has this value where it stands, and another where it does not
+unfoldable pub is_on : Text → Bool
+is_on text = bytes_eq text (codes "true")
+
+-- whether drains go through the redo log
+unfoldable pub redo_in : List Row → Bool
+redo_in rows = option_map_or is_on (first_of (codes "redo") rows) false
+
 -- what every command may say
 unfoldable pub options_in : List Row → Option Options
 options_in rows =
-    option_and_then (λ limit. option_map (λ order. record { limit = limit; order = order }) (order_in rows))
+    option_and_then (λ limit. option_map (λ order. record { limit = limit; order = order; redo = redo_in rows }) (order_in rows))
     (number_in (choice 1 10000000 262144) (codes "limit") rows)
 
 -- how what is pending goes to the disk

@@ -1,7 +1,7 @@
 //! What `clap` is told of the command line.
 ghost use Rattle.std.specs.Prelude.{◌≡◌, false, IfOk};
 ghost use Rattle.clap.specs.Words.{app_of, rule_of};
-ghost use Rattle.carbon_words.specs.CommandLine.{carbon, command_app, number_rule, option_rule, repeatable_rule, sample_app, serve_app};
+ghost use Rattle.carbon_words.specs.CommandLine.{carbon, command_app, flag_rule, number_rule, option_rule, repeatable_rule, sample_app, serve_app};
 
 use clap::{Arg, ArgAction, Command};
 use std::alloc::{AllocError, Global};
@@ -12,6 +12,14 @@ fn option<'a>(alloc: Global, name: &'a str) -> Arg<'a>
     ensures local { result.global ≡ false }
 {
     Arg::new(alloc, name).long(name)
+}
+
+// An option that stands alone, of this name.
+fn flag<'a>(alloc: Global, name: &'a str) -> Arg<'a>
+    ensures rule { rule_of result ≡ flag_rule name.entry.now }
+    ensures local { result.global ≡ false }
+{
+    Arg::new(alloc, name).action(ArgAction::SetTrue).long(name)
 }
 
 // An option that has a value, of this name. It may be given several times.
@@ -30,14 +38,15 @@ fn number<'a>(alloc: Global, name: &'a str) -> Arg<'a>
     Arg::new(alloc, name).required(true)
 }
 
-// A command of this name. Each says the limit and the order.
+// A command of this name. Each says the limit, the order, and whether there is a redo log.
 fn command<'a>(alloc: Global, name: &'a str) -> Result<Command<'a>, AllocError>
     ensures { IfOk result (λ c. app_of c ≡ command_app name.entry.now) }
 {
     Command::new(alloc, name)
         .disable_help_flag(true)
         .arg(option(alloc, "limit"))?
-        .arg(option(alloc, "order"))
+        .arg(option(alloc, "order"))?
+        .arg(flag(alloc, "redo"))
 }
 
 // The words behind `serve`.

@@ -9,6 +9,8 @@ pub struct Options {
     pub limit: u64,
     /// In which order metrics are drained.
     pub order: Strategy,
+    /// Whether drains go through the redo log.
+    pub redo: bool,
 }
 
 /// What `serve` may say besides.

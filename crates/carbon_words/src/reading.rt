@@ -2,7 +2,7 @@
 ghost use Rattle.std.specs.Prelude.{◌≡◌, ◌≢◌, ◌≤◌, [], IfOk, IfErr, IfSome, map, string_bytes};
 ghost use Rattle.clap.specs.Faults.{fault_of};
 ghost use Rattle.clap.specs.Words.{found_of, kind_of, rows_of, subcommand_rows_of};
-ghost use Rattle.carbon_words.specs.CommandLine.{FindsWords, HasCount, HasDrainers, HasLimit, HasWorkers, IsSound, between, carbon, command_in, command_met, command_of, drain_options_in, hosts_in, number_given, number_in, options_in, order_in, order_of, port_hosts_in, sample_options_in, serve_options_in};
+ghost use Rattle.carbon_words.specs.CommandLine.{FindsWords, HasCount, HasDrainers, HasLimit, HasWorkers, IsSound, between, carbon, command_in, command_met, command_of, drain_options_in, hosts_in, is_on, number_given, number_in, options_in, order_in, order_of, port_hosts_in, redo_in, sample_options_in, serve_options_in};
 
 use crate::app::carbon;
 use crate::command::{Command, DrainOptions, Options, PortHosts, SampleOptions, ServeOptions};
@@ -159,7 +159,8 @@ fn options_in(values: &ArgMatches<'_>) -> Option<Options>
 {
     let limit = number_in(values, "limit", LIMIT)?;
     let order = order_in(values)?;
-    Some(Options { limit, order })
+    let redo = redo_in(values);
+    Some(Options { limit, order, redo })
 }
 
 #[tactic(auto, unfolding(crate::specs::CommandLine::serve_options_in))]
@@ -284,6 +285,25 @@ fn order_in(values: &ArgMatches<'_>) -> Option<Strategy>
         Some(text) => order_of(text),
         None => Some(Strategy::Sorted),
     }
+}
+
+// Whether drains go through the redo log.
+#[tactic(auto, unfolding(crate::specs::CommandLine::redo_in))]
+fn redo_in(values: &ArgMatches<'_>) -> bool
+    ensures { result ≡ redo_in (rows_of (found_of values.now)) }
+{
+    match values.get_str("redo") {
+        Some(text) => is_on(text),
+        None => false,
+    }
+}
+
+// Whether an option stands to which clap gives this value.
+#[tactic(auto, unfolding(crate::specs::CommandLine::is_on))]
+fn is_on(text: &str) -> bool
+    ensures { result ≡ is_on text.now }
+{
+    text == "true"
 }
 
 #[tactic(auto, unfolding(crate::specs::CommandLine::order_of))]

@@ -28,8 +28,10 @@ pub(crate) struct FolderFiles<R> {
     pub(crate) folder: String,
     pub(crate) links: Links,
     kept: Option<OpenedFile>,
-    // when the names were listed last
-    listed: Option<Moment>,
+    // when the names were listed last, or the disk was made where they were not yet
+    known: Option<Moment>,
+    // whether the names were listed
+    is_listed: bool,
     unsynced: Unsynced,
     // whether what an earlier process may have left is on the device
     is_settled: bool,
@@ -40,25 +42,30 @@ pub(crate) struct FolderFiles<R> {
 impl<R: Clock> FolderFiles<R> {
     // The names are listed from now on.
     pub(crate) fn begin_list(&mut self) {
-        self.listed = Moment::now(&self.rt);
+        self.known = Moment::now(&self.rt);
+        self.is_listed = true;
     }
 }
 
-impl<R: Files<File = File> + AllocGlobal> FolderFiles<R> {
+impl<R: Files<File = File> + AllocGlobal + Clock> FolderFiles<R> {
     pub(crate) fn new(rt: R, folder: String, links: Links) -> Self {
         let unsynced = Unsynced::none(rt.alloc());
+        let known = Moment::now(&rt);
         FolderFiles {
             rt,
             folder,
             links,
             kept: None,
-            listed: None,
+            known,
+            is_listed: false,
             unsynced,
             is_settled: false,
             has_forgotten: false,
         }
     }
+}
 
+impl<R: Files<File = File> + AllocGlobal> FolderFiles<R> {
     // No file stays open.
     pub(crate) fn let_go(&mut self) {
         self.kept = None;
@@ -148,51 +155,72 @@ impl<R: Files<File = File> + AllocGlobal + Clock> FolderFiles<R> {
     // Makes a file of zero bytes, and the folders that it stands in. Where the name is taken, it has to be that of a plain file which may be
     // made anew.
     pub(crate) fn create(&mut self, name: &str, length: u64) -> Result<(), FileFault> {
-        self.kept = None;
+        let last = self.kept.take();
         self.look_at_way(name)?;
         let path = self.path_of(name)?;
         if let Some((folder, _)) = path.rsplit_once('/') {
             fs::create_dir_all(&self.rt, folder)?;
         }
-        let file = self.made(name)?;
+        let file = self.made(name, length, &last)?;
         self.unsynced.note(&file, true);
         file.clear(length)?;
         self.kept = Some(file);
         Ok(())
     }
 
-    fn made(&self, name: &str) -> Result<OpenedFile, FileFault> {
+    fn made(
+        &self,
+        name: &str,
+        wanted: u64,
+        last: &Option<OpenedFile>,
+    ) -> Result<OpenedFile, FileFault> {
         let path = self.path_of(name)?;
         let own = String::from_str(self.rt.alloc(), name)?;
         match OpenedFile::create(&self.rt, own, path) {
             Err(FileFault::System(error)) if error.kind() == ErrorKind::AlreadyExists => {
-                self.made_anew(name)
+                self.made_anew(name, wanted, last)
             }
             made => made,
         }
     }
 
-    // The file under a name that is taken, where it is no ring file, or may be made anew.
-    fn made_anew(&self, name: &str) -> Result<OpenedFile, FileFault> {
+    // The file under a name that is taken, where it is no ring file, or may be made anew with a length.
+    fn made_anew(
+        &self,
+        name: &str,
+        wanted: u64,
+        last: &Option<OpenedFile>,
+    ) -> Result<OpenedFile, FileFault> {
         let file = self.open(name, Access::Writing)?;
-        if name.ends_with(RING_END) && !self.may_be_anew(&file)? {
+        if name.ends_with(RING_END) && !self.may_be_anew(&file, wanted, last)? {
             return Err(FileFault::InTheWay);
         }
         Ok(file)
     }
 
-    // Whether a ring file was never whole, or is of version 1 and was there when the names were listed: such a one is read before a drain
-    // makes it anew, and one that came since was not.
-    fn may_be_anew(&self, file: &OpenedFile) -> Result<bool, FileFault> {
+    // Whether a ring file may be made anew with a length: it was never whole, or it was there when the names were listed and is of version 1,
+    // since such a one is read before a drain makes it anew, and one that came since was not. Before the names are listed only the log of an
+    // earlier process is laid. A file that was there then may have any version, since that process may have come as far as its head; it has
+    // that length then, and was written behind the log, which is the file of the call before.
+    fn may_be_anew(
+        &self,
+        file: &OpenedFile,
+        wanted: u64,
+        last: &Option<OpenedFile>,
+    ) -> Result<bool, FileFault> {
         let length = file.length_under_name(&self.rt, self.links)?;
         let mut room = [0; FRONT_BYTES];
         let front = file.front(length, &mut room)?;
-        Ok(is_unfinished(front) || (is_old(front) && self.was_listed(file)?))
+        if is_unfinished(front) {
+            return Ok(true);
+        }
+        let may_be_laid = !self.is_listed && length == wanted && is_behind(file, last)?;
+        Ok((is_old(front) || may_be_laid) && self.was_there(file)?)
     }
 
-    // Whether a file was there, as it is, when the names were listed.
-    fn was_listed(&self, file: &OpenedFile) -> Result<bool, FileFault> {
-        match self.listed {
+    // Whether a file was there, as it is, when the names were listed, or the disk was made where they were not yet.
+    fn was_there(&self, file: &OpenedFile) -> Result<bool, FileFault> {
+        match self.known {
             Some(moment) => file.was_there(moment),
             None => Ok(false),
         }
@@ -261,6 +289,12 @@ impl<R: Files<File = File> + AllocGlobal + Clone + Drop> FolderFiles<R> {
             Err(error) => Err(NamedFault::of_folder(self.rt.alloc(), FileFault::System(error))),
         }
     }
+}
+
+// Whether a file was written no earlier than another.
+fn is_behind(file: &OpenedFile, other: &Option<OpenedFile>) -> Result<bool, FileFault> {
+    let Some(other) = other else { return Ok(false) };
+    Ok(!file.written()?.is_before(other.written()?))
 }
 
 // Whether a file that begins so was never whole: it begins with zeros, or has nothing but zeros.

@@ -27,6 +27,14 @@ impl Moment {
         }
     }
 
+    // When the bytes of a file were written last.
+    pub(crate) fn of_write(found: &Metadata) -> Moment {
+        Moment {
+            seconds: found.mtime(),
+            nanos: found.mtime_nsec(),
+        }
+    }
+
     pub(crate) fn is_before(self, other: Moment) -> bool {
         self.seconds < other.seconds || (self.seconds == other.seconds && self.nanos < other.nanos)
     }

@@ -223,6 +223,11 @@ impl OpenedFile {
         Ok(front)
     }
 
+    // When it was written last.
+    pub(crate) fn written(&self) -> Result<Moment, FileFault> {
+        Ok(Moment::of_write(&self.file.metadata()?))
+    }
+
     // Whether it is under its name as it was at a moment.
     pub(crate) fn was_there(&self, moment: Moment) -> Result<bool, FileFault> {
         Ok(Moment::of_change(&self.file.metadata()?).is_before(moment))

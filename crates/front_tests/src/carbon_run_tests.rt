@@ -9,23 +9,27 @@ use std::process::Abort;
 use std::sync::Wait;
 use std::test::Fail;
 use std::thread::Threads;
+use std::time::Duration;
+use std::{fs, thread};
 
-// Disks over the folders of all classes.
-fn folders(host: &HostRuntime) -> Result<Vec<FolderDisk<HostRuntime>>, AllocError>
+// Disks over the folders of all classes, in this one.
+fn folders(host: &HostRuntime, place: &str) -> Result<Vec<FolderDisk<HostRuntime>>, AllocError>
     ensures { IfOk result (λ disks. vec_len disks ≡ 16) }
 {
     let alloc = host.alloc();
     let mut disks = Vec::with_capacity(alloc, 16)?;
     for class in 0..16u32 {
-        let folder = format!(in alloc; "run/{class:02}")?;
+        let folder = format!(in alloc; "{place}/{class:02}")?;
         disks.push(FolderDisk::new(host.clone()?, folder))?;
     }
     Ok(disks)
 }
 
-fn script_words(alloc: Global) -> Result<Vec<String>, AllocError> {
+fn words_of(alloc: Global, text: &str) -> Result<Vec<String>, AllocError> {
     let mut words = Vec::new(alloc);
-    words.push(String::from_str(alloc, "script")?)?;
+    for word in text.split(' ') {
+        words.push(String::from_str(alloc, word)?)?;
+    }
     Ok(words)
 }
 
@@ -33,12 +37,13 @@ fn script_words(alloc: Global) -> Result<Vec<String>, AllocError> {
 fn run_folders<R: Threads + Wait + Sync>(
     rt: &R,
     host: &HostRuntime,
+    place: &str,
     words: &[String],
     input: &mut MemSource,
     out: &mut MemSink,
     conf: &mut FolderDisk<HostRuntime>,
 ) -> Result<u8, AllocError> {
-    let disks = folders(host)?;
+    let disks = folders(host, place)?;
     let clock = FixedClock::new(1_700_000_000);
     let report = run(
         rt,
@@ -57,15 +62,17 @@ fn run_folders<R: Threads + Wait + Sync>(
 fn assert_run<R: Threads + Wait + Abort + Sync>(
     rt: &R,
     host: &HostRuntime,
+    place: &str,
+    words: &str,
     script: &[u8],
     text: &[u8],
 ) -> Result<(), Fail> {
     let alloc = host.alloc();
-    let words = script_words(alloc)?;
+    let words = words_of(alloc, words)?;
     let mut input = MemSource::new(alloc, Vec::from_slice(alloc, script)?);
     let mut out = MemSink::new(alloc);
     let mut conf = FolderDisk::new(host.clone()?, String::from_str(alloc, "conf")?);
-    let status = run_folders(rt, host, &words, &mut input, &mut out, &mut conf)?;
+    let status = run_folders(rt, host, place, &words, &mut input, &mut out, &mut conf)?;
     assert!(rt; status == 0);
     assert!(rt; out.bytes() == text);
     Ok(())
@@ -89,7 +96,32 @@ fn a_second_run_over_real_folders_shows_what_the_first_drained(
         ),
     ];
     for (script, text) in table {
-        assert_run(&rt, &rt, script, text)?;
+        assert_run(&rt, &rt, "run", "script", script, text)?;
+    }
+    Ok(())
+}
+
+const LOGGED: [(&[u8], &[u8]); 2] = [
+    (
+        b"a.b 1.5 1700000000\n",
+        b"stored 1 replaced 0 full 0 fields 0 path 0 value 0 time 0 long 0 drains 1\n",
+    ),
+    (
+        b"!clock 1700000130\n!ask target=a.b&from=1699999930&until=1700000030\n\
+          a.b 2.5 1700000040\n!drain\n!ask target=a.b&from=1699999930&until=1700000090\n",
+        b"[{\"target\": \"a.b\", \"datapoints\": [[1.5, 1699999980]]}]\ndrained 1\n\
+          [{\"target\": \"a.b\", \"datapoints\": [[1.5, 1699999980], [2.5, 1700000040]]}]\n\
+          stored 1 replaced 0 full 0 fields 0 path 0 value 0 time 0 long 0 drains 1\n",
+    ),
+];
+
+#[test]
+fn a_start_lays_the_log_over_the_file_that_it_had_made(rt: HostRuntime) -> Result<(), Fail> {
+    for (script, text) in LOGGED {
+        assert_run(&rt, &rt, "logged", "script --redo", script, text)?;
+        // as a crash leaves the gate that comes before it is closed
+        fs::write(&rt, "logged/12/redo.gate", b"\x01")?;
+        thread::sleep(&rt, Duration::from_millis(30));
     }
     Ok(())
 }

@@ -275,6 +275,6 @@ const DISK_FAULT: [Row<'static>; 1] = [Row {
 #[test]
 fn a_disk_that_fails_is_entered(rt: HostRuntime) -> Result<(), Fail> {
     let drained = drained_disks(&rt, rt.alloc())?;
-    let disks = failing_from(rt.alloc(), drained, CLASS, 4)?;
+    let disks = failing_from(rt.alloc(), drained, CLASS, 5)?;
     assert_over(&rt, rt.alloc(), disks, &NONE, &DISK_FAULT)
 }

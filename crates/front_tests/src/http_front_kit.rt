@@ -318,6 +318,7 @@ fn serve_disks<R: Wait + Abort>(
         rules: Rules::read(alloc, given.schemas, b"")?,
         limit: 100,
         strategy: Strategy::Naive,
+        redo: false,
     };
     match start_all(alloc, disks, &setup) {
         Ok(started) => serve_shards(rt, alloc, started, given.lines, cases),

@@ -10,7 +10,7 @@ use std::test::Fail;
 const NO_TARGET: &[u8] =
     b"HTTP/1.1 400 Bad Request\r\nContent-Type: text/plain\r\nContent-Length: 10\r\n\r\nno target\n";
 
-const REQUESTS: [Row<'static>; 9] = [
+const REQUESTS: [Row<'static>; 12] = [
     Row {
         stream: &[One(GET)],
         replies: &[One(FOUND)],
@@ -52,6 +52,35 @@ const REQUESTS: [Row<'static>; 9] = [
         )],
         end: HttpEnd::Closed,
         entries: 0,
+    },
+    Row {
+        stream: &[One(b"GET /render?target=movingAverage(a.b,10) HTTP/1.1\r\n\r\n")],
+        replies: &[One(
+            b"HTTP/1.1 400 Bad Request\r\nContent-Type: text/plain\r\nContent-Length: 27\r\n\r\ntarget 1: unknown function\n",
+        )],
+        end: HttpEnd::Closed,
+        entries: 0,
+    },
+    Row {
+        stream: &[One(b"GET /render?target=a.b&maxDataPoints=0 HTTP/1.1\r\n\r\n")],
+        replies: &[One(
+            b"HTTP/1.1 400 Bad Request\r\nContent-Type: text/plain\r\nContent-Length: 18\r\n\r\nbad maxDataPoints\n",
+        )],
+        end: HttpEnd::Closed,
+        entries: 0,
+    },
+    // a query of more than 8,000 bytes
+    Row {
+        stream: &[
+            One(b"GET /render?target=x.y&"),
+            Times(8_000, b"y"),
+            One(b" HTTP/1.1\r\n\r\n"),
+        ],
+        replies: &[One(
+            b"HTTP/1.1 200 OK\r\nContent-Type: application/json\r\nContent-Length: 2\r\n\r\n[]",
+        )],
+        end: HttpEnd::Closed,
+        entries: 1,
     },
     Row {
         stream: &[One(b"GET /render/?target=x.y HTTP/1.1\r\n\r\n")],

@@ -94,6 +94,7 @@ fn start_shards(alloc: Global, limit: u64) -> Result<Started<MemDisk>, Fail>
         rules: Rules::read(alloc, b"", b"")?,
         limit,
         strategy: Strategy::Naive,
+        redo: false,
     };
     match start_all(alloc, sixteen_disks(alloc)?, &setup) {
         Ok(started) => Ok(started),

@@ -9,9 +9,7 @@ use Rattle.metric_line.specs.Point.{Point}
 use Rattle.metric_line.specs.Seen.{seen}
 use Rattle.aggregate_front.specs.Emitting.{AggregatorValue, Feeds}
 use Rattle.carbon_model.specs.State.{State}
-use Rattle.shared_history.specs.Parts.{PassValue}
 use Rattle.shared_store.specs.Passes.{HasRoom}
-use Rattle.shared_store.specs.Pieces.{HasRoomFor}
 use Rattle.line_front.specs.Batches.{HasNoRules, PutsAll, PutsFewer, PutsOne}
 use Rattle.line_front.specs.Bringing.{BringsAll, BringsFewer, BringsPart, FeedsBatch, FeedsFront, FeedsQuiet, FewBehind, PutsBehind, StopsPoint}
 use Rattle.line_front.specs.Emits.{PutsFew, StopsBring}
@@ -272,9 +270,6 @@ module _ (start : State) (passes : ℕ) where
 
     few_points : length (take count points) ≡ count
     few_points = length-take-le count points f.feeds.few
-
-    pub part_room : HasRoomFor points old.pass → HasRoomFor (take count points) fed.pass
-    part_room room = subst (λ (pass : PassValue). HasRoomFor (take count points) pass) (sym f.pass) (omega (arith, room, few_points, f.feeds.few))
 
     -- one of them was not put
     pub part_fewer : (reason : Stop) (new : SessionValue) → PutsFewer start passes reason (take count points) fed new → BringsFewer start passes reason points old new

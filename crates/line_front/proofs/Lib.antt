@@ -11,3 +11,4 @@ mod BringLemmas
 mod BatchLemmas
 mod WaitingLemmas
 mod EndLemmas
+mod LawLemmas

@@ -13,7 +13,7 @@ use Rattle.shard_core.specs.Started.{AreReadyShards}
 -- shards that stand for a state as they started are those that a store starts from
 pub fresh_from : {D : Type 0} {d : Ghosts D} (told : ℕ → Option Image) (start : State) (earlier : ℕ → ℕ) (shards : List (Shard D d)) → AreReadyShards told start earlier shards → AreReadyShards told start earlier shards
 fresh_from told start earlier shards ready k shard there =
-    let one = ready k shard there in record { class = one.class; empty = one.empty; holds = one.holds; faults = one.faults }
+    let one = ready k shard there in record { class = one.class; empty = one.empty; idle = one.idle; holds = one.holds; faults = one.faults }
 
 at_end : {X : Type 0} (xs : List X) (x : X) → slice_get (xs ++ x ∷ []) (length xs) ≡ Some x
 at_end [] x = refl

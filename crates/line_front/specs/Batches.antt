@@ -89,7 +89,7 @@ pub record ReadsPoints {T : Type 0} (moments : ℕ → Type 0) (result : Result 
 abbrev pub HasNoRules : SessionValue → Type 0
 HasNoRules session = session.gathered.rules ≡ []
 
--- the pass has room for the entries of a batch, and for the line behind it
+-- the pass has room for the entries of a batch's points, without those that rules emit for them, and for the line behind it
 abbrev pub HasBatchRoom : PassValue → Type 0
 HasBatchRoom pass = length (own_entries pass) + 260 ≤ 2 ^ 48
 

@@ -1,5 +1,6 @@
 pub mod Counts
 pub mod Points
+pub mod PointLaws
 pub mod Links
 pub mod Sessions
 pub mod Ends

@@ -6,8 +6,7 @@ use Rattle.metric_line.specs.declared.fault.LineFault.{LineFault}
 use Rattle.metric_line.specs.LineDatum.{datum_of}
 use Rattle.metric_line.specs.Point.{Point}
 use Rattle.aggregate_rules.specs.RuleTexts.{RuleValue}
-use Rattle.aggregate_front.specs.Emitting.{AggregatorValue, after_point, at_end}
-use Rattle.aggregate_front.specs.declared.aggregator.TheConstants.{LINK_LIMITS}
+use Rattle.aggregate_front.specs.Emitting.{AggregatorValue, after_point, at_end, link_limits}
 use Rattle.carbon_history.specs.declared.entry.Entry.{Entry}
 use Rattle.carbon_history.specs.declared.entry.Entry.TheVariants.{Put}
 use Rattle.carbon_history.specs.declared.entry.PutEnd.{PutEnd}
@@ -19,7 +18,7 @@ use Rattle.shared_store.specs.Passes.{Enters, HasRoom}
 
 -- what rules have gathered of a link that brought no point yet
 abbrev pub none_gathered : List RuleValue → AggregatorValue
-none_gathered rules = record { rules = rules; limits = LINK_LIMITS; outputs = [] }
+none_gathered rules = record { rules = rules; limits = link_limits; outputs = [] }
 
 -- the points that they emit when the link brings this one
 abbrev pub emitted_for : AggregatorValue → Point → List Point

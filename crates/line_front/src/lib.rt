@@ -8,6 +8,7 @@ mod bringing;
 mod counts;
 mod emitting;
 mod ends;
+mod laws;
 mod room;
 mod serve;
 mod session;
@@ -16,4 +17,5 @@ mod waiting;
 
 pub use counts::Counts;
 pub use ends::LineCause;
+pub use laws::what_is_put_beside_points_is_what_rules_emit;
 pub use serve::{Served, serve_lines};

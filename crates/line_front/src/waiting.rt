@@ -14,7 +14,8 @@ use std::sync::Wait;
 /// The fewest points that are put together, under the locks of all their classes.
 pub(crate) const FEWEST_TOGETHER: usize = 16;
 
-/// The most entries that a batch makes, and the room that the line behind it wants.
+/// The most entries that the points of a batch make, without those that rules emit for them, and
+/// the room that the line behind it wants.
 const MOST_BATCH_ENTRIES: u64 = MOST_BATCH_POINTS as u64 + MOST_CALL_ENTRIES;
 
 impl<'a, R: Wait, D: Disk, N: Named, C: Clock> LineSession<'a, R, D, N, C> {
@@ -42,8 +43,8 @@ impl<'a, R: Wait, D: Disk, N: Named, C: Clock> LineSession<'a, R, D, N, C> {
         self.points = points;
     }
 
-    // Serves the lines that wait: in batches while the pass has room for a whole one, and then one
-    // after the other.
+    // Serves the lines that wait: in batches while the pass has room for the points of a whole one,
+    // and then one after the other.
     fn serve_batches<K: Sink>(
         &mut self,
         framer: &mut Framer,
@@ -70,7 +71,8 @@ impl<'a, R: Wait, D: Disk, N: Named, C: Clock> LineSession<'a, R, D, N, C> {
         serve_each(self, framer, out)
     }
 
-    // Whether the pass has room for the entries of a batch and for the line behind it.
+    // Whether the pass has room for the entries of a batch's points and for the line behind it. For
+    // what rules emit there room is looked for when it is put.
     #[tactic(auto, using(crate::proofs::PutLemmas::has_batch_room))]
     fn has_batch_room(&self) -> bool
         ensures { result ≡ true → HasBatchRoom self.now.session.pass }

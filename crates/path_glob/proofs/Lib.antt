@@ -12,4 +12,5 @@ mod WordLemmas
 mod StateLemmas
 mod RunLemmas
 mod TableLemmas
+mod KnownLemmas
 mod GroupLemmas

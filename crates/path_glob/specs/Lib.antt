@@ -11,4 +11,5 @@ pub mod Search
 pub mod States
 pub mod Bits
 pub mod Tables
+pub mod Known
 pub mod Groups

@@ -1,5 +1,6 @@
 -- States of rows as bits, by what they are.
-use Rattle.std.specs.Prelude.{◌≡◌, ℕ, ◌+◌, ◌/◌, ◌<◌, ◌||◌, Bool, List, [], length, get_or, replicate}
+use Rattle.std.specs.Prelude.{◌≡◌, ℕ, ◌+◌, ◌*◌, ◌/◌, ◌<◌, ◌≤◌, ◌||◌, ◌&&◌, Bool, List, [], length, get_or, replicate}
+use Rattle.path_glob.specs.Bits.{shifted}
 use Rattle.path_glob.specs.Glob.{Simple}
 use Rattle.path_glob.specs.Positions.{bit_of}
 use Rattle.path_glob.specs.States.{AreRows, Mark, First, Star, End, Over, mark_at}
@@ -56,3 +57,10 @@ pub record AreSized (tables : Tables) (words : ℕ) : Type 0 where
 abbrev pub AreTablesOf : List (List Simple) → Tables → ℕ → Type 0
 AreTablesOf rows tables words =
     (states : List State) × AreRows rows states × AreTables states tables × (words ≡ length states / 64 + 1)
+
+-- Active states were led on by a way: over this byte, or, behind the bytes, to themselves and the first ones of rows.
+pub record IsLed (tables : Tables) (way : ℕ) (old new : List ℕ) : Type 0 where
+  pub room : length new ≡ length old
+  pub over : way < 256 → (p : ℕ) → p < 64 * length old
+      → bit_of new p ≡ (shifted (λ q. bit_of old q && bit_of (get_or tables.over.items way []) q) p || (bit_of old p && bit_of tables.stars p))
+  pub begun : 256 ≤ way → (p : ℕ) → bit_of new p ≡ (bit_of old p || bit_of tables.firsts p)

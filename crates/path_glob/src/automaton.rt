@@ -1,5 +1,6 @@
 //! One part of a node's pattern, a long row of pieces or long braces, held against many nodes.
 use crate::bits::Bits;
+use crate::known_sets::KnownSets;
 use crate::positions::Positions;
 use crate::states::{Rows, states_of};
 use crate::tables::{Tables, tables_of};
@@ -11,13 +12,16 @@ use std::marker::Model;
 pub(crate) struct Automaton<'a> {
     rows: Rows<'a>,
     tables: Tables,
-    // the states that are active while a node is gone over
+    // the sets of its states that were active, with where the bytes lead from them
+    known: KnownSets,
+    // the states that are active while a node is gone over, where these are no known set
     active: Bits,
 }
 
 impl<'a> Model for Automaton<'a> {
     ghost use Rattle.std.specs.Prelude.{List, length};
     ghost use Rattle.path_glob.specs.Glob.{Simple};
+    ghost use Rattle.path_glob.specs.Known.{AreKnown};
     ghost use Rattle.path_glob.specs.States.{rows_of};
     ghost use Rattle.path_glob.specs.Tables.{AreTablesOf};
 
@@ -25,7 +29,8 @@ impl<'a> Model for Automaton<'a> {
 
     ghost view = { λ a. rows_of a.rows };
 
-    ghost invariant = { λ a. AreTablesOf (rows_of a.rows) a.tables (length a.active) };
+    ghost invariant = { λ a. AreTablesOf (rows_of a.rows) a.tables (length a.active)
+        × AreKnown a.tables a.known };
 }
 
 impl<'a> Automaton<'a> {
@@ -41,10 +46,12 @@ impl<'a> Automaton<'a> {
         let states = states_of(alloc, rows)?;
         let list = states.as_slice();
         let tables = tables_of(alloc, list)?;
+        let known = KnownSets::new(alloc, &tables)?;
         let active = Bits::none(alloc, list.len() / 64 + 1)?;
         Ok(Automaton {
             rows,
             tables,
+            known,
             active,
         })
     }
@@ -60,6 +67,7 @@ impl<'a> Automaton<'a> {
         ensures leads { Leads (SomeCovers self.old) node.now (held start) (held result) }
         ensures same { self.new ≡ self.old }
     {
-        self.tables.after(&mut self.active, node, start)
+        self.known
+            .after(&self.tables, &mut self.active, node, start)
     }
 }

@@ -7,6 +7,9 @@ use crate::positions::next_word;
 use std::alloc::{AllocError, Global};
 use std::marker::Model;
 
+// An odd number whose bits are without order.
+const DIGEST_FACTOR: u64 = 0x9e37_79b9_7f4a_7c15;
+
 /// A set of places, each a bit, 64 to a word.
 #[derive(Drop)]
 pub(crate) struct Bits {
@@ -31,8 +34,30 @@ impl Bits {
     }
 
     /// How many words it has.
-    pub(crate) fn words(&self) -> usize {
+    pub(crate) fn words(&self) -> usize
+        ensures { result ≡ length self.now }
+    {
         self.words.len()
+    }
+
+    /// The same places.
+    pub(crate) fn copy(&self, alloc: Global) -> Result<Bits, AllocError>
+        ensures { IfOk result (λ bits. bits ≡ self.now) }
+    {
+        let words = self.words.as_slice().to_vec(alloc)?;
+        Ok(Bits { words })
+    }
+
+    /// Whether these are the places of another set.
+    pub(crate) fn is(&self, other: &Bits) -> bool
+        ensures { IsTrue result → self.now ≡ other.now }
+    {
+        same_words(self.words.as_slice(), other.words.as_slice())
+    }
+
+    /// A number that differs for most sets.
+    pub(crate) fn digest(&self) -> u64 {
+        digest_of(self.words.as_slice())
     }
 
     /// Puts a place in.
@@ -85,6 +110,22 @@ impl Bits {
             stay.words.as_slice(),
         );
     }
+}
+
+// Whether words are those of another set.
+fn same_words(words: &[u64], others: &[u64]) -> bool
+    ensures { IsTrue result → words.now ≡ others.now }
+{
+    words == others
+}
+
+// A number that differs for most words.
+fn digest_of(words: &[u64]) -> u64 {
+    let mut digest = 0_u64;
+    for word in words {
+        digest = (digest.rotate_left(5) ^ *word).wrapping_mul(DIGEST_FACTOR);
+    }
+    digest
 }
 
 // Takes all bits out.

@@ -46,7 +46,7 @@ impl HoldWork {
         }
     }
 
-    /// That of an automaton whose states take so many words.
+    /// That of an automaton whose states take so many words, where none of their sets is known.
     pub(crate) fn of_words(words: usize) -> HoldWork {
         HoldWork {
             node: words as u64,

@@ -11,7 +11,8 @@
 //!   have none.
 //!
 //! [`Glob::matches`] holds a glob against one path. [`GlobSearch`] holds it against many, makes long patterns ready
-//! for that or remembers what came of the nodes whose trying takes long, and counts its [`Work`].
+//! for that and learns where bytes lead in them, or remembers what came of the nodes whose trying takes long, and
+//! counts its [`Work`].
 
 mod automaton;
 mod bits;
@@ -23,6 +24,7 @@ mod glob;
 mod glob_search;
 mod groups;
 mod hold_work;
+mod known_sets;
 mod laws;
 mod node_search;
 mod places;

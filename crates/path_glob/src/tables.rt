@@ -125,12 +125,39 @@ fn states_of_kind(alloc: Global, states: &[State<'_>], kind: Kind) -> Result<Bit
 }
 
 impl Tables {
-    ghost use Rattle.std.specs.Prelude.{◌≡◌, ◌≢◌, ◌↔◌, ℕ, ◌<◌, ◌≤◌, ◌||◌, ◌&&◌, List, false, true, length};
+    ghost use Rattle.std.specs.Prelude.{◌≡◌, ◌≢◌, ◌↔◌, ℕ, ◌<◌, ◌≤◌, ◌||◌, ◌&&◌, IsTrue, List, false, true, length};
     ghost use Rattle.path_glob.specs.Bits.{Meet};
     ghost use Rattle.path_glob.specs.Positions.{Leads, bit_of, held};
     ghost use Rattle.path_glob.specs.States.{First, LeadOut, mark_at};
-    ghost use Rattle.path_glob.specs.Tables.{AreSized, AreTables};
+    ghost use Rattle.path_glob.specs.Tables.{AreSized, AreTables, IsLed};
     ghost use Rattle.path_glob.specs.declared.states.State.{State};
+
+    /// Leads the active states on by a way: over this byte, or, behind the bytes, to themselves and
+    /// the first ones of rows.
+    pub(crate) fn lead(&self, active: &mut Bits, way: usize)
+        requires sized { AreSized self.now (length active.old) }
+        ensures { IsLed self.now way active.old active.new }
+    {
+        match self.over.get(way) {
+            Some(over) => active.step(over, &self.stars),
+            None => active.add(&self.firsts),
+        }
+    }
+
+    /// Whether an active state is the end of its row.
+    pub(crate) fn has_end(&self, active: &Bits) -> bool
+        requires { AreSized self.now (length active.now) }
+        ensures { IsTrue result ↔ Meet active.now self.now.ends }
+    {
+        active.meets(&self.ends)
+    }
+
+    /// How many words its states take.
+    pub(crate) fn words(&self) -> usize
+        ensures { result ≡ length self.now.firsts }
+    {
+        self.firsts.words()
+    }
 
     /// The positions in a node to which these lead over bytes that lead from the first state of a row to its
     /// end. The active states are kept where the caller says.

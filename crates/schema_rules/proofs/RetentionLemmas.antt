@@ -11,7 +11,7 @@ use Rattle.std.proofs.lemmas.List.Sorted.{IsPermutation-append, IsPermutation-co
 use Rattle.std.proofs.lemmas.Map.Views.{All-values-insert_entry}
 use Rattle.ring_format.specs.declared.archive.Archive.{Archive}
 use Rattle.ring_format.specs.Patch.{place_cmp}
-use Rattle.schema_rules.specs.RuleLines.{trimmed}
+use Rattle.rule_lines.specs.TextLines.{trimmed}
 use Rattle.schema_rules.specs.Retentions.{InOrder, archive_of, archives_from, archives_of, is_comma, with_archive}
 use Rattle.schema_rules.specs.RetentionLaws.{AreInOrder, AreOfPieces, StepsRise, pieces_of}
 

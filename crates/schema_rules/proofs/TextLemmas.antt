@@ -5,7 +5,8 @@ use Rattle.std.proofs.lemmas.Bool.Decides.{nat_tests}
 use Rattle.std.proofs.lemmas.List.Quantifiers.{position-Some}
 use Rattle.std.specs.List.{position, position_or_len}
 use Rattle.std.specs.Str.{IsUtf8}
-use Rattle.schema_rules.specs.RuleLines.{is_blank, is_no_blank, is_separator, without_first_blanks}
+use Rattle.rule_lines.specs.TextLines.{is_blank, is_no_blank, without_first_blanks}
+use Rattle.schema_rules.specs.RuleLines.{is_separator}
 
 -- what stands behind an ASCII byte
 pub utf8_behind : (bs : List ℕ) (i : ℕ) → IsUtf8 bs → i < length bs → get_or bs i 0 < 128 → IsUtf8 (drop (i + 1) bs)

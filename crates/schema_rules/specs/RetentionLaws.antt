@@ -2,7 +2,7 @@
 use Rattle.std.specs.Prelude.{◌≤◌, ℕ, List, [], ◌∷◌, map, All, Contains, IsPermutation, MatchOption, Option, Some, None}
 use Rattle.std.specs.List.{slice_split}
 use Rattle.ring_format.specs.declared.archive.Archive.{Archive}
-use Rattle.schema_rules.specs.RuleLines.{trimmed}
+use Rattle.rule_lines.specs.TextLines.{trimmed}
 use Rattle.schema_rules.specs.Retentions.{archive_of, archives_of, is_comma}
 
 -- each piece between commas as its archive, or none where it has not the form of one

@@ -7,7 +7,7 @@ use Rattle.std.specs.BTreeMap.{insert_entry}
 use Rattle.std.specs.Map.{values_of}
 use Rattle.ring_format.specs.declared.archive.Archive.{Archive}
 use Rattle.ring_format.specs.Patch.{place_cmp}
-use Rattle.schema_rules.specs.RuleLines.{trimmed}
+use Rattle.rule_lines.specs.TextLines.{trimmed}
 
 -- the greatest number, and the most seconds
 abbrev pub most_seconds : ℕ

@@ -5,7 +5,7 @@ ghost use Rattle.schema_rules.specs.RulesOf.{Stops, file_sections, most_file_byt
 
 use crate::fault::{RuleCause, Stop};
 use crate::section::Sections;
-use crate::text::{next_line, without_last_blanks};
+use rule_lines::{next_line, without_last_blanks};
 use std::alloc::Global;
 
 // The most bytes of a file.
@@ -37,12 +37,12 @@ fn sections_of<'a>(alloc: Global, file: &'a [u8]) -> Result<Sections<'a>, Stop>
     let mut sections = Sections::new(alloc);
     let mut number = 1;
     let mut rest = file;
-    while let Some((line, more)) = next_line(rest) {
-        if !sections.take_line(without_last_blanks(line))? {
+    while let Some(first) = next_line(rest) {
+        if !sections.take_line(without_last_blanks(first.line))? {
             return Err(Stop::Cause(RuleCause::Line(number)));
         }
         number += 1;
-        rest = more;
+        rest = first.rest;
     }
     if !sections.take_line(without_last_blanks(rest))? {
         return Err(Stop::Cause(RuleCause::Line(number)));

@@ -14,7 +14,6 @@ mod retention;
 mod rules;
 mod schema;
 mod section;
-mod text;
 mod unit;
 
 pub use fault::{RuleCause, RuleFault, RuleFile};

@@ -3,9 +3,9 @@ ghost use Rattle.std.specs.Prelude.{◌≡◌, ◌≤◌, ◌<◌, [], ◌∷◌
 ghost use Rattle.std.specs.List.{slice_split};
 ghost use Rattle.schema_rules.specs.Retentions.{archive_from, archive_of, archives_from, archives_of, is_colon, is_comma};
 
-use crate::text::trimmed;
 use crate::unit::{points_of, step_of};
 use ring_format::Archive;
+use rule_lines::trimmed;
 use std::alloc::{AllocError, Global};
 use std::collections::BTreeMap;
 use std::marker::Model;

@@ -1,9 +1,10 @@
 //! Sections, and what a line adds to them.
-ghost use Rattle.std.specs.Prelude.{◌≡◌, ◌≤◌, ◌+◌, ◌-◌, Some, None, List, ℕ, IfOk, length, option_copied, option_map, position, if◌then◌else◌, slice_get, slice_index};
+ghost use Rattle.std.specs.Prelude.{◌≡◌, ◌≤◌, ◌<◌, ◌+◌, ◌-◌, Some, None, List, ℕ, IfOk, drop, length, option_copied, option_map, position, if◌then◌else◌, slice_get, slice_index};
 ghost use Rattle.std.specs.Str.{str_eq_ignore_ascii_case};
-ghost use Rattle.schema_rules.specs.RuleLines.{is_blank, is_bracket, is_header, is_passed_over, is_separator, setting_of};
+ghost use Rattle.rule_lines.specs.TextLines.{is_blank, without_first_blanks};
+ghost use Rattle.schema_rules.specs.RuleLines.{is_bracket, is_header, is_separator, setting_of};
 
-use crate::text::{is_blank, text_in, value_behind, without_last_blanks};
+use rule_lines::{is_blank, is_passed_over, text_in, without_first_blanks, without_last_blanks};
 use std::alloc::{AllocError, Global};
 use std::marker::Model;
 
@@ -175,14 +176,6 @@ fn is_key(key: &[u8], word: &[u8]) -> bool
     key.eq_ignore_ascii_case(word)
 }
 
-// Whether a line is empty or a comment.
-#[tactic(auto, unfolding(crate::specs::RuleLines::is_passed_over))]
-fn is_passed_over(line: &[u8]) -> bool
-    ensures { result ≡ is_passed_over line.now }
-{
-    line.is_empty() || line[0] == b'#' || line[0] == b';'
-}
-
 fn begins_with_blank(line: &[u8]) -> bool
     ensures { result ≡ is_blank (slice_index line.now 0) }
 {
@@ -226,4 +219,17 @@ fn separator_in(line: &[u8]) -> Option<usize>
     ensures { result ≡ position is_separator line.now }
 {
     line.iter().position(|b| *b == b'=' || *b == b':')
+}
+
+// The value that stands behind a separator of a line, without the blanks at its front.
+fn value_behind(line: &str, at: usize) -> &str
+    requires place { at < length line.now }
+    requires ascii { slice_index line.now at < 128 }
+    ensures { result.now ≡ without_first_blanks (drop (at + 1) line.now) }
+{
+    let value = without_first_blanks(&line.as_bytes()[at + 1..]);
+    match str::from_utf8(value) {
+        Ok(value) => value,
+        Err(_) => unreachable!(),
+    }
 }

@@ -1,5 +1,5 @@
 -- A drain begins: its metric leaves the pending ones, and is kept as it is after the drain.
-use Rattle.std.proofs.Common.{◌≡◌, inl, inr, ◌∙◌, ℕ, suc, ℤ, ◌+◌, ◌<◌, ◌==◌, All, Bool, true, false, List, length, Option, Some, None, IfSome, IsSomeAnd, refl, sym, ap, subst, arith, option_map, if◌then◌else◌}
+use Rattle.std.proofs.Common.{◌≡◌, inl, inr, ◌∙◌, ℕ, suc, ℤ, ◌+◌, ◌<◌, ◌==◌, Bool, true, false, List, [], ◌∷◌, length, Option, Some, None, IfSome, IsSomeAnd, refl, sym, ap, subst, arith, option_map, if◌then◌else◌}
 use Rattle.std.specs.Prelude.{◌&&◌, is_some, not, unwrap_or}
 use Rattle.std.specs.Option.{option_map_or}
 use Rattle.std.specs.Map.{remove_entry}
@@ -23,14 +23,18 @@ use Rattle.drain_order.specs.Pick.{pick, queue_after}
 use Rattle.drain_order.specs.Picking.{Picking}
 use Rattle.write_shelf.specs.Runs.{runs_of}
 use Rattle.write_shelf.specs.Shelf.{DrainValue, drain_with}
+use Rattle.write_shelf.specs.declared.run.Run.{Run}
 use Rattle.ring_writer.specs.PartWritten.{Awaits}
 use Rattle.ring_writer.proofs.NextLemmas.{new_awaits, ring_awaits}
+use Rattle.redo_log.specs.Ends.{redo_with}
+use Rattle.redo_log.specs.Steps.{IsClosed, RedoValue, gate_name}
 use Rattle.carbon_model.specs.State.{Kept, Metrics, State, form_of, layout_or, points_in}
 use Rattle.carbon_model.specs.RingFiles.{IsOfClass, StandsUnder, is_patched}
 use Rattle.carbon_model.specs.Replay.{with_drained}
 use Rattle.shard_core.specs.Plans.{Begins, Drains, MakesBatch, NeedsNoWrite, PlansFor}
 use Rattle.shard_core.specs.Shard.{HasFiles, Holds, HoldsKept, HoldsShelf, Inside, IsLawfulRing, IsOfKept, IsUnderWay, KeepsLayouts, patch_on}
 use Rattle.shard_core.specs.Table.{IsEntry, Lists, Table, drains_in, kept_form, form_kept}
+use Rattle.shard_core.specs.Work.{HoldsLog, HoldsRedo}
 use Rattle.shard_core.proofs.FileLemmas.{same_text}
 use Rattle.shard_core.proofs.KeptLemmas.{file_at, kept_as, no_layout, none_is, two_where_old, version_by}
 use Rattle.shard_core.proofs.PendingLemmas.{fewer_without}
@@ -128,11 +132,11 @@ drains_after table table' path p known s there sets was = elim (same_text p path
   | inr other ↦ rw other.0 (ap (λ (o : Option Known). option_map_or (λ k. k.drains) o 0) (sets.others p other.1) ∙ was)
 ]
 
-pub drains_picked : (old : Inside) (cache : Cache) (picker : Picking) (table : Table) (shelf : Option DrainValue) (path : List ℕ) (now : ℕ) (patch : PatchValue) → old.shelf ≡ None → IsOfClass old.class path → Leaves old cache picker path
+pub drains_picked : (old : Inside) (cache : Cache) (picker : Picking) (table : Table) (shelf : Option DrainValue) (steps : ℕ) (log : Option (Option RedoValue)) (path : List ℕ) (now : ℕ) (patch : PatchValue) → old.shelf ≡ None → IsOfClass old.class path → Leaves old cache picker path
     → (makes : MakesBatch old path now patch) → Sets old.table table path (Some (once_more makes.known)) → shelf ≡ drain_with patch (runs_of patch) → HasFiles old.class old.table None old.known
     → Lists old.class old.rules old.cache.metrics old.table
-    → Drains old (record old { cache = cache; picker = picker; table = table; shelf = shelf }) path now
-drains_picked old cache picker table shelf path now patch empty one leaves makes sets put files lists told s holds =
+    → Drains old (record old { cache = cache; picker = picker; table = table; shelf = shelf; steps = steps; log = log }) path now
+drains_picked old cache picker table shelf steps log path now patch empty one leaves makes sets put files lists told s holds =
     let entry : IsEntry old.class old.rules old.cache.metrics path makes.known = subst (λ (o : Option Known). IfSome o (IsEntry old.class old.rules old.cache.metrics path)) makes.there (lists.entries path) in
     let its : points_of old.cache.metrics path ≡ points_in s path = ap (λ (ms : Metrics). points_of ms path) (holds.pending ∙ ap s.pending (sym one.here)) in
     let was : HoldsKept told old.class old.table None old.known s.kept = subst (λ (o : Option DrainValue). HoldsKept told old.class old.table (patch_on o) old.known s.kept) empty holds.kept in
@@ -176,18 +180,19 @@ none_needed shard path now patch makes needs =
       (makes.plans.cells old).1 (subst (λ (m : LayoutValue). HaveNoHome m.archives now (points_of shard.cache.metrics path)) (sym makes.plans.layout) some.1.1.1),
     )
 
-pub begins : (old : Inside) (cache : Cache) (picker : Picking) (table : Table) (shelf : Option DrainValue) (path : List ℕ) (now : ℕ) (patch : PatchValue) → old.shelf ≡ None → IsOfClass old.class path → Leaves old cache picker path
-    → (makes : MakesBatch old path now patch) → Sets old.table table path (Some (once_more makes.known)) → shelf ≡ drain_with patch (runs_of patch) → length (runs_of patch) < 5000000 → HasFiles old.class old.table None old.known
+pub begins : (old : Inside) (cache : Cache) (picker : Picking) (table : Table) (shelf : Option DrainValue) (steps : ℕ) (log : Option (Option RedoValue)) (path : List ℕ) (now : ℕ) (patch : PatchValue) → old.shelf ≡ None → IsOfClass old.class path → Leaves old cache picker path
+    → (makes : MakesBatch old path now patch) → Sets old.table table path (Some (once_more makes.known)) → shelf ≡ drain_with patch (runs_of patch) → length (runs_of patch) < 5000000 → steps < 5000000 → HasFiles old.class old.table None old.known
     → Lists old.class old.rules old.cache.metrics old.table
-    → Begins old (record old { cache = cache; picker = picker; table = table; shelf = shelf }) path now
-begins old cache picker table shelf path now patch empty one leaves makes sets put few files lists = record {
+    → Begins old (record old { cache = cache; picker = picker; table = table; shelf = shelf; steps = steps; log = log }) path now
+begins old cache picker table shelf steps log path now patch empty one leaves makes sets put few low files lists = record {
   empty = empty;
   here = one.here;
-  drains = drains_picked old cache picker table shelf path now patch empty one leaves makes sets put files lists;
+  drains = drains_picked old cache picker table shelf steps log path now patch empty one leaves makes sets put files lists;
   shelf = elim (on_shelf patch) [
     | inl none ↦ rw (put, none.0) tt
     | inr some ↦ rw (put, some.0) (record { own = makes.plans.own; all = refl; few = few })
   ];
+  few = low;
   nothing = elim (on_shelf patch) [
     | inl none ↦ (λ _. needs_none old path now patch makes none.1, λ _. put ∙ none.0)
     | inr some ↦ (λ e. absurd (none-some _ (sym e ∙ put ∙ some.0)), λ needs. absurd (some.1 (none_needed old path now patch makes needs)))
@@ -238,9 +243,9 @@ shelf_begun class table table' path known shelf patch image one there sets its l
     by (Some i) fs = record { far = begun_far patch (i (file_name_of patch.path)) (ring i fs); ring = ring i fs }
 
 -- a drain leaves all layouts
-pub layouts_drained : (old : Inside) (cache : Cache) (picker : Picking) (table : Table) (shelf : Option DrainValue) (path : List ℕ) (known : Known) → entry_of old.table path ≡ Some known → Sets old.table table path (Some (once_more known))
-    → KeepsLayouts old (record old { cache = cache; picker = picker; table = table; shelf = shelf })
-layouts_drained old cache picker table shelf path known there sets p layout knows = elim (same_text p path) [
+pub layouts_drained : (old : Inside) (cache : Cache) (picker : Picking) (table : Table) (shelf : Option DrainValue) (steps : ℕ) (log : Option (Option RedoValue)) (path : List ℕ) (known : Known) → entry_of old.table path ≡ Some known → Sets old.table table path (Some (once_more known))
+    → KeepsLayouts old (record old { cache = cache; picker = picker; table = table; shelf = shelf; steps = steps; log = log })
+layouts_drained old cache picker table shelf steps log path known there sets p layout knows = elim (same_text p path) [
   | inl same ↦ subst (λ (o : Option Known). IsSomeAnd o (λ k. k.layout ≡ layout)) (sym (ap (entry_of table) same.1 ∙ sets.here))
       (subst (λ (o : Option Known). IsSomeAnd o (λ k. k.layout ≡ layout)) (ap (entry_of old.table) same.1 ∙ there) knows)
   | inr other ↦ subst (λ (o : Option Known). IsSomeAnd o (λ k. k.layout ≡ layout)) (sym (sets.others p other.1)) knows
@@ -253,6 +258,27 @@ named_begun shelf patch name put own = elim (on_shelf patch) [
   | inl none ↦ rw (put, none.0) refl
   | inr some ↦ rw (put, some.0) (ap (λ (n : List ℕ). Some n) own)
 ]
+
+-- the log has what the first step needs
+holds_put : (patch : PatchValue) (name : List ℕ) (runs : List Run) (image : Image) → IsClosed (image gate_name) → IfSome (drain_with patch runs) (λ drain. Awaits drain.patch drain.left (image name)) → HoldsRedo (redo_with patch name runs) image
+holds_put patch name [] image closed far = closed
+holds_put patch name (run ∷ runs) image closed far = record { log = tt; gate = closed; file = far }
+
+far_put : (class : ℕ) (table : Table) (patch : PatchValue) (runs : List Run) (image : Image) → HoldsShelf class table (drain_with patch runs) (Some image) → IfSome (drain_with patch runs) (λ drain. Awaits drain.patch drain.left (image (file_name_of patch.path)))
+far_put class table patch [] image on = tt
+far_put class table patch (run ∷ runs) image on = on.1.far
+
+pub log_begun : (class : ℕ) (table : Table) (log log' : Option (Option RedoValue)) (shelf : Option DrainValue) (patch : PatchValue) (name : List ℕ) (known : Option Image) → IfSome log (λ redo. redo ≡ None)
+    → log' ≡ option_map (λ (redo : Option RedoValue). redo_with patch name (runs_of patch)) log → name ≡ file_name_of patch.path → shelf ≡ drain_with patch (runs_of patch) → HoldsShelf class table shelf known → HoldsLog log known → HoldsLog log' known
+log_begun class table log log' shelf patch name known was is named put on held = subst (λ (o : Option (Option RedoValue)). HoldsLog o known) (sym is) (by log known was held (subst (λ (s : Option DrainValue). HoldsShelf class table s known) put on))
+  where
+    by : (o : Option (Option RedoValue)) (k : Option Image) → IfSome o (λ redo. redo ≡ None) → HoldsLog o k → HoldsShelf class table (drain_with patch (runs_of patch)) k → HoldsLog (option_map (λ (redo : Option RedoValue). redo_with patch name (runs_of patch)) o) k
+    by None k none held on = tt
+    by (Some redo) None none held on = tt
+    by (Some redo) (Some image) none held on =
+        let closed : IsClosed (image gate_name) = subst (λ (r : Option RedoValue). HoldsRedo r image) none held in
+        holds_put patch name (runs_of patch) image closed
+        (subst (λ (n : List ℕ). IfSome (drain_with patch (runs_of patch)) (λ drain. Awaits drain.patch drain.left (image n))) (sym named) (far_put class table patch (runs_of patch) image on))
 
 -- the patch is of a metric that is kept from then on
 pub kept_begun : (class : ℕ) (table table' : Table) (path : List ℕ) (known : Known) (patch : PatchValue) → IsOfClass class path → Sets table table' path (Some (once_more known)) → patch.path ≡ path → patch.layout ≡ known.layout
@@ -284,6 +310,7 @@ begins_from old new picker path now queue strategy begun = record {
   here = begun.here;
   drains = λ told s holds. begun.drains told s (holds_picked told old picker s queue strategy holds);
   shelf = begun.shelf;
+  few = begun.few;
   nothing = begun.nothing;
   fewer = begun.fewer;
 }

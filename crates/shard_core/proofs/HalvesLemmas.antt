@@ -16,6 +16,7 @@ use Rattle.shard_core.specs.Halves.{AreHalves, DeskInside, FilesInside, both}
 use Rattle.shard_core.specs.Plans.{Begins, MayPlan, OnlyPicks}
 use Rattle.shard_core.specs.Puts.{OnlyTakes}
 use Rattle.shard_core.specs.Shard.{AreOfClass, HasFiles, HoldsShelf, IsLawfulRing, patch_on}
+use Rattle.shard_core.specs.Work.{HoldsLog}
 use Rattle.shard_core.proofs.BeginLemmas.{begins_from}
 use Rattle.shard_core.proofs.KeptLemmas.{file_at}
 use Rattle.shard_core.proofs.PendingLemmas.{points_have_moments}
@@ -32,6 +33,7 @@ halves_put old new files takes halves = record {
       (files_same old.class old.table new.table (patch_on files.shelf) files.known takes.says halves.rings);
   writing = subst (λ (class : ℕ). HoldsShelf class new.table files.shelf files.known) (sym takes.class)
       (shelf_same old.class old.table new.table files.shelf files.known takes.says halves.writing);
+  logged = halves.logged;
 }
 
 -- ---- picks
@@ -67,9 +69,10 @@ may_plan desk files path known points halves empty one own there rising is =
 -- ---- writes
 
 -- after a call for a run the files are a half with the same desk
-pub halves_written : (desk : DeskInside) (old new : FilesInside) → new.class ≡ old.class → Written desk.class desk.table old.shelf new.shelf old.known new.known → AreHalves desk old → AreHalves desk new
-halves_written desk old new class written halves = record {
+pub halves_written : (desk : DeskInside) (old new : FilesInside) → new.class ≡ old.class → Written desk.class desk.table old.shelf new.shelf old.known new.known → HoldsLog new.log new.known → AreHalves desk old → AreHalves desk new
+halves_written desk old new class written log halves = record {
   one = class ∙ halves.one;
   rings = written.files halves.rings;
   writing = written.shelf;
+  logged = log;
 }

@@ -1,5 +1,5 @@
 -- A shard stands for the state that its answers tell: from its start on, and after any calls.
-use Rattle.std.proofs.Common.{◌≡◌, ◌∙◌, ℕ, ℤ, true, List, [], ◌∷◌, ◌++◌, Option, Some, None, IfSome, refl, sym, ap, subst, option_map}
+use Rattle.std.proofs.Common.{◌≡◌, ◌∙◌, ℕ, ℤ, Bool, true, false, List, [], ◌∷◌, ◌++◌, Option, Some, None, IfSome, refl, sym, ap, subst, option_map}
 use Rattle.std.specs.Option.{option_map_or}
 use Rattle.outside_io.specs.Image.{Image}
 use Rattle.outside_io.specs.declared.disk.Disk.{Ghosts}
@@ -25,6 +25,7 @@ use Rattle.shard_core.specs.Started.{KeepsLaidOut, StartedFrom}
 use Rattle.shard_core.specs.Steps.{Makes, MakesAll, Plans, Puts, Step, Writes, entries_of, entries_of_all, plan_entries, put_entries, write_entries}
 use Rattle.shard_core.specs.Table.{Table}
 use Rattle.shard_core.specs.View.{inside_of}
+use Rattle.shard_core.specs.Work.{WorkValue, no_work}
 use Rattle.shard_core.specs.declared.planned.Planned.{Planned}
 use Rattle.shard_core.specs.declared.planned.Planned.TheVariants as planned
 use Rattle.shard_core.specs.declared.planned.Wrote.{Wrote}
@@ -87,11 +88,20 @@ inside_holds class settings told s shard opens here rules nothing waiting empty 
   strategy = ap (λ (p : Picking). p.strategy) waiting ∙ sym opens.strategy;
 }
 
-pub started_holds : {D : Type 0} {d : Ghosts D} (class : ℕ) (settings : Settings) (told : ℕ → Option Image) (s : State) (disk : D) (shard : Shard D d)
-    → StartedFrom class settings disk shard → Opens settings told s → d.image disk ≡ told class → KeepsLaidOut class (told class) shard.desk.table s.kept
+-- a shard that started writes no drain
+pub none_on : (redo : Bool) → (no_work redo).shelf ≡ None
+none_on true = refl
+none_on false = refl
+
+pub idle_on : (redo : Bool) → (no_work redo).steps ≡ 0
+idle_on true = refl
+idle_on false = refl
+
+pub started_holds : {D : Type 0} {d : Ghosts D} (class : ℕ) (settings : Settings) (redo : Bool) (told : ℕ → Option Image) (s : State) (disk : D) (shard : Shard D d)
+    → StartedFrom class settings redo disk shard → Opens settings told s → d.image shard.files.disk ≡ told class → KeepsLaidOut class (told class) shard.desk.table s.kept
     → Holds (told class) (inside_of shard) s
-started_holds {D} {d} class settings told s disk shard started opens tells laid =
-    inside_holds class settings told s (inside_of shard) opens started.here started.rules started.nothing started.waiting started.empty (started.same ∙ tells)
+started_holds {D} {d} class settings redo told s disk shard started opens tells laid =
+    inside_holds class settings told s (inside_of shard) opens started.here started.rules started.nothing started.waiting (ap (λ (w : WorkValue). w.shelf) started.empty ∙ none_on redo) tells
     (subst (λ (known : Option Image). OpensTable class known shard.desk.table) tells started.opens) started.opened laid
 
 -- ---- the calls

@@ -6,6 +6,10 @@ pub mod StandLemmas
 pub mod PlanLemmas
 pub mod PlannedLemmas
 pub mod WriteLemmas
+pub mod WorkLemmas
+pub mod LogLemmas
+pub mod OpenLemmas
+pub mod GoesLemmas
 pub mod TableLemmas
 pub mod BeginLemmas
 pub mod PutLemmas

@@ -1,5 +1,5 @@
 -- The plan of a drain makes the batch of the points of a metric.
-use Rattle.std.proofs.Common.{◌≡◌, ◌≢◌, ◌↔◌, ◌∙◌, ℕ, ℤ, Bool, true, false, List, [], Option, Some, None, IfSome, IsSomeAnd, inl, refl, sym, ap, subst, arith, if◌then◌else◌}
+use Rattle.std.proofs.Common.{◌≡◌, ◌≢◌, ◌↔◌, ◌∙◌, ℕ, ℤ, Bool, true, false, List, [], Option, Some, None, IfSome, IsSomeAnd, inl, refl, sym, ap, subst, arith}
 use Rattle.std.specs.Prelude.{◌&&◌, not, unwrap_or}
 use Rattle.std.proofs.lemmas.Bool.{true≢false}
 use Rattle.std.proofs.lemmas.Option.{none-some}

@@ -53,5 +53,5 @@ stands_moved opening before after patch patch' kept kept' class path one its its
         (stands.sound p of_class (other_patch path p patch its other.1))
   ];
   patched = ring;
-  others = λ name far. changes name (λ e. far path one (sym e)) ∙ stands.others name far;
+  others = λ name no_log no_gate far. changes name (λ e. far path one (sym e)) ∙ stands.others name no_log no_gate far;
 }

@@ -19,7 +19,7 @@ use Rattle.metric_path.specs.FileName.{file_name_of}
 use Rattle.metric_path.proofs.FileNameLemmas.{file_names_differ}
 use Rattle.ring_format.specs.Cell.{IsVersion}
 use Rattle.ring_format.specs.Head.{head_bytes_in, head_result}
-use Rattle.ring_format.specs.Layout.{LayoutValue, layout_fault}
+use Rattle.ring_format.specs.Layout.{LayoutValue}
 use Rattle.ring_format.specs.declared.fault.HeadFault.{HeadFault}
 use Rattle.ring_format.specs.declared.fault.HeadFault.TheVariants as faults
 use Rattle.ring_format.proofs.ReadHeads.{IsHeadOf}
@@ -29,7 +29,7 @@ use Rattle.metric_index.specs.Index.{entry_of}
 use Rattle.shard_core.specs.Shard.{HasFiles, IsLawfulRing}
 use Rattle.shard_core.specs.Table.{Table, kept_form, form_kept}
 use Rattle.shard_core.specs.Opened.{FirstDamaged, IsOpened, Opens}
-use Rattle.shard_core.specs.StartFaults.{IsDamagedFile}
+use Rattle.shard_core.specs.StartFaults.{IsDamagedRing}
 use Rattle.shard_core.specs.Starting.{FirstAmong, IsDamagedName, IsNoted, Noted, Notes, NotesHead, OnDamaged, TellsHead}
 use Rattle.shard_core.specs.declared.fault.StartFault.{StartFault}
 use Rattle.shard_core.specs.declared.fault.StartFault.TheVariants.{Damaged, DiskFault, NoMemory}
@@ -309,7 +309,7 @@ opened class image old new layouts lists sorted noted =
           rings = λ path one. same_itself (kept_on image path);
           sound = λ path one _. (here path one).1;
           patched = tt;
-          others = λ name far. refl;
+          others = λ name no_log no_gate far. refl;
         };
       };
     }
@@ -352,7 +352,7 @@ first_damaged class image old new name lists sorted first = record {
 }
 
 pub damaged_known : {A : Type 0} (fault : StartFault) (class : ℕ) (known now : Option Image) (old new : List (String A)) → now ≡ known → IfSome known (λ image. ListsNames image (map string_bytes old)) → IsPermutation old new
-    → IfSome now (λ image. OnDamaged fault (FirstAmong class image (map string_bytes new))) → IsDamagedFile fault known class
+    → IfSome now (λ image. OnDamaged fault (FirstAmong class image (map string_bytes new))) → IsDamagedRing fault known class
 damaged_known (Damaged name) class None now old new same lists sorted first = tt
 damaged_known (Damaged name) class (Some image) now old new same lists sorted first =
     first_damaged class image old new (string_bytes name) lists sorted (subst (λ (known : Option Image). IfSome known (λ image. FirstAmong class image (map string_bytes new) (string_bytes name))) same first)

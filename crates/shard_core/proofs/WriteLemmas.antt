@@ -15,10 +15,12 @@ use Rattle.ring_writer.proofs.PartLemmas.{part_laid}
 use Rattle.write_shelf.specs.Shelf.{DrainValue, IsBegun, IsRunOf, OfNext, drain_with, marked}
 use Rattle.write_shelf.specs.declared.run.Run.{Run}
 use Rattle.write_shelf.specs.declared.run.Run.TheVariants.{Create, Cells, Head}
+use Rattle.redo_log.specs.Steps.{RedoValue}
 use Rattle.carbon_model.specs.State.{Kept}
 use Rattle.carbon_model.specs.RingFiles.{IsOfClass, SameKept, StandsUnder, is_patched, is_sound, kept_in, kept_on, kept_through}
 use Rattle.shard_core.specs.Shard.{HasFiles, HoldsKept, HoldsShelf, Inside, IsLawfulRing, IsOfKept, Stays, patch_on}
 use Rattle.shard_core.specs.Table.{Table, kept_form}
+use Rattle.shard_core.specs.Work.{RunFails, RunsOn}
 use Rattle.shard_core.proofs.FileLemmas.{itself, ring_is_kept, ring_is_sound, same_text}
 use Rattle.shard_core.proofs.ReadingLemmas.{any_path, from_under, under_from}
 use Rattle.shard_core.proofs.StandLemmas.{stands_moved}
@@ -171,7 +173,7 @@ left_again drain begun = by drain.left refl
     by [] none = absurd (omega (arith, begun.some, ap length none))
     by (run ∷ runs) some = ap (drain_with drain.patch) some ∙ ap (λ (runs : List Run). Some (record { patch = drain.patch; left = runs })) (sym some)
 
-next_sound : (patch : PatchValue) (left : List Run) → OfNext (drain_with patch left) IsRunOf → IfSome (slice_get left 0) (IsRunOf patch)
+pub next_sound : (patch : PatchValue) (left : List Run) → OfNext (drain_with patch left) IsRunOf → IfSome (slice_get left 0) (IsRunOf patch)
 next_sound patch [] sound = tt
 next_sound patch (run ∷ runs) sound = sound
 
@@ -205,10 +207,10 @@ came_kept told class table drain left known known' kept came holds =
     write_holds told known known' class table drain.patch left kept came.on.0 (ring_before class table drain known came.on) came.comes (ring_after drain.patch left known known' came.sound came.comes) holds
 
 -- what stands for a state stands for it still, where all but the shelf and the disk is as before
-pub stays_kept : (old : Inside) (shelf : Option DrainValue) (known : Option Image)
+pub stays_kept : (old : Inside) (shelf : Option DrainValue) (steps : ℕ) (log : Option (Option RedoValue)) (known : Option Image)
     → ((told : Option Image) (kept : List ℕ → Option Kept) → HoldsKept told old.class old.table (patch_on old.shelf) old.known kept → HoldsKept told old.class old.table (patch_on shelf) known kept)
-    → Stays old (record old { shelf = shelf; known = known })
-stays_kept old shelf known keeps told s holds = record {
+    → Stays old (record old { shelf = shelf; steps = steps; log = log; known = known })
+stays_kept old shelf steps log known keeps told s holds = record {
   pending = holds.pending;
   queue = holds.queue;
   kept = keeps told s.kept holds.kept;
@@ -221,7 +223,7 @@ stays_kept old shelf known keeps told s holds = record {
 -- ---- a run is written
 
 -- what follows from a fact on a call
-known_so : (P Q : Image → Image → Type 0) → ((x y : Image) → P x y → Q x y) → (a b : Option Image) → WhereKnown a b P → WhereKnown a b Q
+pub known_so : (P Q : Image → Image → Type 0) → ((x y : Image) → P x y → Q x y) → (a b : Option Image) → WhereKnown a b P → WhereKnown a b Q
 known_so P Q more None None p = tt
 known_so P Q more None (Some y) p = absurd p
 known_so P Q more (Some x) None p = absurd p
@@ -246,37 +248,6 @@ pub record Written (class : ℕ) (table : Table) (old new : Option DrainValue) (
   pub shelf : HoldsShelf class table new known'
   pub kept : (told : Option Image) (kept : List ℕ → Option Kept) → HoldsKept told class table (patch_on old) known kept → HoldsKept told class table (patch_on new) known' kept
 
-pub run_written : (class : ℕ) (table : Table) (old new : Option DrainValue) (name : List ℕ) (known known' : Option Image) → IsNamed old name → HoldsShelf class table old known → new ≡ marked old → OfNext new IsRunOf
-    → WhereKnown known known' (WritesNext old name) → Written class table old new known known'
-run_written class table None new name known known' named on mark sound writes = absurd (none-some name (sym named))
-run_written class table (Some drain) new name known known' named on mark sound writes =
-    let came : Came class table drain (drop 1 drain.left) known known' = record {
-      on = on;
-      sound = next_sound drain.patch (drop 1 drain.left) (subst (λ (o : Option DrainValue). OfNext o IsRunOf) mark sound);
-      comes = known_so (RunWritten drain (file_name_of drain.patch.path)) (ComesTo drain.patch (drop 1 drain.left) (file_name_of drain.patch.path)) (λ x y written. written.comes) known known'
-          (written_there (Some drain) name known known' named writes);
-    } in subst (λ (o : Option DrainValue). Written class table (Some drain) o known known') (sym mark) (record {
-      files = came_files class table drain (drop 1 drain.left) known known' came;
-      shelf = came_shelf class table drain (drop 1 drain.left) known known' came;
-      kept = λ told kept. came_kept told class table drain (drop 1 drain.left) known known' kept came;
-    })
-
--- the same after a disk fault
-pub run_failed : (class : ℕ) (table : Table) (old : Option DrainValue) (name : List ℕ) (known known' : Option Image) → IsNamed old name → HoldsShelf class table old known → OfNext old IsRunOf → IfSome old IsBegun
-    → WhereKnown known known' (FailsNext old name) → Written class table old old known known'
-run_failed class table None name known known' named on sound begun fails = absurd (none-some name (sym named))
-run_failed class table (Some drain) name known known' named on sound begun fails =
-    let came : Came class table drain drain.left known known' = record {
-      on = on;
-      sound = sound;
-      comes = known_so (RunTorn drain (file_name_of drain.patch.path)) (ComesTo drain.patch drain.left (file_name_of drain.patch.path)) (λ x y torn. torn.comes) known known'
-          (torn_there (Some drain) name known known' named fails);
-    } in subst (λ (o : Option DrainValue). Written class table (Some drain) o known known') (left_again drain begun) (record {
-      files = came_files class table drain drain.left known known' came;
-      shelf = came_shelf class table drain drain.left known known' came;
-      kept = λ told kept. came_kept told class table drain drain.left known known' kept came;
-    })
-
 named_by : (drain : DrainValue) (left : List Run) → IsSome (drain_with drain.patch left)
     → Some (file_name_of drain.patch.path) ≡ option_map (λ d. file_name_of d.patch.path) (drain_with drain.patch left)
 named_by drain [] some = absurd cc
@@ -288,3 +259,123 @@ pub still_named : (old new : Option DrainValue) (name : Option (List ℕ)) → n
 still_named None new name named mark some = let none : IsSome (marked None) = subst (λ (o : Option DrainValue). IsSome o) mark some in absurd cc
 still_named (Some drain) new name named mark some =
     named ∙ named_by drain (drop 1 drain.left) (subst (λ (o : Option DrainValue). IsSome o) mark some) ∙ sym (ap (option_map (λ (d : DrainValue). file_name_of d.patch.path)) mark)
+
+-- ---- straight to the file
+
+pub written_straight : (class : ℕ) (table : Table) (old new : Option DrainValue) (known known' : Option Image) → RunsOn old new known known' → HoldsShelf class table old known → Written class table old new known known'
+written_straight class table None new known known' runs on = absurd cc
+written_straight class table (Some drain) new known known' runs on =
+    let came : Came class table drain (drop 1 drain.left) known known' = record {
+      on = on;
+      sound = next_sound drain.patch (drop 1 drain.left) (subst (λ (o : Option DrainValue). OfNext o IsRunOf) runs.marked runs.sound);
+      comes = known_so (RunWritten drain (file_name_of drain.patch.path)) (ComesTo drain.patch (drop 1 drain.left) (file_name_of drain.patch.path)) (λ x y written. written.comes) known known' runs.written;
+    } in subst (λ (o : Option DrainValue). Written class table (Some drain) o known known') (sym runs.marked) (record {
+      files = came_files class table drain (drop 1 drain.left) known known' came;
+      shelf = came_shelf class table drain (drop 1 drain.left) known known' came;
+      kept = λ told kept. came_kept told class table drain (drop 1 drain.left) known known' kept came;
+    })
+
+pub failed_straight : (class : ℕ) (table : Table) (old new : Option DrainValue) (known known' : Option Image) → RunFails old new known known' → HoldsShelf class table old known → Written class table old new known known'
+failed_straight class table None new known known' fails on = absurd cc
+failed_straight class table (Some drain) new known known' fails on =
+    let came : Came class table drain drain.left known known' = record {
+      on = on;
+      sound = fails.sound;
+      comes = known_so (RunTorn drain (file_name_of drain.patch.path)) (ComesTo drain.patch drain.left (file_name_of drain.patch.path)) (λ x y torn. torn.comes) known known' fails.torn;
+    } in subst (λ (o : Option DrainValue). Written class table (Some drain) o known known') (sym fails.same)
+    (subst (λ (o : Option DrainValue). Written class table (Some drain) o known known') (left_again drain fails.begun) (record {
+      files = came_files class table drain drain.left known known' came;
+      shelf = came_shelf class table drain drain.left known known' came;
+      kept = λ told kept. came_kept told class table drain drain.left known known' kept came;
+    }))
+
+-- ---- a patch that stays
+
+-- with its runs written or not
+under_stands : (opening before after : Image) (patch : PatchValue) (left : List Run) (kept : List ℕ → Option Kept) (class : ℕ) → IsOfClass class patch.path → (patch.fresh ≡ false → IsSomeAnd (before (file_name_of patch.path)) (IsRingFile patch.layout))
+    → ComesTo patch left (file_name_of patch.path) before after → (patch.fresh ≡ false → IsSomeAnd (after (file_name_of patch.path)) (IsRingFile patch.layout))
+    → StandsUnder opening before (Some patch) kept class → StandsUnder opening after (Some patch) kept class
+under_stands opening before after patch left kept class one ring comes ring' stands =
+    by (kept patch.path) refl (subst (λ (b : Bool). SameKept (if b then Some (kept_through patch (before (file_name_of patch.path))) else kept_on before patch.path) (kept patch.path)) (itself patch.path) (stands.rings patch.path one))
+  where
+    by : (k : Option Kept) → kept patch.path ≡ k → SameKept (Some (kept_through patch (before (file_name_of patch.path)))) (kept patch.path) → StandsUnder opening after (Some patch) kept class
+    by None is same = absurd (rw is at same)
+    by (Some k) is same =
+        let moved = through_moves before after patch left k ring comes (rw is at same) in
+        stands_moved opening before after (Some patch) (Some patch) kept kept class patch.path one refl refl comes.others (λ p e. refl) (rw (itself patch.path, is) moved)
+        (λ apart. absurd (true≢false (sym (itself patch.path) ∙ apart))) ring' stands
+
+under_files : (class : ℕ) (table : Table) (patch : PatchValue) (left : List Run) (x y : Image) → IsOfKept class table patch → ComesTo patch left (file_name_of patch.path) x y → HasFiles class table (Some patch) (Some x) → HasFiles class table (Some patch) (Some y)
+under_files class table patch left x y its comes files = λ path legal one apart. elim (same_text path patch.path) [
+  | inl same ↦ absurd (true≢false (sym (itself patch.path) ∙ subst (λ (q : List ℕ). bytes_eq patch.path q ≡ false) same.1 apart))
+  | inr other ↦ subst (λ (held : Option (List ℕ)). IfSome (kept_form table path) (λ form. IsSomeAnd held (IsLawfulRing form.0 form.1)))
+      (sym (comes.others (file_name_of path) (λ e. other.1 (file_names_differ path patch.path legal its.legal e))))
+      (files path legal one apart)
+]
+
+under_kept : (told : Option Image) (class : ℕ) (table : Table) (patch : PatchValue) (left : List Run) (x y : Image) (kept : List ℕ → Option Kept) → IsOfKept class table patch → (patch.fresh ≡ false → IsSomeAnd (x (file_name_of patch.path)) (IsRingFile patch.layout))
+    → ComesTo patch left (file_name_of patch.path) x y → (patch.fresh ≡ false → IsSomeAnd (y (file_name_of patch.path)) (IsRingFile patch.layout)) → HoldsKept told class table (Some patch) (Some x) kept → HoldsKept told class table (Some patch) (Some y) kept
+under_kept told class table patch left x y kept its ring comes ring' holds = record { layouts = holds.layouts; files = by told holds.files }
+  where
+    by : (t : Option Image) → WhereKnown t (Some x) (λ opening now. StandsUnder opening now (Some patch) kept class) → WhereKnown t (Some y) (λ opening now. StandsUnder opening now (Some patch) kept class)
+    by None files = absurd files
+    by (Some opening) files = under_stands opening x y patch left kept class (record { legal = its.legal; here = its.here }) ring comes ring' files
+
+pub under_written : (class : ℕ) (table : Table) (patch : PatchValue) (left left' : List Run) (known known' : Option Image) → HoldsShelf class table (Some (record { patch = patch; left = left })) known → IfSome (slice_get left' 0) (IsRunOf patch)
+    → WhereKnown known known' (ComesTo patch left' (file_name_of patch.path)) → Written class table (Some (record { patch = patch; left = left })) (Some (record { patch = patch; left = left' })) known known'
+under_written class table patch left left' None None on sound comes = record { files = λ files. files; shelf = (on.0, tt); kept = λ told kept holds. holds }
+under_written class table patch left left' None (Some y) on sound comes = absurd comes
+under_written class table patch left left' (Some x) None on sound comes = absurd comes
+under_written class table patch left left' (Some x) (Some y) on sound comes =
+    let ring : patch.fresh ≡ false → IsSomeAnd (y (file_name_of patch.path)) (IsRingFile patch.layout) = λ old. far_ring patch left' (y (file_name_of patch.path)) sound old comes.far in
+    record {
+      files = under_files class table patch left' x y on.0 comes;
+      shelf = (on.0, record { far = comes.far; ring = ring });
+      kept = λ told kept. under_kept told class table patch left' x y kept on.0 on.1.ring comes ring;
+    }
+
+-- ---- a patch that leaves
+
+alone_stands : (opening image : Image) (patch : PatchValue) (kept : List ℕ → Option Kept) (class : ℕ) → IsOfClass class patch.path → layout_fault patch.layout.archives patch.layout.factor ≡ None → Awaits patch [] (image (file_name_of patch.path))
+    → StandsUnder opening image (Some patch) kept class → StandsUnder opening image None kept class
+alone_stands opening image patch kept class one lawful far stands =
+    by (kept patch.path) refl (subst (λ (b : Bool). SameKept (if b then Some (kept_through patch (image (file_name_of patch.path))) else kept_on image patch.path) (kept patch.path)) (itself patch.path) (stands.rings patch.path one))
+  where
+    by : (k : Option Kept) → kept patch.path ≡ k → SameKept (Some (kept_through patch (image (file_name_of patch.path)))) (kept patch.path) → StandsUnder opening image None kept class
+    by None is same = absurd (rw is at same)
+    by (Some k) is same =
+        let it : SameKept (Some (kept_through patch (image (file_name_of patch.path)))) (Some k) = rw is at same in
+        let alone = alone_held (image (file_name_of patch.path)) patch k lawful far it.0 it.1 it.2 in
+        stands_moved opening image image (Some patch) None kept kept class patch.path one refl tt (λ name apart. refl) (λ p e. refl) (rw is alone.0) (λ _. alone.1) tt stands
+
+alone_files : (class : ℕ) (table : Table) (patch : PatchValue) (image : Image) → IsOfKept class table patch → Awaits patch [] (image (file_name_of patch.path)) → HasFiles class table (Some patch) (Some image) → HasFiles class table None (Some image)
+alone_files class table patch image its far files = λ path legal one apart. elim (same_text path patch.path) [
+  | inl same ↦ subst (λ (q : List ℕ). IfSome (kept_form table q) (λ form. IsSomeAnd (image (file_name_of q)) (IsLawfulRing form.0 form.1))) (sym same.1)
+      (rw its.kept (lawful_held (image (file_name_of patch.path)) (none_ring patch (image (file_name_of patch.path)) far)))
+  | inr other ↦ files path legal one (differs path other.1)
+]
+  where
+    differs : (path : List ℕ) → (path ≡ patch.path → ⊥) → bytes_eq patch.path path ≡ false
+    differs path other = elim (same_text patch.path path) [
+      | inl same ↦ absurd (other (sym same.1))
+      | inr apart ↦ apart.0
+    ]
+
+    lawful_held : (held : Option (List ℕ)) → IsSomeAnd held (IsRingFile patch.layout) → IsSomeAnd held (IsLawfulRing 2 patch.layout)
+    lawful_held None ring = absurd ring
+    lawful_held (Some file) ring = (its.lawful, ring)
+
+pub stands_alone : (class : ℕ) (table : Table) (patch : PatchValue) (x y : Image) → Written class table (Some (record { patch = patch; left = [] })) (Some (record { patch = patch; left = [] })) (Some x) (Some y)
+    → Written class table (Some (record { patch = patch; left = [] })) None (Some x) (Some y)
+stands_alone class table patch x y written = record {
+  files = λ files. alone_files class table patch y written.shelf.0 written.shelf.1.far (written.files files);
+  shelf = tt;
+  kept = λ told kept holds. by told kept (written.kept told kept holds);
+}
+  where
+    by : (told : Option Image) (kept : List ℕ → Option Kept) → HoldsKept told class table (Some patch) (Some y) kept → HoldsKept told class table None (Some y) kept
+    by None kept holds = absurd holds.files
+    by (Some opening) kept holds = record {
+      layouts = holds.layouts;
+      files = alone_stands opening y patch kept class (record { legal = written.shelf.0.legal; here = written.shelf.0.here }) written.shelf.0.lawful written.shelf.1.far holds.files;
+    }

@@ -6,8 +6,10 @@ use Rattle.drain_order.specs.Picking.{Picking}
 use Rattle.point_cache.specs.Pending.{Cache}
 use Rattle.schema_rules.specs.RulesOf.{RulesValue}
 use Rattle.write_shelf.specs.Shelf.{DrainValue}
+use Rattle.redo_log.specs.Steps.{RedoValue}
 use Rattle.shard_core.specs.Shard.{HasFiles, HoldsShelf, Inside, KeepsLayouts, patch_on}
 use Rattle.shard_core.specs.Table.{Table}
+use Rattle.shard_core.specs.Work.{HoldsLog}
 use Rattle.shard_core.specs.declared.desk.Desk.{Desk}
 use Rattle.shard_core.specs.declared.files.Files.{Files}
 
@@ -20,10 +22,13 @@ pub record DeskInside : Type 0 where
   pub picker : Picking
   pub table : Table
 
--- What the files hold: their class, the drain that is being written, and what their disk tells.
+-- What the files hold: their class, the drain that is being written, in how many steps at most and
+-- how far it came in the log, and what their disk tells.
 pub record FilesInside : Type 0 where
   pub class : ℕ
   pub shelf : Option DrainValue
+  pub steps : ℕ
+  pub log : Option (Option RedoValue)
   pub known : Option Image
 
 -- what a shard of both halves holds
@@ -35,16 +40,19 @@ both desk files = record {
   picker = desk.picker;
   table = desk.table;
   shelf = files.shelf;
+  steps = files.steps;
+  log = files.log;
   known = files.known;
 }
 
 -- A desk and files are the halves of one shard: they are of one class, each metric that the desk
--- knows as kept has its ring file, and the drain that is being written is of a kept metric and as far
--- as the runs need that are left.
+-- knows as kept has its ring file, the drain that is being written is of a kept metric and as far as
+-- the runs need that are left, and the log has what its next step needs.
 pub record AreHalves (desk : DeskInside) (files : FilesInside) : Type 0 where
   pub one : files.class ≡ desk.class
   pub rings : HasFiles desk.class desk.table (patch_on files.shelf) files.known
   pub writing : HoldsShelf desk.class desk.table files.shelf files.known
+  pub logged : HoldsLog files.log files.known
 
 -- files that are a half with some desk
 pub record HaveDesk (files : FilesInside) : Type 0 where
@@ -77,7 +85,9 @@ desk_of desk = record {
 abbrev pub files_of : {D : Type 0} {d : Ghosts D} → Files D d → FilesInside
 files_of {D} {d} files = record {
   class = files.class;
-  shelf = files.shelf;
+  shelf = files.work.shelf;
+  steps = files.work.steps;
+  log = files.work.log;
   known = d.image files.disk;
 }
 

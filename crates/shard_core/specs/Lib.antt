@@ -1,4 +1,5 @@
 pub mod Table
+pub mod Work
 pub mod Shard
 pub mod Halves
 pub mod Puts
@@ -11,6 +12,7 @@ pub mod Opened
 pub mod Started
 pub mod StartFaults
 pub mod Starting
+pub mod Opening
 pub mod View
 pub mod Props
 pub mod Steps

@@ -1,5 +1,5 @@
 -- What a shard finds when it starts.
-use Rattle.std.specs.Prelude.{◌≡◌, ℕ, true, false, List, Option, None, IfSome, IsSomeAnd}
+use Rattle.std.specs.Prelude.{◌≡◌, ◌⊎◌, ℕ, true, false, List, Option, None, IfSome, IsSomeAnd}
 use Rattle.std.specs.Ordering.{nat_cmp, is_le}
 use Rattle.std.specs.Cmp.Lexicographic.{slice_cmp}
 use Rattle.outside_io.specs.Image.{Image}
@@ -7,9 +7,25 @@ use Rattle.metric_path.specs.Class.{class_of}
 use Rattle.metric_path.specs.FileName.{file_name_of}
 use Rattle.carbon_model.specs.State.{Kept}
 use Rattle.carbon_model.specs.RingFiles.{IsOfClass, is_sound, kept_on}
+use Rattle.redo_log.specs.Recovery.{IsDamaged as IsDamagedLog, OpensAs, Recovers}
+use Rattle.redo_log.specs.Rows.{KeepsRings}
+use Rattle.redo_log.specs.Steps.{log_name}
 use Rattle.metric_index.specs.Index.{entry_of}
 use Rattle.shard_core.specs.Shard.{HoldsKept}
 use Rattle.shard_core.specs.Table.{Table}
+
+-- The image at the opening, by the one that the disk had: where its gate is open the patch of the log is laid over its rings, and else it
+-- has these rings.
+pub record IsOpening (image opening : Image) : Type 0 where
+  pub laid : Image
+  pub recovers : Recovers image laid
+  pub rings : KeepsRings laid opening
+
+-- an image that opens as another does: it is the same, or its patch is laid or can still be laid
+pub record StillOpens (image now : Image) : Type 0 where
+  pub held : Image
+  pub opens : OpensAs image held
+  pub rings : KeepsRings held now
 
 -- the file of a path of the class is damaged
 abbrev pub IsDamaged : Image → List ℕ → Type 0
@@ -22,6 +38,11 @@ pub record FirstDamaged (class : ℕ) (image : Image) (name : List ℕ) : Type 0
   pub named : file_name_of path ≡ name
   pub damaged : IsDamaged image path
   pub first : (other : List ℕ) → IsOfClass class other → IsDamaged image other → is_le (slice_cmp nat_cmp name (file_name_of other)) ≡ true
+
+-- the log is damaged, which is told first, or the first damaged file is that of the opening
+abbrev pub IsDamagedBy : ℕ → Image → List ℕ → Type 0
+IsDamagedBy class image name =
+    ((name ≡ log_name) × IsDamagedLog image) ⊎ ((laid : Image) × (Recovers image laid × FirstDamaged class laid name))
 
 -- no file of the class is damaged
 abbrev pub IsSoundDisk : ℕ → Image → Type 0

@@ -54,6 +54,7 @@ pub record Begins (old new : Inside) (path : List ℕ) (now : ℕ) : Type 0 wher
   pub here : class_of path ≡ old.class
   pub drains : Drains old new path now
   pub shelf : IfSome new.shelf (IsUnwritten path)
+  pub few : new.steps < 5000000
   pub nothing : (new.shelf ≡ None) ↔ NeedsNoWrite old path now
   pub fewer : length new.cache.metrics < length old.cache.metrics
 
@@ -65,6 +66,8 @@ pub record Refuses (old new : Inside) : Type 0 where
   pub cache : new.cache ≡ old.cache
   pub queue : new.picker.queue ≡ old.picker.queue
   pub shelf : new.shelf ≡ old.shelf
+  pub steps : new.steps ≡ old.steps
+  pub log : new.log ≡ old.log
   pub table : new.table ≡ old.table
   pub stays : Stays old new
 

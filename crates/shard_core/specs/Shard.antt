@@ -11,6 +11,7 @@ use Rattle.ring_archive.specs.Ring.{IsRingFile, IsRingFileIn}
 use Rattle.ring_writer.specs.PartWritten.{Awaits}
 use Rattle.metric_index.specs.Index.{entry_of}
 use Rattle.write_shelf.specs.Shelf.{DrainValue}
+use Rattle.redo_log.specs.Steps.{RedoValue}
 use Rattle.carbon_model.specs.State.{Kept, Metrics, State, form_of}
 use Rattle.carbon_model.specs.RingFiles.{IsOfClass, StandsUnder, is_patched}
 use Rattle.drain_order.specs.Picking.{Picking}
@@ -72,7 +73,8 @@ pub record HoldsKept (told : Option Image) (class : ℕ) (table : Table) (patch 
   pub files : WhereKnown told known (λ opening now. StandsUnder opening now patch kept class)
 
 -- What a shard holds, as contracts see it: its class, the rules, the pending points, which of them
--- go next, what it knows of its metrics, the drain that is being written, and what its disk tells.
+-- go next, what it knows of its metrics, the drain that is being written, in how many steps at most
+-- and how far it came in the log, where it goes through one, and what its disk tells.
 pub record Inside : Type 0 where
   pub class : ℕ
   pub rules : RulesValue
@@ -80,6 +82,8 @@ pub record Inside : Type 0 where
   pub picker : Picking
   pub table : Table
   pub shelf : Option DrainValue
+  pub steps : ℕ
+  pub log : Option (Option RedoValue)
   pub known : Option Image
 
 -- A shard stands for its class's part of a state.

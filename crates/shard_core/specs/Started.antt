@@ -1,27 +1,29 @@
 -- A shard that started.
-use Rattle.std.specs.Prelude.{◌≡◌, ◌≤◌, ℕ, [], List, Option, None, Some, option_map, slice_get}
-use Rattle.outside_io.specs.Image.{Image}
+use Rattle.std.specs.Prelude.{◌≡◌, ◌≤◌, ℕ, Bool, [], List, Option, None, Some, option_map, slice_get}
+use Rattle.outside_io.specs.Image.{Image, WhereKnown}
 use Rattle.outside_io.specs.declared.disk.Disk.{Ghosts}
 use Rattle.schema_rules.specs.LayoutBy.{layout_by}
 use Rattle.carbon_model.specs.RingFiles.{IsOfClass, Settings}
 use Rattle.carbon_model.specs.State.{Kept, State, form_of}
-use Rattle.shard_core.specs.Opened.{IsOpened, Opens}
+use Rattle.shard_core.specs.Opened.{IsOpened, IsOpening, Opens}
 use Rattle.shard_core.specs.Shard.{Holds}
 use Rattle.shard_core.specs.Table.{Table, kept_form}
 use Rattle.shard_core.specs.View.{inside_of}
+use Rattle.shard_core.specs.Work.{no_work}
 use Rattle.shard_core.specs.declared.shard.Shard.{Shard}
 
--- the shard of a class started from this disk, with what is fixed for the run
-pub record StartedFrom {D : Type 0} {d : Ghosts D} (class : ℕ) (settings : Settings) (disk : D)
+-- the shard of a class started from this disk, with what is fixed for the run, and its drains go
+-- through the log where that is said
+pub record StartedFrom {D : Type 0} {d : Ghosts D} (class : ℕ) (settings : Settings) (redo : Bool) (disk : D)
     (shard : Shard D d) : Type 0 where
   pub here : shard.desk.class ≡ class
   pub rules : (path : List ℕ) → layout_by shard.desk.rules path ≡ settings.rules path
   pub nothing : shard.desk.cache ≡ record { limit = settings.limit; metrics = []; places = [] }
   pub waiting : shard.desk.picker
       ≡ record { strategy = settings.strategy; queue = []; arrived = []; settled = None }
-  pub empty : shard.files.shelf ≡ None
-  pub same : d.image shard.files.disk ≡ d.image disk
-  pub opens : Opens class (d.image disk) shard.desk.table
+  pub empty : shard.files.work ≡ no_work redo
+  pub opening : WhereKnown (d.image disk) (d.image shard.files.disk) IsOpening
+  pub opens : Opens class (d.image shard.files.disk) shard.desk.table
   pub opened : IsOpened class shard.desk.table
   pub later : d.faults disk ≤ d.faults shard.files.disk
 
@@ -38,7 +40,8 @@ KeepsLaidOut class (Some image) table kept = Unit {0}
 pub record IsReadyShard {D : Type 0} {d : Ghosts D} (told : ℕ → Option Image) (start : State)
     (earlier : ℕ → ℕ) (place : ℕ) (shard : Shard D d) : Type 0 where
   pub class : shard.desk.class ≡ place
-  pub empty : shard.files.shelf ≡ None
+  pub empty : shard.files.work.shelf ≡ None
+  pub idle : shard.files.work.steps ≡ 0
   pub holds : Holds (told place) (inside_of shard) start
   pub faults : earlier place ≡ d.faults shard.files.disk
 

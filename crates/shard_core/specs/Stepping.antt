@@ -52,6 +52,8 @@ pub record IsAsBefore (old new : Inside) : Type 0 where
   pub cache : new.cache ≡ old.cache
   pub queue : new.picker.queue ≡ old.picker.queue
   pub shelf : new.shelf ≡ old.shelf
+  pub steps : new.steps ≡ old.steps
+  pub log : new.log ≡ old.log
   pub table : new.table ≡ old.table
   pub stays : Stays old new
 

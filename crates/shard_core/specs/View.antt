@@ -25,5 +25,5 @@ pub record OnlyPuts {D : Type 0} {d : Ghosts D} (old new : Shard D d) : Type 0 w
   pub class : new.desk.class ≡ old.desk.class
   pub rules : new.desk.rules ≡ old.desk.rules
   pub picker : new.desk.picker ≡ old.desk.picker
-  pub shelf : new.files.shelf ≡ old.files.shelf
+  pub work : new.files.work ≡ old.files.work
   pub disk : new.files.disk ≡ old.files.disk

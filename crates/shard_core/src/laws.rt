@@ -1,5 +1,5 @@
 //! Laws of shards.
-ghost use Rattle.std.specs.Prelude.{◌≡◌, ℕ, List, Option};
+ghost use Rattle.std.specs.Prelude.{◌≡◌, ℕ, Bool, List, Option};
 ghost use Rattle.outside_io.specs.Image.{Image};
 ghost use Rattle.carbon_model.specs.Replay.{IsLegalHistory, replay};
 ghost use Rattle.carbon_model.specs.RingFiles.{Opens, Settings};
@@ -15,14 +15,14 @@ ghost use Rattle.shard_core.specs.declared.shard.Shard.{Shard};
 
 use outside_io::Disk;
 
-/// A shard that started stands for its class's part of each state in which a run may begin over its
-/// disk, with the settings that it was given. The functions of this file do nothing: what they
+/// A shard that started stands for its class's part of each state in which a run may begin over the
+/// disk that it opened, with the settings that it was given. The functions of this file do nothing: what they
 /// ensure are the laws.
 pub fn a_started_shard_stands_for_an_opening<D: Disk>()
-    ensures { (class : ℕ) (settings : Settings) (told : ℕ → Option Image) (s : State)
-        (disk : D) (shard : Shard D D.Disk)
-        → StartedFrom class settings disk shard → Opens settings told s
-        → D.image disk ≡ told class → KeepsLaidOut class (told class) shard.desk.table s.kept
+    ensures { (class : ℕ) (settings : Settings) (redo : Bool) (told : ℕ → Option Image)
+        (s : State) (disk : D) (shard : Shard D D.Disk)
+        → StartedFrom class settings redo disk shard → Opens settings told s
+        → D.image shard.files.disk ≡ told class → KeepsLaidOut class (told class) shard.desk.table s.kept
         → StandsFor (told class) shard s }
 {}
 

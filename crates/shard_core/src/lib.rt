@@ -10,6 +10,7 @@ mod look_count;
 mod looked;
 mod looking;
 mod next_metric;
+mod opening;
 mod planned;
 mod planning;
 mod putting;
@@ -17,6 +18,7 @@ mod reading;
 mod shard;
 mod starting;
 mod stepping;
+mod work;
 mod writing;
 
 pub use desk::Desk;

@@ -27,15 +27,15 @@ pub enum Begun {
     NoMemory,
 }
 
-/// How the write of a run ended.
+/// How a step of a drain ended.
 #[derive(Clone, Copy, Debug, PartialEq, Eq)]
 pub enum Wrote {
-    /// A run was written, and more are left.
+    /// A step was taken, and more are left.
     Run,
-    /// The last run of a drain was written.
+    /// The last step of a drain was taken.
     Finished,
     /// There was nothing to write.
     Nothing,
-    /// The disk failed. The run is written again.
+    /// The disk failed. The step is taken again.
     DiskFault,
 }

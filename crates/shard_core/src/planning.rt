@@ -1,5 +1,5 @@
 //! Plans of drains.
-ghost use Rattle.std.specs.Prelude.{◌≡◌, ◌≢◌, false, IfOk, IsErrOf, Ok, Some, option_map, string_bytes};
+ghost use Rattle.std.specs.Prelude.{◌≡◌, ◌≢◌, false, IfOk, IsErrOf, Ok, Some, string_bytes};
 ghost use Rattle.outside_io.specs.Frames.{ReadsOnly};
 ghost use Rattle.metric_path.specs.FileName.{file_name_of};
 ghost use Rattle.ring_archive.specs.Ring.{OnFile};
@@ -20,7 +20,6 @@ use outside_io::Disk;
 use ring_archive::{RingFault, RingView};
 use ring_format::{OLD_VERSION, Patch, VERSION};
 use std::alloc::{AllocError, Global};
-use write_shelf::Shelf;
 
 /// A drain that is to begin: the name of the file, the patch, and the moment of the drain.
 #[derive(Drop)]
@@ -100,7 +99,7 @@ impl<D: Disk> Files<D> {
     // Begins the drain of the metric at a place, which was picked.
     fn begin(&mut self, desk: &mut Desk, place: usize, now: u32) -> Result<MetricPath, RingFault>
         requires halves { AreHalves (desk_of desk.old) (files_of self.old) }
-        requires empty { self.old.shelf ≡ None }
+        requires empty { self.old.work.shelf ≡ None }
         requires picked { IsPicked desk.old.picker desk.old.cache place }
         ensures begins { IfOk result
             (λ path. Begins (held_by desk.old self.old) (held_by desk.new self.new) path now) }
@@ -118,7 +117,7 @@ impl<D: Disk> Files<D> {
     fn next_drain(&mut self, desk: &Desk, place: usize, now: u32) -> Result<NextDrain, RingFault>
         requires halves { AreHalves (desk_of desk.now) (files_of self.old) }
         requires place { place < length desk.now.cache.places }
-        requires empty { self.old.shelf ≡ None }
+        requires empty { self.old.work.shelf ≡ None }
         ensures batch { IfOk result
             (λ next. (path : List ℕ) → slice_get desk.now.cache.places place ≡ Some path
             → MakesBatch (held_by desk.now self.old) path next.now next.patch) }
@@ -157,7 +156,7 @@ impl<D: Disk> Files<D> {
     // Begins a drain that was made for the metric at a place, which was picked. No memory is taken.
     pub(crate) fn begin_at(&mut self, desk: &mut Desk, place: usize, next: NextDrain) -> MetricPath
         requires halves { AreHalves (desk_of desk.old) (files_of self.old) }
-        requires empty { self.old.shelf ≡ None }
+        requires empty { self.old.work.shelf ≡ None }
         requires picked { IsPicked desk.old.picker desk.old.cache place }
         requires makes { (path : List ℕ) → slice_get desk.old.cache.places place ≡ Some path
             → MakesBatch (held_by desk.old self.old) path next.now next.patch }
@@ -172,20 +171,8 @@ impl<D: Disk> Files<D> {
         let (path, _points) = desk.cache.take(place);
         desk.picker.settle();
         desk.table.note_drain(&path);
-        self.shelf.put(next.patch);
-        self.name = name_where_shelved(&self.shelf, next.name);
+        self.work.put(next.patch, next.name);
         path
-    }
-}
-
-// The name of a file, where something is on the shelf.
-fn name_where_shelved(shelf: &Shelf, name: String) -> Option<String>
-    ensures { option_map string_bytes result
-        ≡ option_map (λ drain. string_bytes name) shelf.now }
-{
-    match shelf.patch() {
-        Some(_) => Some(name),
-        None => None,
     }
 }
 

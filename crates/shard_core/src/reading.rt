@@ -12,6 +12,7 @@ ghost use Rattle.shard_core.specs.Reads.{ShowsPending, patch_for};
 use crate::desk::Desk;
 use crate::files::Files;
 use crate::looked::Looked;
+use crate::work::Work;
 use carbon_model::Values;
 use fixed_num::Milli;
 use metric_path::MetricPath;
@@ -20,7 +21,6 @@ use ring_archive::{RingFault, RingView};
 use ring_format::{Patch, VERSION};
 use series_fetch::fetch;
 use std::alloc::Global;
-use write_shelf::Shelf;
 
 impl Desk {
     ghost use Rattle.std.specs.Prelude.{◌≡◌, ◌≢◌, IfErr, IfOk, IsSomeAnd};
@@ -95,7 +95,7 @@ impl<D: Disk> Files<D> {
     {
         // A path is legal.
         let _ = looked.path.text();
-        match patch_for(&self.shelf, &looked.path) {
+        match patch_for(&self.work, &looked.path) {
             Some(patch) => fetch_under(self.alloc, &mut self.disk, patch, looked, VERSION),
             None => {
                 let path = looked.path.copy()?;
@@ -107,11 +107,11 @@ impl<D: Disk> Files<D> {
     }
 }
 
-// The patch on the shelf, where it is that of a path.
-fn patch_for<'a>(shelf: &'a Shelf, path: &MetricPath) -> Option<&'a Patch>
-    ensures { option_map (λ patch. patch.now) result ≡ patch_for shelf.now path.now }
+// The patch that is being written, where it is that of a path.
+fn patch_for<'a>(work: &'a Work, path: &MetricPath) -> Option<&'a Patch>
+    ensures { option_map (λ patch. patch.now) result ≡ patch_for work.now.shelf path.now }
 {
-    let patch = shelf.patch()?;
+    let patch = work.patch()?;
     if patch.path() == path {
         return Some(patch);
     }

@@ -6,8 +6,9 @@ use crate::desk::Desk;
 use crate::fault::StartFault;
 use crate::files::Files;
 use crate::looked::{LookCount, LookFault, Looked};
+use crate::opening::open_disk;
 use crate::planned::{Planned, Wrote};
-use crate::starting::read_table;
+use crate::work::Work;
 use carbon_model::Values;
 use drain_order::{Picker, Strategy};
 use metric_line::Datum;
@@ -19,7 +20,6 @@ use point_cache::{PointCache, Put};
 use ring_archive::RingFault;
 use schema_rules::Rules;
 use std::alloc::{AllocError, Global};
-use write_shelf::Shelf;
 
 /// One class of metrics over its disk: the points that are pending, which of them go next, what is
 /// known of each metric, and the drain that is being written.
@@ -56,12 +56,14 @@ impl<D: Disk> Shard<D> {
     ghost use Rattle.shard_core.specs.Started.{StartedFrom};
     ghost use Rattle.shard_core.specs.Table.{kept_form};
     ghost use Rattle.shard_core.specs.View.{OnlyPuts, SameShard, inside_of};
+    ghost use Rattle.shard_core.specs.Work.{StaysInRow};
     ghost use Rattle.shard_core.specs.Writes.{OnlyWrites, WritesTo};
 
     /// The shard of a class over its disk, with nothing pending, the rules, how many points may be
-    /// pending, and the drain order. Each file of the class is looked up, and its head is read: a
-    /// head of zero counts as no file. A file of any other name, or of a path of another class, is
-    /// left alone. The refusal hands the disk back.
+    /// pending, the drain order, and whether drains go through the log. What an open gate of the log
+    /// holds is laid first. Each file of the class is looked up, and its head is read: a head of zero
+    /// counts as no file. A file of any other name, or of a path of another class, is left alone. The
+    /// refusal hands the disk back.
     pub fn start(
         alloc: Global,
         class: u32,
@@ -69,16 +71,17 @@ impl<D: Disk> Shard<D> {
         rules: Rules,
         limit: u64,
         strategy: Strategy,
+        redo: bool,
     ) -> Result<Shard<D>, (D, StartFault)>
         requires class { class < 16 }
         requires some { 0 < limit }
         ensures started { IfOk result (StartedFrom class
-            (record { rules = layout_by rules; limit = limit; strategy = strategy }) disk) }
+            (record { rules = layout_by rules; limit = limit; strategy = strategy }) redo disk) }
         ensures refused { IfErr result
             (λ refusal. NotStarted D.Disk class disk refusal.0 refusal.1) }
     {
         let mut disk = disk;
-        match read_table(alloc, &mut disk, class) {
+        match open_disk(alloc, &mut disk, class, redo) {
             Ok(table) => Ok(Shard {
                 desk: Desk {
                     class,
@@ -91,8 +94,7 @@ impl<D: Disk> Shard<D> {
                 files: Files {
                     class,
                     disk,
-                    shelf: Shelf::empty(),
-                    name: None,
+                    work: Work::none(redo),
                     alloc,
                 },
             }),
@@ -251,13 +253,18 @@ impl<D: Disk> Shard<D> {
         self.files.plan(&mut self.desk, now)
     }
 
-    /// Writes the next run of the drain that is being written, this and no other, in one call of
-    /// the disk. What the shard says of its metrics stays. After a disk fault any bytes stand where
-    /// the run's were to be written, and the run comes again. No memory is taken.
+    /// Takes the next step of the drain that is being written, this and no other, in one call of
+    /// the disk: the next run, or a step of the log. What the shard says of its metrics stays. After
+    /// a disk fault any bytes stand where the step's were to be written, and the step comes again. No
+    /// memory is taken.
     pub fn write_next(&mut self) -> Wrote
         ensures writes { WritesTo result (inside_of self.old) (inside_of self.new) }
         ensures stays { Stays (inside_of self.old) (inside_of self.new) }
         ensures others { OnlyWrites (inside_of self.old) (inside_of self.new) }
+
+        // What a crash leaves behind it, and at each moment of it.
+        ensures rows { StaysInRow D.Disk self.old.files.work.log self.new.files.work.log
+            self.old.files.disk self.new.files.disk }
         ensures frame { CountsFaults D.Disk self.old.files.disk self.new.files.disk
             (result ≡ Wrote.DiskFault) }
     {

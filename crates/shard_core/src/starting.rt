@@ -5,7 +5,7 @@ ghost use Rattle.outside_io.specs.Faults.{Rose};
 ghost use Rattle.carbon_model.specs.RingFiles.{is_sound_head};
 ghost use Rattle.shard_core.specs.Opened.{IsOpened, Opens};
 ghost use Rattle.shard_core.specs.Shard.{HasFiles};
-ghost use Rattle.shard_core.specs.StartFaults.{IsDamagedFile, IsDiskFault};
+ghost use Rattle.shard_core.specs.StartFaults.{IsDamagedRing, IsDiskFault};
 ghost use Rattle.shard_core.specs.Starting.{FirstAmong, IsDamagedName, IsFaulty, Noted, Notes, NotesHead, OnDamaged, TellsHead};
 
 use crate::fault::StartFault;
@@ -36,7 +36,7 @@ pub(crate) fn read_table<D: Disk>(
     ensures opens { IfOk result (λ table. Opens class (D.image disk.old) table) }
     ensures opened { IfOk result (IsOpened class) }
     ensures files { IfOk result (λ table. HasFiles class table None (D.image disk.old)) }
-    ensures damaged { IfErr result (λ fault. IsDamagedFile fault (D.image disk.old) class) }
+    ensures damaged { IfErr result (λ fault. IsDamagedRing fault (D.image disk.old) class) }
     ensures kept { D.image disk.new ≡ D.image disk.old }
     ensures later { D.faults disk.old ≤ D.faults disk.new }
     ensures cause { IfErr result

@@ -121,7 +121,7 @@ impl<D: Disk> Files<D> {
         now: u32,
     ) -> Option<Planned>
         requires halves { AreHalves (desk_of desk.old) (files_of self.old) }
-        requires empty { self.old.shelf ≡ None }
+        requires empty { self.old.work.shelf ≡ None }
         requires made { IfOk made (IsMadeFor metric.now (D.image self.old.disk) now) }
         ensures plans { PlansNow result (held_by desk.old self.old) (held_by desk.new self.new)
             now }
@@ -149,7 +149,7 @@ impl<D: Disk> Files<D> {
     // disk stays as it is.
     fn begin_made(&mut self, desk: &mut Desk, metric: &NextMetric, next: NextDrain) -> Begun
         requires halves { AreHalves (desk_of desk.old) (files_of self.old) }
-        requires empty { self.old.shelf ≡ None }
+        requires empty { self.old.work.shelf ≡ None }
         requires plans { PlansFor metric.now.known (D.image self.old.disk) metric.now.path
             metric.now.points next.now next.patch }
         ensures begins { BeginsTo result (held_by desk.old self.old) (held_by desk.new self.new)

@@ -1,3 +1,3 @@
 mod ListLemmas
-mod OpeningLemmas
+pub mod OpeningLemmas
 pub mod StateLemmas

@@ -27,12 +27,6 @@ pub length_pushed : {X : Type 0} (xs : List X) (y : X) → length (xs ++ y ∷ [
 length_pushed [] y = refl
 length_pushed (x ∷ xs) y = ap suc (length_pushed xs y)
 
--- a place below the length is taken
-pub there_below : {X : Type 0} (xs : List X) (k : ℕ) → k < length xs → slice_get xs k ≡ None → ⊥
-there_below [] k within none = absurd (omega (arith, within))
-there_below (x ∷ xs) zero within none = none-some x (sym none)
-there_below (x ∷ xs) (suc k) within none = there_below xs k (omega (arith, within)) none
-
 -- lists of one length have the same places
 pub none_together : {X Y : Type 0} (xs : List X) (ys : List Y) (k : ℕ) → length xs ≡ length ys → slice_get xs k ≡ None → slice_get ys k ≡ None
 none_together xs [] k same none = refl

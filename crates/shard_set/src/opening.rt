@@ -21,7 +21,8 @@ pub fn start_all<D: Disk>(
 ) -> Result<Started<D>, Refused<D>>
     requires { vec_len disks ≡ 16 }
     ensures starts { IfOk result
-        (λ started. StartsAll (settings_of setup.now) disks.items started.shards.items) }
+        (λ started. StartsAll (settings_of setup.now) setup.now.redo disks.items
+        started.shards.items) }
     ensures refused { IfErr result
         (λ refused. RefusesAll D.Disk disks.items refused.disks.items refused.refusal) }
 {
@@ -57,7 +58,8 @@ fn start_each<D: Disk>(
     requires room { 16 ≤ vec_capacity shards }
     requires all { vec_len disks ≡ 16 }
     ensures starts { IfOk result
-        (λ started. AreStarted (settings_of setup.now) disks.items started.shards.items) }
+        (λ started. AreStarted (settings_of setup.now) setup.now.redo disks.items
+        started.shards.items) }
     ensures refused { IfErr result
         (λ refused. HandsBack D.Disk disks.items refused.disks.items refused.refusal) }
     ensures class { IfErr result (λ refused. refused.refusal.class < 16) }
@@ -92,8 +94,8 @@ fn start_next<D: Disk>(
     requires room { 16 ≤ vec_capacity shards.old }
     requires next { 0 < vec_len disks.old }
     ensures starts { OnOk result
-        (StartsNext (settings_of setup.now) disks.old.items shards.old.items shards.new.items
-        disks.new.items) }
+        (StartsNext (settings_of setup.now) setup.now.redo disks.old.items shards.old.items
+        shards.new.items disks.new.items) }
     ensures refused { IfErr result
         (λ fault. RefusesNext fault disks.old.items shards.old.items shards.new.items
         disks.new.items) }
@@ -121,11 +123,20 @@ fn start_one<D: Disk>(
     setup: &Setup,
 ) -> Result<Shard<D>, (D, StartFault)>
     requires { class < 16 }
-    ensures started { IfOk result (StartedFrom class (settings_of setup.now) disk) }
+    ensures started { IfOk result
+        (StartedFrom class (settings_of setup.now) setup.now.redo disk) }
     ensures refused { IfErr result (λ refusal. NotStarted D.Disk class disk refusal.0 refusal.1) }
 {
     match setup.rules.share() {
-        Ok(rules) => Shard::start(alloc, class, disk, rules, setup.limit, setup.strategy),
+        Ok(rules) => Shard::start(
+            alloc,
+            class,
+            disk,
+            rules,
+            setup.limit,
+            setup.strategy,
+            setup.redo,
+        ),
         Err(_) => Err((disk, StartFault::NoMemory)),
     }
 }

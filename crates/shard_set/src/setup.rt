@@ -13,5 +13,7 @@ pub struct Setup {
     pub limit: u64,
     /// In which order metrics are drained.
     pub strategy: Strategy,
+    /// Whether drains go through the log.
+    pub redo: bool,
     pub ghost some: { 0 < limit },
 }

@@ -25,7 +25,7 @@ fn start(
     disk: MemDisk,
     rules: Rules,
 ) -> Result<Shard<MemDisk>, (MemDisk, StartFault)> {
-    Shard::start(alloc, 12, disk, rules, LIMIT, Strategy::Naive)
+    Shard::start(alloc, 12, disk, rules, LIMIT, Strategy::Naive, false)
 }
 
 // ---- heads
@@ -169,6 +169,63 @@ fn the_first_damaged_name_is_told(rt: HostRuntime) -> Result<(), Fail> {
     Ok(())
 }
 
+// ---- the log
+
+// The first byte of a gate that is open.
+const OPEN: &[u32] = &[0x0100_0000];
+
+// A body whose path is longer than the body.
+const CUT: &[u32] = &[9];
+
+// The files, and what a start over them finds: a log of which nothing can be laid is told before any
+// head, where the gate is open. Sixteen zeros are the body of nothing.
+const LOGS: [(&[Held], &str); 5] = [
+    (
+        &[
+            ("redo.gate", OPEN, 1),
+            ("redo.log", CUT, 16),
+            ("a/b.ring", DAMAGED, 148),
+        ],
+        "redo.log",
+    ),
+    (
+        &[("redo.gate", OPEN, 1), ("a/b.ring", SOUND, 148)],
+        "redo.log",
+    ),
+    (
+        &[
+            ("redo.gate", OPEN, 1),
+            ("redo.log", &[], 16),
+            ("a/b.ring", SOUND, 148),
+        ],
+        RING,
+    ),
+    (
+        &[
+            ("redo.gate", &[], 1),
+            ("redo.log", CUT, 16),
+            ("a/b.ring", SOUND, 148),
+        ],
+        RING,
+    ),
+    (
+        &[
+            ("redo.gate", &[], 1),
+            ("redo.log", CUT, 16),
+            ("a/b.ring", DAMAGED, 148),
+        ],
+        DAMAGED_FILE,
+    ),
+];
+
+#[test]
+fn a_log_is_read_where_the_gate_is_open(rt: HostRuntime) -> Result<(), Fail> {
+    for (files, want) in LOGS.iter() {
+        assert_found(&rt, rt.alloc(), want, files, want)?;
+    }
+    Ok(())
+}
+
 // ---- what a start does with its disk
 
 // What a file holds: nothing where it is not there.
@@ -257,11 +314,32 @@ fn assert_counted(rt: &impl Abort, alloc: Global, call: u64, want: u64) -> Resul
     Ok(())
 }
 
-// A start lists the names, and then asks the length of the one file and reads its head.
+// A start asks for the gate and lists the names, and then asks the length of the one file and reads
+// its head.
 #[test]
 fn a_failed_call_is_counted(rt: HostRuntime) -> Result<(), Fail> {
-    for (call, want) in [(1, 1), (2, 1), (3, 1), (4, 0)] {
+    for (call, want) in [(1, 1), (2, 1), (3, 1), (4, 1), (5, 0)] {
         assert_counted(&rt, rt.alloc(), call, want)?;
+    }
+    Ok(())
+}
+
+// Whether a start that makes the log is refused for the disk, of which one writing call fails.
+fn is_unmade(alloc: Global, call: u64) -> Result<bool, Fail> {
+    let rules = read_rules(alloc, b"")?;
+    let calls = vec![in alloc; call]?;
+    let disk = MemDisk::new(alloc, 100).failing(calls);
+    match Shard::start(alloc, 12, disk, rules, LIMIT, Strategy::Naive, true) {
+        Ok(_shard) => Ok(false),
+        Err(refusal) => Ok(faults_of_refusal(&refusal) == Some(1)),
+    }
+}
+
+// The log is created and brought to the device, and then the gate.
+#[test]
+fn a_start_is_refused_where_the_log_cannot_be_made(rt: HostRuntime) -> Result<(), Fail> {
+    for (call, want) in [(1, true), (2, true), (3, true), (4, true), (5, false)] {
+        assert!(rt; is_unmade(rt.alloc(), call)? == want, "call {call}");
     }
     Ok(())
 }

@@ -58,7 +58,15 @@ fn start_over(
     limit: u64,
     strategy: Strategy,
 ) -> Result<Shard<MemDisk>, Fail> {
-    match Shard::start(alloc, 12, disk, rules, limit.max(1), strategy) {
+    match Shard::start(alloc, 12, disk, rules, limit.max(1), strategy, false) {
+        Ok(shard) => Ok(shard),
+        Err(_refusal) => Err(Fail::new("no file is damaged")),
+    }
+}
+
+// The same with drains that go through the log.
+fn start_logged(alloc: Global, disk: MemDisk, rules: Rules) -> Result<Shard<MemDisk>, Fail> {
+    match Shard::start(alloc, 12, disk, rules, 100, Strategy::Naive, true) {
         Ok(shard) => Ok(shard),
         Err(_refusal) => Err(Fail::new("no file is damaged")),
     }
@@ -406,6 +414,137 @@ fn a_metric_shows_the_same_between_any_two_runs(rt: HostRuntime) -> Result<(), F
     Ok(())
 }
 
+// ---- drains through the log
+
+// How many steps are taken, and how many fail, where a step of the drain does. Behind the four calls
+// by which the log is made, five come before the runs, and three behind them.
+fn steps_failing(
+    rt: &impl Abort,
+    alloc: Global,
+    drain: &Drain<'_>,
+    step: u32,
+    is_torn: bool,
+) -> Result<(u32, u32), Fail> {
+    let rules = read_rules(alloc, drain.schemas)?;
+    let disk = failing_disk(alloc, step.saturating_add(5), is_torn)?;
+    let mut shard = start_logged(alloc, disk, rules)?;
+    drain_over(rt, alloc, &mut shard, drain)
+}
+
+fn assert_each_step(
+    rt: &impl Abort,
+    alloc: Global,
+    drain: &Drain<'_>,
+    is_torn: bool,
+) -> Result<(), Fail> {
+    let steps = drain.runs.saturating_add(8);
+    for step in 0..=steps {
+        let ends = steps_failing(rt, alloc, drain, step, is_torn)?;
+        assert!(rt;
+            ends == (steps, u32::from(step < steps)),
+            "step {step} of {steps}"
+        );
+    }
+    Ok(())
+}
+
+#[test]
+fn a_metric_shows_the_same_between_any_two_steps_of_the_log(rt: HostRuntime) -> Result<(), Fail> {
+    for drain in DRAINS.iter().take(3) {
+        assert_each_step(&rt, rt.alloc(), drain, false)?;
+        assert_each_step(&rt, rt.alloc(), drain, true)?;
+    }
+    Ok(())
+}
+
+// The disk of a shard that was stopped behind so many steps of a drain.
+fn stopped_disk(rt: &impl Abort, alloc: Global, steps: u32) -> Result<MemDisk, Fail> {
+    let rules = read_rules(alloc, ONE)?;
+    let mut shard = start_logged(alloc, MemDisk::new(alloc, 10_000), rules)?;
+    assert_all(rt, alloc, &mut shard, &FIVE)?;
+    assert_all(rt, alloc, &mut shard, &[Act::Plan(NOW, "a.b")])?;
+    for _ in 0..steps {
+        let _ = shard.write_next();
+    }
+    Ok(shard.finish())
+}
+
+// What is kept where the gate was open, which it is behind the fourth step.
+const LAID: [Act<'static>; 2] = [Act::Names(&["a.b"]), FINE];
+
+const NOTHING_LAID: [Act<'static>; 1] = [Act::Names(&[])];
+
+fn assert_stopped(rt: &impl Abort, alloc: Global, steps: u32) -> Result<(), Fail> {
+    let rules = read_rules(alloc, ONE)?;
+    let disk = stopped_disk(rt, alloc, steps)?;
+    let mut shard = start_over(alloc, disk, rules, 100, Strategy::Naive)?;
+    if steps < 4 {
+        return assert_all(rt, alloc, &mut shard, &NOTHING_LAID);
+    }
+    assert_all(rt, alloc, &mut shard, &LAID)
+}
+
+// A drain that was stopped is laid whole at the next start, once its gate was open, and is as if it
+// had not begun before.
+#[test]
+fn a_drain_that_was_stopped_is_whole_at_the_next_start(rt: HostRuntime) -> Result<(), Fail> {
+    for steps in 0..=11u32 {
+        assert_stopped(&rt, rt.alloc(), steps)?;
+    }
+    Ok(())
+}
+
+// How many files were created, pieces written, and syncs made behind so many steps. The log and the
+// gate are made first, each with a sync; five steps lead to the open gate, three write the file, and
+// three close the gate.
+const CALLS: [[u64; 3]; 12] = [
+    [2, 0, 2],
+    [3, 0, 2],
+    [3, 1, 2],
+    [3, 1, 3],
+    [3, 2, 3],
+    [3, 2, 4],
+    [4, 2, 4],
+    [4, 3, 4],
+    [4, 4, 4],
+    [4, 4, 5],
+    [4, 5, 5],
+    [4, 5, 6],
+];
+
+fn assert_calls(rt: &impl Abort, disk: &MemDisk, steps: u32, want: &[u64; 3]) -> Result<(), Fail> {
+    let calls = disk.calls();
+    assert!(rt;
+        calls.creates == want[0] && calls.writes == want[1] && calls.syncs == want[2],
+        "behind {steps} steps"
+    );
+    Ok(())
+}
+
+#[test]
+fn each_step_of_the_log_is_one_call(rt: HostRuntime) -> Result<(), Fail> {
+    let mut steps = 0u32;
+    for want in CALLS.iter() {
+        let disk = stopped_disk(&rt, rt.alloc(), steps)?;
+        assert_calls(&rt, &disk, steps, want)?;
+        steps = steps.saturating_add(1);
+    }
+    Ok(())
+}
+
+// The log of the last drain is made anew by the next.
+#[test]
+fn a_second_drain_goes_through_the_same_log(rt: HostRuntime) -> Result<(), Fail> {
+    let rules = read_rules(rt.alloc(), ONE)?;
+    let disk = stopped_disk(&rt, rt.alloc(), 11)?;
+    let mut shard = start_logged(rt.alloc(), disk, rules)?;
+    assert_all(&rt, rt.alloc(), &mut shard, &LAID)?;
+    assert_all(&rt, rt.alloc(), &mut shard, &[B_5, Act::Plan(NOW, "a.b")])?;
+    let ends = write_all(&rt, rt.alloc(), &mut shard, &ONE_ASKED)?;
+    assert!(rt; ends == (9, 0));
+    Ok(())
+}
+
 // ---- whole tables
 
 // A shard with rules, so many points at most and an order, and what is done to it.
@@ -463,8 +602,8 @@ const UNREAD: [Act<'static>; 26] = [
     Act::Plan(NOW, "idle"),
 ];
 
-// The start lists the names. A file that is there is read for the plan, and each look before that
-// reads nothing.
+// The start asks for the gate and lists the names. A file that is there is read for the plan, and each
+// look before that reads nothing.
 #[test]
 fn a_plan_that_cannot_read_leaves_all(rt: HostRuntime) -> Result<(), Fail> {
     let case = Case {
@@ -473,7 +612,7 @@ fn a_plan_that_cannot_read_leaves_all(rt: HostRuntime) -> Result<(), Fail> {
         strategy: Strategy::Naive,
         acts: &UNREAD,
     };
-    assert_without_files(&rt, rt.alloc(), 2, &case)
+    assert_without_files(&rt, rt.alloc(), 3, &case)
 }
 
 const BETWEEN: [Act<'static>; 18] = [
@@ -670,5 +809,5 @@ fn a_queue_is_drained_to_its_end(rt: HostRuntime) -> Result<(), Fail> {
         strategy: Strategy::Sorted,
         acts: &QUEUE,
     };
-    assert_without_files(&rt, rt.alloc(), 2, &case)
+    assert_without_files(&rt, rt.alloc(), 3, &case)
 }

@@ -21,6 +21,7 @@ fn setup(rules: Rules) -> Setup {
         rules,
         limit: 1_000_000,
         strategy: Strategy::Naive,
+        redo: false,
     }
 }
 

@@ -1,5 +1,5 @@
 -- What a pass looks at and enters in a question.
-use Rattle.std.proofs.Common.{◌≡◌, ◌≢◌, ◌⊎◌, inl, inr, ◌∙◌, ℕ, zero, suc, ◌<◌, ◌≤◌, ◌+◌, ◌==◌, Bool, true, false, cond, List, [], ◌∷◌, ◌++◌, length, refl, sym, ap, subst, arith, length-append}
+use Rattle.std.proofs.Common.{◌≡◌, ◌≢◌, ◌⊎◌, inl, inr, ◌∙◌, ℕ, zero, suc, ◌<◌, ◌≤◌, ◌+◌, ◌==◌, ◌^◌, if◌then◌else◌, Bool, true, false, cond, List, [], ◌∷◌, ◌++◌, length, refl, sym, ap, subst, arith, length-append}
 use Rattle.std.specs.Prelude.{Contains, filter, slice_index_or, slice_set}
 use Rattle.std.proofs.lemmas.Grind.{get_or-set_at}
 use Rattle.std.proofs.lemmas.Bool.Decides.{eqb_tells}
@@ -10,18 +10,18 @@ use mathlib.Core.List.{IsPrefix}
 use Rattle.metric_path.specs.Class.{class_of, fnv1a}
 use Rattle.std.proofs.Math.Nat.{mod-lt}
 use Rattle.carbon_history.specs.declared.entry.Entry.{Entry}
-use Rattle.carbon_history.specs.declared.entry.Entry.TheVariants.{Drain, Fault}
+use Rattle.carbon_history.specs.declared.entry.Entry.TheVariants.{Ask, Drain, Fault}
 use Rattle.carbon_history.specs.Entries.{NamesPasses, about_class, is_about, of_pass}
 use Rattle.carbon_model.specs.State.{State}
 use Rattle.carbon_model.specs.Replay.{IsLegalHistory}
 use Rattle.carbon_model.proofs.HistoryLemmas.{legal_more}
 use Rattle.render_need.specs.declared.need.Need.{Need}
 use Rattle.shared_history.specs.declared.view.Look.{Look}
-use Rattle.shared_history.specs.Events.{ask_by}
-use Rattle.shared_history.specs.Parts.{IsNoMore, OrderValue, PassValue, TailValue, look_now, order_with, own_entries, pass_looking, pass_seeing}
+use Rattle.shared_history.specs.Events.{MayAsk, ask_by}
+use Rattle.shared_history.specs.Parts.{IsNoMore, OrderValue, PassValue, TailValue, greatest_ask, look_now, order_with, own_entries, pass_looking, pass_seeing}
 use Rattle.shared_history.specs.Views.{look_at}
 use Rattle.shared_history.proofs.ListLemmas.{prefix_self}
-use Rattle.shared_store.specs.Asking.{AreDesksOf, EntersBehind, EntersFault, EntersTries, EntersTry, HadSeen, MarksAll, MarksClass, OnlyLooks, Tries, WasDrained}
+use Rattle.shared_store.specs.Asking.{AreDesksOf, EntersBehind, EntersFault, EntersTries, EntersTry, HadSeen, MarksAll, MarksClass, OnlyLooks, SeesDesks, SeesMore, Tries, WasDrained}
 use Rattle.shared_store.specs.Desks.{DeskValue}
 use Rattle.shared_store.specs.Passes.{Enters, EntersLast, IsNoLess, LooksOn, SameLooks}
 use Rattle.shared_store.proofs.LookLemmas.{looked}
@@ -259,6 +259,87 @@ enters_tries start passes old mid new try now enters marks = record {
   };
   on = on_both old mid new (on_same old mid enters.same) marks.only.on;
 }
+
+-- ---- more was seen before a try
+
+pub more_itself : (pass : PassValue) → SeesMore pass pass
+more_itself pass = record { table = refl; number = refl; begins = prefix_self pass.seen; once = refl; on = on_itself pass }
+
+pub more_both : (first old new : PassValue) → SeesMore first old → SeesMore old new → SeesMore first new
+more_both first old new p q = record {
+  table = q.table ∙ p.table;
+  number = q.number ∙ p.number;
+  begins = prefix_both first.seen old.seen new.seen p.begins q.begins;
+  once = q.once ∙ p.once;
+  on = on_both first old new p.on q.on;
+}
+
+pub sees_more : (start : State) (passes : ℕ) (old new : PassValue) → Enters start passes [] old new → LooksOn old new → SeesMore old new
+sees_more start passes old new enters on = record {
+  table = enters.table;
+  number = enters.number;
+  begins = enters.begins;
+  once = enters.once ∙ append-nil (own_entries old);
+  on = on;
+}
+
+-- the pass sees the history that all desks have, and looks at them
+pub sees_desks : (start : State) (passes : ℕ) (old mid new : PassValue) → Enters start passes [] old mid → SameLooks old mid → MarksAll mid.seen mid new → SeesDesks old new
+sees_desks start passes old mid new enters same marks = record {
+  more = sees_more start passes old new (enters_only start passes [] old mid new enters marks.only) (on_both old mid new (on_same old mid same) marks.only.on);
+  had = λ k few. record {
+    begins = subst (λ (l : List Entry). IsPrefix (look_at k old.looks).list (about_class k l)) (sym marks.only.seen)
+        (subst (λ (ls : List Look). IsPrefix (look_at k ls).list (about_class k mid.seen)) same.looks (marks.had k few).begins);
+  };
+}
+
+pub enters_later : (start : State) (passes : ℕ) (xs : List Entry) (first old new : PassValue) → SeesMore first old → Enters start passes xs old new → Enters start passes xs first new
+enters_later start passes xs first old new more p = record {
+  table = p.table ∙ more.table;
+  number = p.number ∙ more.number;
+  begins = prefix_both first.seen old.seen new.seen more.begins p.begins;
+  legal = p.legal;
+  made = p.made;
+  once = p.once ∙ ap (λ (es : List Entry). es ++ xs) more.once;
+}
+
+asks_as : (try now : ℕ) (first old : PassValue) → SeesMore first old → ask_by old try now ≡ ask_by first try now
+asks_as try now first old more =
+    λ i. Ask (more.number i) (if try == 1 then greatest_ask (more.once i) + 1 else greatest_ask (more.once i)) try now
+
+pub tries_later : (start : State) (passes now try : ℕ) (first old new : PassValue) → SeesMore first old → EntersTries start passes now try old new → EntersTries start passes now try first new
+tries_later start passes now try first old new more t =
+    let e : ask_by old try now ≡ ask_by first try now = asks_as try now first old more in
+    let behind : old.seen ++ t.between ≡ first.seen ++ (more.begins.0 ++ t.between) =
+    ap (λ (l : List Entry). l ++ t.between) (sym more.begins.1) ∙ append_assoc first.seen more.begins.0 t.between in
+    record {
+      between = more.begins.0 ++ t.between;
+      seen = t.seen ∙ (λ i. behind i ++ e i ∷ []);
+      enters = enters_later start passes (ask_by first try now ∷ []) first old new more (subst (λ (x : Entry). Enters start passes (x ∷ []) old new) e t.enters);
+      had = λ k few. record {
+        begins = subst (λ (l : List Entry). IsPrefix (look_at k first.looks).list (about_class k l)) behind
+            (prefix_both (look_at k first.looks).list (look_at k old.looks).list (about_class k (old.seen ++ t.between)) (more.on.classes k).list (t.had k few).begins);
+      };
+      on = on_both first old new more.on t.on;
+    }
+
+pub may_later : (try : ℕ) (first old : PassValue) → SeesMore first old → MayAsk first try → MayAsk old try
+may_later try first old more may = record {
+  first = may.first;
+  last = may.last;
+  asked = λ other. subst (λ (es : List Entry). 0 < greatest_ask es) (sym more.once) (may.asked other);
+  room = subst (λ (es : List Entry). length es < 2 ^ 48) (sym more.once) may.room;
+}
+
+pub room_later : (first old : PassValue) → SeesMore first old → length (own_entries first) + 2 ≤ 2 ^ 48 → length (own_entries old) + 2 ≤ 2 ^ 48
+room_later first old more room = subst (λ (es : List Entry). length es + 2 ≤ 2 ^ 48) (sym more.once) room
+
+-- desks that have the entries of two histories, and others that have those of the first, have those of the second
+pub desks_too : (list more : List Entry) (desks others : List (MutexGuard DeskValue)) → length desks ≡ 16 → length others ≡ 16 → AreDesksOf list desks → AreDesksOf more desks
+    → AreDesksOf list others → AreDesksOf more others
+desks_too list more desks others all sixteen are too these = λ k d less.
+    let within : k < length desks = omega (arith, all, sixteen, less) in
+    let one = these k d less in record { class = one.class; list = one.list ∙ (sym (are k d within).list ∙ (too k d within).list) }
 
 -- ---- what moved on was drained meanwhile
 

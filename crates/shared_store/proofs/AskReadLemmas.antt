@@ -1,6 +1,7 @@
 -- How the reads of a question end.
-use Rattle.std.proofs.Common.{◌≡◌, ◌⊎◌, inl, inr, ◌∙◌, ℕ, ℤ, true, ◌≤◌, List, [], ◌∷◌, ◌++◌, length, Option, None, Some, IfSome, refl, sym, ap, subst}
-use Rattle.std.specs.Prelude.{All, Contains, IfOk, IsErrAnd, Result, Ok, Err}
+use Rattle.std.proofs.Common.{◌≡◌, ◌⊎◌, inl, inr, ◌∙◌, ℕ, ℤ, true, ◌<◌, ◌≤◌, List, [], ◌∷◌, ◌++◌, length, get_or, Option, None, Some, IfSome, refl, sym, ap, subst, arith}
+use Rattle.std.specs.Prelude.{All, Contains, IfOk, IsErrAnd, Result, Ok, Err, slice_index_or, slice_set}
+use Rattle.std.proofs.lemmas.List.{get_or_default, length-set}
 use Rattle.outside_io.specs.Image.{Image}
 use Rattle.metric_path.specs.Class.{class_of}
 use Rattle.carbon_history.specs.declared.entry.Entry.{Entry}
@@ -31,11 +32,13 @@ use Rattle.shared_store.specs.declared.ask_fault.AskFault.TheVariants.{DiskFault
 use Rattle.shared_store.specs.declared.try_end.TryEnd.{TryEnd}
 use Rattle.shared_store.specs.declared.try_end.TryEnd.TheVariants.{Moved, Ended}
 use Rattle.std.specs.declared.sync.MutexGuard.{MutexGuard}
-use Rattle.shared_store.specs.Held.{AreFilesOf, IsHeld, KeepsFilesHeld}
+use Rattle.std.proofs.lemmas.List.Elements.{All-cons, All-contains, All-head, All-nil, All-tail}
+use Rattle.shared_store.specs.Held.{AreFilesOf, IsCovered, IsHeld, IsPlaceOf, KeepsFilesHeld}
 use Rattle.shared_store.specs.Locks.{FilesValue}
-use Rattle.shared_store.specs.Asking.{AnswersTry, Counts, EndsAs, HasNotMoved, IsLookAt, IsNoMove, IsSeriesAt, IsSeriesOf, IsShortLook, IsWithin, OnlyLooks, Pairwise, ReadsAll, ReadsAt, ReadsOne, ReadsSet, ReadsWell, ShowsAt, ShowsBare, Stops, all_series}
-use Rattle.shared_store.proofs.AskFoundLemmas.{FoundOf, are_rows, few_found, found_within, has_rows, pairwise_more, path_in}
-use Rattle.shared_store.proofs.AskPassLemmas.{fault_behind, only_both}
+use Rattle.shared_store.specs.Asking.{AnswersTry, Counts, EndsAs, HasNotMoved, IsLookAt, IsNoMove, IsSeriesAt, IsSeriesOf, IsShortLook, IsWithin, OnlyLooks, Pairwise, PutsInOrder, ReadsAll, ReadsAt, ReadsOne, ReadsSet, ReadsWell, ShowsAt, ShowsBare, Stops, all_series}
+use Rattle.shared_store.proofs.AskFoundLemmas.{FoundOf, all_by, are_rows, few_found, found_within, has_rows, pairwise_more, path_in}
+use Rattle.shared_store.proofs.AskPassLemmas.{fault_behind, only_both, only_itself, put_one}
+use Rattle.shared_store.proofs.HeldLemmas.{still_covers}
 
 -- ---- early ends
 
@@ -204,13 +207,71 @@ held_still : (n m : ℕ) → n ≡ m → (m ≡ 0) ⊎ (m ≡ 16) → (n ≡ 0) 
 held_still n m e (inl none) = inl (e ∙ none)
 held_still n m e (inr all) = inr (e ∙ all)
 
-pub is_still_held : (old mid : PassValue) (before now : List (MutexGuard FilesValue)) → OnlyLooks old mid → IsHeld old.seen before → KeepsFilesHeld old.seen before now → IsHeld mid.seen now
+pub is_still_held : (old mid : PassValue) (before now : List (Option (MutexGuard FilesValue))) → OnlyLooks old mid → IsHeld old.seen before → KeepsFilesHeld old.seen before now
+    → IsHeld mid.seen now
 is_still_held old mid before now only held keeps =
-    subst (λ (l : List Entry). IsHeld l now) (sym only.seen) (keeps.0, held_still (length now) (length before) keeps.1 held.1)
+    subst (λ (l : List Entry). IsHeld l now) (sym only.seen) (keeps.files, held_still (length now) (length before) keeps.many held.1)
 
-pub keeps_both : (old mid : PassValue) (first before now : List (MutexGuard FilesValue)) → OnlyLooks old mid → KeepsFilesHeld old.seen first before → KeepsFilesHeld mid.seen before now
-    → KeepsFilesHeld old.seen first now
-keeps_both old mid first before now only p q = (subst (λ (l : List Entry). AreFilesOf l now) only.seen q.0, q.1 ∙ p.1)
+pub keeps_both : (old mid : PassValue) (first before now : List (Option (MutexGuard FilesValue))) → OnlyLooks old mid → KeepsFilesHeld old.seen first before
+    → KeepsFilesHeld mid.seen before now → KeepsFilesHeld old.seen first now
+keeps_both old mid first before now only p q = record {
+  files = subst (λ (l : List Entry). AreFilesOf l now) only.seen q.files;
+  many = q.many ∙ p.many;
+  none = λ k d e. p.none k d (q.none k d e);
+}
+
+-- a place that is put back
+pub keeps_place : (list : List Entry) (held : List (Option (MutexGuard FilesValue))) (i : ℕ) (old new : Option (MutexGuard FilesValue)) → i < length held → old ≡ slice_index_or held i old
+    → AreFilesOf list held → IsPlaceOf i list new → (new ≡ None → old ≡ None) → KeepsFilesHeld list held (slice_set held i new)
+keeps_place list held i old new within is files place none = record {
+  files = λ k d less. put_one (IsPlaceOf k list) held i k new d within (λ apart. files k d (subst (λ (n : ℕ). k < n) (length-set held i new) less))
+      (λ e. subst (λ (j : ℕ). IsPlaceOf j list new) (sym e) place);
+  many = length-set held i new;
+  none = λ k d. put_one (λ (x : Option (MutexGuard FilesValue)). x ≡ None → slice_index_or held k d ≡ None) held i k new d within (λ apart e. e)
+      (λ e empty. ap (λ (j : ℕ). slice_index_or held j d) e ∙ (get_or_default held i d old within ∙ (sym is ∙ none empty)));
+}
+
+-- what was covered still is
+pub still_covered : (start : State) (old mid : PassValue) (before now : List (Option (MutexGuard FilesValue))) (looked : Looked) → OnlyLooks old mid → KeepsFilesHeld old.seen before now
+    → IsCovered (replay start old.seen) before looked → IsCovered (replay start mid.seen) now looked
+still_covered start old mid before now looked only keeps covers =
+    subst (λ (l : List Entry). IsCovered (replay start l) now looked) (sym only.seen) (still_covers (replay start old.seen) old.seen before now looked keeps covers)
+
+pub one_covered : (start : State) (old mid : PassValue) (before now : List (Option (MutexGuard FilesValue))) (found : List Looked) (i : ℕ) (looked : Looked) → i < length found
+    → looked ≡ get_or found i looked → OnlyLooks old mid → KeepsFilesHeld old.seen before now → All (IsCovered (replay start old.seen) before) found
+    → IsCovered (replay start mid.seen) now looked
+one_covered start old mid before now found i looked less is only keeps covers =
+    still_covered start old mid before now looked only keeps (subst (IsCovered (replay start old.seen) before) (sym is) (covers i looked less))
+
+pub set_covered : (start : State) (old mid : PassValue) (before now : List (Option (MutexGuard FilesValue))) (sets : List (List Looked)) (i : ℕ) (set : List Looked) → i < length sets
+    → set ≡ get_or sets i set → OnlyLooks old mid → KeepsFilesHeld old.seen before now → All (All (IsCovered (replay start old.seen) before)) sets
+    → All (IsCovered (replay start mid.seen) now) set
+set_covered start old mid before now sets i set less is only keeps covers =
+    let all : All (IsCovered (replay start old.seen) before) set = subst (All (IsCovered (replay start old.seen) before)) (sym is) (covers i set less) in
+    λ k d within. still_covered start old mid before now (get_or set k d) only keeps (all k d within)
+
+-- nothing is held, and nothing is asked of it
+pub none_held : (list : List Entry) (held : List (Option (MutexGuard FilesValue))) → held ≡ [] → IsHeld list held
+none_held list held none = subst (IsHeld list) (sym none) ((λ k d less. absurd (below_none k less)), inl refl)
+  where
+    below_none : (k : ℕ) → k < 0 → ⊥
+    below_none k less = omega (arith, less)
+
+pub none_covered : (s : State) (held : List (Option (MutexGuard FilesValue))) (sets : List (List Looked)) → held ≡ [] → All (All (IsCovered s held)) sets
+none_covered s held sets none = λ i e some k d within. λ place less bare.
+    absurd (below_none (class_of (get_or (get_or sets i e) k d).path) (subst (λ (h : List (Option (MutexGuard FilesValue))). class_of (get_or (get_or sets i e) k d).path < length h) none less))
+  where
+    below_none : (k : ℕ) → k < 0 → ⊥
+    below_none k less = omega (arith, less)
+
+-- in order of the paths they are those that were found
+pub all_sorted : (P : Looked → Type 0) (sets sorted : List (List Looked)) → Pairwise PutsInOrder sets sorted → All (All P) sets → All (All P) sorted
+all_sorted P [] [] p all = All-nil (All P)
+all_sorted P [] (y ∷ ys) p all = absurd (cc p)
+all_sorted P (x ∷ xs) [] p all = absurd p
+all_sorted P (x ∷ xs) (y ∷ ys) p all =
+    All-cons (All P) y ys (all_by P y (λ looked c. All-contains P x looked (All-head (All P) x xs all) (p.0.from looked c)))
+    (all_sorted P xs ys p.1 (All-tail (All P) x xs all))
 
 -- ---- the answer of a try
 
@@ -220,6 +281,12 @@ answers_counts start told passes now needs old (DiskFault class) counts only = a
 answers_counts start told passes now needs old (TooManySeries count) counts only = (only, counts)
 answers_counts start told passes now needs old (TooManyPoints count) counts only = (only, counts)
 answers_counts start told passes now needs old NoMemory counts only = only
+
+-- no memory
+pub answers_ends : (start : State) (told : ℕ → Option Image) (passes now : ℕ) (needs : List Need) (result : Result Rows TryEnd) (old : PassValue) → IsErrAnd result (λ end. end ≡ Ended NoMemory)
+    → AnswersTry start told passes now needs result old old
+answers_ends start told passes now needs (Ok rows) old is = absurd is
+answers_ends start told passes now needs (Err end) old is = subst (λ (e : TryEnd). AnswersTry start told passes now needs (Err e) old old) (sym is) (only_itself old)
 
 module _ (start : State) (told : ℕ → Option Image) (passes now : ℕ) (needs : List Need) (sets : List (List Looked)) (old new : PassValue)
     (found : Pairwise (FoundOf (replay start old.seen) now) needs sets) where

@@ -314,6 +314,28 @@ no_layout : (o : Option Kept) → option_map form_of o ≡ None → o ≡ None
 no_layout None none = refl
 no_layout (Some kept) none = absurd (cc none)
 
+-- ---- what a desk says of a metric that was looked at
+
+module _ (desk : DeskInside) (s : State) (looked : Looked) (holds : HoldsDesk desk s) (lists : Lists desk.class desk.rules desk.cache.metrics desk.table) (look : IsLookAt s looked)
+    (here : class_of looked.path ≡ desk.class) where
+  of_class : IsOfClass desk.class looked.path
+  of_class = record { legal = look.legal; here = here }
+
+  pub known_here : HasAs desk.table looked.path looked.layout
+  known_here = subst (λ (layout : LayoutValue). HasAs desk.table looked.path layout) (sym look.layout) (knows_as desk s looked.path lists holds of_class look.known)
+
+  pub bare_here : IsKept desk.table looked.path None → s.kept looked.path ≡ None
+  bare_here bare = no_layout (s.kept looked.path) (sym (holds.layouts looked.path of_class) ∙ bare_entry (entry_of desk.table looked.path) bare)
+
+-- a look at a metric of a class, in the state after the entries about it alone
+pub look_here : (start : State) (list : List Entry) (class : ℕ) (looked : Looked) → class_of looked.path ≡ class → IsLookAt (replay start list) looked
+    → IsLookAt (replay start (about_class class list)) looked
+look_here start list class looked here look = look_alike class (replay start list) (replay start (about_class class list)) looked (part_of start list class) here look
+
+pub kept_here : (start : State) (list : List Entry) (class : ℕ) (path : List ℕ) → class_of path ≡ class → (replay start (about_class class list)).kept path ≡ None
+    → (replay start list).kept path ≡ None
+kept_here start list class path here bare = (part_of start list class).kept path here ∙ bare
+
 -- ---- a read behind the entry of a try
 
 module _ (start : State) (desk : DeskInside) (tail : TailValue) (class : tail.class ≡ desk.class) (holds : HoldsDesk desk (replay start tail.list))

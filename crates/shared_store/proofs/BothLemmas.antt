@@ -18,7 +18,7 @@ use Rattle.shard_core.specs.Shard.{patch_on}
 use Rattle.shard_core.specs.Table.{Table}
 use Rattle.shared_history.specs.Parts.{TailValue}
 use Rattle.shared_history.specs.Rule.{OneOwed}
-use Rattle.shared_store.specs.Desks.{KeepsClass, LastDrains, runs_ahead}
+use Rattle.shared_store.specs.Desks.{KeepsClass, LastDrains}
 use Rattle.shared_store.specs.Tallies.{capped, is_fault}
 use Rattle.class_halves.specs.declared.view.Stand.{Stand}
 use Rattle.class_halves.specs.Parts.{HalfValue, half_with, stand_of}
@@ -134,7 +134,7 @@ both_keep table half_of told start earlier desk files failed half other tail her
       settled = (λ h. drained ∙ (f.settled.0 h ∙ sym settled), λ h. f.settled.1 (sym drained ∙ (h ∙ settled)));
       owed = owed_by tail.settled other.stand.settled list other.stand.list settled drained f.owed;
       last = subst (λ (l : List Entry). IfSome files.shelf (λ drain. LastDrains drain.patch.path l)) (sym o.list) (put_last_on files.shelf other.stand.list o.more o.puts f.last);
-      runs = subst (λ (n : ℕ). tail.runs + runs_ahead files.shelf ≤ 5000000 * n) (sym drained) (subst (λ (n : ℕ). n + runs_ahead files.shelf ≤ 5000000 * drains other.stand.list) (sym runs) f.runs);
+      runs = subst (λ (n : ℕ). tail.runs + files.steps ≤ 5000000 * n) (sym drained) (subst (λ (n : ℕ). n + files.steps ≤ 5000000 * drains other.stand.list) (sym runs) f.runs);
       faults = subst (λ (n : ℕ). capped (earlier desk.class + n) ≤ failed) (sym faulted) (subst (λ (c : ℕ). capped (earlier c + count_by is_fault other.stand.list) ≤ failed) here f.faults);
     }
 

@@ -1,4 +1,4 @@
--- What the lock of a class keeps stays so with an entry, a run and a settled drain more.
+-- What the lock of a class keeps stays so with an entry, a step and a settled drain more.
 use Rattle.std.proofs.Common.{◌≡◌, ◌↔◌, ◌∙◌, ℕ, ◌<◌, ◌≤◌, ◌+◌, ◌*◌, Bool, true, false, cond, List, [], ◌∷◌, ◌++◌, length, drop, Option, Some, None, IfSome, refl, sym, ap, subst, arith, append_assoc, length-append}
 use Rattle.std.specs.Prelude.{count_by, filter, is_some, IsSome}
 use Rattle.std.proofs.lemmas.List.Elements.{filter-append}
@@ -8,15 +8,15 @@ use Rattle.atomic_table.specs.Seated.{TableId}
 use Rattle.outside_io.specs.Image.{Image}
 use Rattle.outside_io.specs.Faults.{Rose}
 use Rattle.metric_path.specs.Class.{class_of}
-use Rattle.write_shelf.specs.Shelf.{DrainValue, drain_with, marked}
-use Rattle.write_shelf.specs.declared.run.Run.{Run}
+use Rattle.ring_format.specs.Patch.{PatchValue}
+use Rattle.write_shelf.specs.Shelf.{DrainValue}
 use Rattle.carbon_history.specs.declared.entry.Entry.{Entry}
 use Rattle.carbon_history.specs.declared.entry.Entry.TheVariants as entry
 use Rattle.carbon_history.specs.Entries.{drains, is_drain}
 use Rattle.carbon_model.specs.State.{State, picked}
 use Rattle.carbon_model.specs.Replay.{after, replay}
 use Rattle.carbon_model.proofs.HistoryLemmas.{replay-append}
-use Rattle.shard_core.specs.Shard.{Holds, Inside, Stays}
+use Rattle.shard_core.specs.Shard.{Holds, Inside, Stays, patch_on}
 use Rattle.shard_core.specs.Plans.{Begins, IsUnwritten, PlansTo}
 use Rattle.shard_core.specs.Writes.{WritesTo}
 use Rattle.shard_core.specs.declared.planned.Planned.{Planned}
@@ -25,7 +25,7 @@ use Rattle.shard_core.specs.declared.planned.Wrote.{Wrote}
 use Rattle.shard_core.specs.declared.planned.Wrote.TheVariants as wrote
 use Rattle.shared_history.specs.Parts.{PassValue, TailValue, tail_ran, tail_settled, tail_with}
 use Rattle.shared_history.specs.Rule.{OneOwed}
-use Rattle.shared_store.specs.Desks.{KeepsClass, LastDrains, runs_ahead}
+use Rattle.shared_store.specs.Desks.{KeepsClass, LastDrains}
 use Rattle.shared_store.specs.Passes.{HasRoom}
 use Rattle.shared_store.specs.Steps.{plan_entry, write_entry}
 use Rattle.shared_store.specs.Tails.{MayTell, Owes, OwesBegun, OwesRun, tail_begun, tail_told, tail_wrote}
@@ -93,15 +93,13 @@ last_begun list pass now path (Some drain) begun =
     subst (λ (p : List ℕ). LastDrains p (list ++ entry.Drain pass path now ∷ [])) (sym begun.own)
     (record { before = list; pass = pass; now = now; since = []; is = refl; last = refl })
 
-last_marked : (list : List Entry) (old new : Option DrainValue) → new ≡ marked old → IfSome old (λ drain. LastDrains drain.patch.path list)
+-- the patch stays as long as something of it is left
+last_stays : (list : List Entry) (old new : Option DrainValue) → IfSome new (λ drain. patch_on old ≡ Some drain.patch) → IfSome old (λ drain. LastDrains drain.patch.path list)
     → IfSome new (λ drain. LastDrains drain.patch.path list)
-last_marked list None new is was = subst (λ (s : Option DrainValue). IfSome s (λ drain. LastDrains drain.patch.path list)) (sym is) tt
-last_marked list (Some drain) new is was =
-    subst (λ (s : Option DrainValue). IfSome s (λ d. LastDrains d.patch.path list)) (sym is) (by (drop 1 drain.left))
-  where
-    by : (left : List Run) → IfSome (drain_with drain.patch left) (λ d. LastDrains d.patch.path list)
-    by [] = tt
-    by (run ∷ left) = was
+last_stays list old None same was = tt
+last_stays list None (Some drain) same was = absurd (cc same)
+last_stays list (Some before) (Some drain) same was =
+    let is : before.patch ≡ drain.patch = cc in subst (λ (p : PatchValue). LastDrains p.path list) is was
 
 -- ---- numbers
 
@@ -111,13 +109,10 @@ cap_later n failed later le more = omega (arith, le, more)
 cap_rose : (n failed later : ℕ) → capped n ≤ failed → Rose failed later → capped (n + 1) ≤ later
 cap_rose n failed later le rose = omega (arith, le, rose)
 
-begun_runs : (runs left drains : ℕ) → runs + 0 ≤ 5000000 * drains → left < 5000000 → runs + (left + 1) ≤ 5000000 * (drains + 1)
-begun_runs runs left drains le few = omega (arith, le, few)
+begun_runs : (runs before steps drains : ℕ) → runs + before ≤ 5000000 * drains → steps < 5000000 → runs + steps ≤ 5000000 * (drains + 1)
+begun_runs runs before steps drains le few = omega (arith, le, few)
 
-more_runs : (runs ahead drains : ℕ) → runs + ahead ≤ 5000000 * drains → runs + ahead ≤ 5000000 * (drains + 1)
-more_runs runs ahead drains le = omega (arith, le)
-
-fewer_runs : (runs ahead now drains : ℕ) → runs + ahead ≤ 5000000 * drains → now + 1 ≤ ahead → (runs + 1) + now ≤ 5000000 * drains
+fewer_runs : (runs ahead now drains : ℕ) → runs + ahead ≤ 5000000 * drains → now < ahead → (runs + 1) + now ≤ 5000000 * drains
 fewer_runs runs ahead now drains le fewer = omega (arith, le, fewer)
 
 owes : (settled all : ℕ) → settled ≤ all → (all ≡ settled → ⊥) → settled < all
@@ -131,7 +126,7 @@ module _ (table : TableId) (told : ℕ → Option Image) (start : State) (faults
       → Holds (told old.class) new (replay start ended.list)
       → (new.shelf ≡ None) ↔ (drains ended.list ≡ ended.settled) → OneOwed ended.settled ended.list
       → IfSome new.shelf (λ drain. LastDrains drain.patch.path ended.list)
-      → ended.runs + runs_ahead new.shelf ≤ 5000000 * drains ended.list
+      → ended.runs + new.steps ≤ 5000000 * drains ended.list
       → capped (faults old.class + count_by is_fault ended.list) ≤ later
       → KeepsClass table told start faults new later ended
   keeps_now old new failed later tail ended keeps same_table same_class class holds settled owed last runs few = record {
@@ -148,21 +143,21 @@ module _ (table : TableId) (told : ℕ → Option Image) (start : State) (faults
 
   -- nothing is entered, and the shard stands for what it stood for
   pub keeps_still : (old new : Inside) (failed later : ℕ) (tail : TailValue) → KeepsClass table told start faults old failed tail
-      → new.class ≡ old.class → new.shelf ≡ old.shelf → Holds (told old.class) new (replay start tail.list) → failed ≤ later
+      → new.class ≡ old.class → new.shelf ≡ old.shelf → new.steps ≡ old.steps → Holds (told old.class) new (replay start tail.list) → failed ≤ later
       → KeepsClass table told start faults new later tail
-  keeps_still old new failed later tail keeps class shelf holds more =
+  keeps_still old new failed later tail keeps class shelf steps holds more =
       keeps_now old new failed later tail tail keeps refl refl class holds
       ((λ none. keeps.settled.0 (sym shelf ∙ none)), (λ all. shelf ∙ keeps.settled.1 all)) keeps.owed
       (subst (λ (s : Option DrainValue). IfSome s (λ drain. LastDrains drain.patch.path tail.list)) (sym shelf) keeps.last)
-      (subst (λ (s : Option DrainValue). tail.runs + runs_ahead s ≤ 5000000 * drains tail.list) (sym shelf) keeps.runs)
+      (subst (λ (n : ℕ). tail.runs + n ≤ 5000000 * drains tail.list) (sym steps) keeps.runs)
       (cap_later (faults old.class + count_by is_fault tail.list) failed later keeps.faults more)
 
   -- an entry that is no drain
   keeps_entry : (old new : Inside) (failed later : ℕ) (tail : TailValue) (e : Entry) → KeepsClass table told start faults old failed tail
-      → new.class ≡ old.class → new.shelf ≡ old.shelf → is_drain e ≡ false → Holds (told old.class) new (after (replay start tail.list) e)
+      → new.class ≡ old.class → new.shelf ≡ old.shelf → new.steps ≡ old.steps → is_drain e ≡ false → Holds (told old.class) new (after (replay start tail.list) e)
       → capped (faults old.class + count_by is_fault (tail.list ++ e ∷ [])) ≤ later
       → KeepsClass table told start faults new later (tail_with tail e)
-  keeps_entry old new failed later tail e keeps class shelf quiet holds few =
+  keeps_entry old new failed later tail e keeps class shelf steps quiet holds few =
       let same = same_drains tail.list e quiet in
       keeps_now old new failed later tail (tail_with tail e) keeps refl refl class
       (subst (λ (s : State). Holds (told old.class) new s) (sym (replay_with start tail.list e)) holds)
@@ -170,15 +165,15 @@ module _ (table : TableId) (told : ℕ → Option Image) (start : State) (faults
       (record { low = subst (λ (n : ℕ). tail.settled ≤ n) (sym same) keeps.owed.low; high = subst (λ (n : ℕ). n ≤ tail.settled + 1) (sym same) keeps.owed.high })
       (last_kept tail.list e quiet new.shelf
       (subst (λ (s : Option DrainValue). IfSome s (λ drain. LastDrains drain.patch.path tail.list)) (sym shelf) keeps.last))
-      (subst (λ (n : ℕ). tail.runs + runs_ahead new.shelf ≤ 5000000 * n) (sym same)
-      (subst (λ (s : Option DrainValue). tail.runs + runs_ahead s ≤ 5000000 * drains tail.list) (sym shelf) keeps.runs))
+      (subst (λ (n : ℕ). tail.runs + new.steps ≤ 5000000 * n) (sym same)
+      (subst (λ (n : ℕ). tail.runs + n ≤ 5000000 * drains tail.list) (sym steps) keeps.runs))
       few
 
   keeps_quiet : (old new : Inside) (failed later : ℕ) (tail : TailValue) (e : Entry) → KeepsClass table told start faults old failed tail
-      → new.class ≡ old.class → new.shelf ≡ old.shelf → is_drain e ≡ false → is_fault e ≡ false → Holds (told old.class) new (after (replay start tail.list) e)
+      → new.class ≡ old.class → new.shelf ≡ old.shelf → new.steps ≡ old.steps → is_drain e ≡ false → is_fault e ≡ false → Holds (told old.class) new (after (replay start tail.list) e)
       → failed ≤ later → KeepsClass table told start faults new later (tail_with tail e)
-  keeps_quiet old new failed later tail e keeps class shelf quiet sound holds more =
-      keeps_entry old new failed later tail e keeps class shelf quiet holds
+  keeps_quiet old new failed later tail e keeps class shelf steps quiet sound holds more =
+      keeps_entry old new failed later tail e keeps class shelf steps quiet holds
       (subst (λ (n : ℕ). capped (faults old.class + n) ≤ later) (sym (same_faults tail.list e sound))
       (cap_later (faults old.class + count_by is_fault tail.list) failed later keeps.faults more))
 
@@ -186,11 +181,11 @@ module _ (table : TableId) (told : ℕ → Option Image) (start : State) (faults
   cap_one class count failed later le rose = omega (arith, le, rose)
 
   pub keeps_fault : (old new : Inside) (failed later pass : ℕ) (tail : TailValue) → KeepsClass table told start faults old failed tail
-      → new.class ≡ old.class → new.shelf ≡ old.shelf → Holds (told old.class) new (replay start tail.list) → Rose failed later
+      → new.class ≡ old.class → new.shelf ≡ old.shelf → new.steps ≡ old.steps → Holds (told old.class) new (replay start tail.list) → Rose failed later
       → KeepsClass table told start faults new later (tail_with tail (entry.Fault pass tail.class))
-  keeps_fault old new failed later pass tail keeps class shelf holds rose =
+  keeps_fault old new failed later pass tail keeps class shelf steps holds rose =
       let e : Entry = entry.Fault pass tail.class in
-      keeps_entry old new failed later tail e keeps class shelf refl holds
+      keeps_entry old new failed later tail e keeps class shelf steps refl holds
       (subst (λ (n : ℕ). capped (faults old.class + n) ≤ later) (sym (one_fault tail.list e refl))
       (cap_one old.class (count_by is_fault tail.list) failed later keeps.faults rose))
 
@@ -245,11 +240,6 @@ module _ (table : TableId) (told : ℕ → Option Image) (start : State) (faults
       subst (λ (n : ℕ). capped (faults old.class + n) ≤ later) (sym (same_faults tail.list (entry.Drain pass path now) refl))
       (cap_later (faults old.class + count_by is_fault tail.list) failed later keeps.faults more)
 
-  no_runs : (old : Inside) (failed : ℕ) (tail : TailValue) → KeepsClass table told start faults old failed tail → old.shelf ≡ None
-      → tail.runs + 0 ≤ 5000000 * drains tail.list
-  no_runs old failed tail keeps empty =
-      subst (λ (s : Option DrainValue). tail.runs + runs_ahead s ≤ 5000000 * drains tail.list) empty keeps.runs
-
   keeps_begun : (old new : Inside) (failed now later pass : ℕ) (tail : TailValue) (path : List ℕ) (shelf : Option DrainValue)
       → KeepsClass table told start faults old failed tail → new.class ≡ old.class → Begins old new path now → failed ≤ later → new.shelf ≡ shelf
       → KeepsClass table told start faults new later (tail_begun (planned.Took path) (is_some shelf) (tail_with tail (entry.Drain pass path now)))
@@ -262,22 +252,18 @@ module _ (table : TableId) (told : ℕ → Option Image) (start : State) (faults
       ((λ none. one ∙ ap (λ (n : ℕ). n + 1) even), (λ all. is))
       (record { low = omega (arith, one, even); high = omega (arith, one, even) })
       (last_begun tail.list pass now path new.shelf begins.shelf)
-      (subst (λ (s : Option DrainValue). tail.runs + runs_ahead s ≤ 5000000 * drains (tail.list ++ e ∷ [])) (sym is)
-      (subst (λ (n : ℕ). tail.runs + 0 ≤ 5000000 * n) (sym one) (more_runs tail.runs 0 (drains tail.list) (no_runs old failed tail keeps begins.empty))))
+      (subst (λ (n : ℕ). tail.runs + new.steps ≤ 5000000 * n) (sym one) (begun_runs tail.runs old.steps new.steps (drains tail.list) keeps.runs begins.few))
       (begun_few old failed now later pass tail path keeps more)
   keeps_begun old new failed now later pass tail path (Some drain) keeps class begins more is =
       let e : Entry = entry.Drain pass path now in
       let one = one_drain tail.list e refl in
       let even = keeps.settled.0 begins.empty in
-      let few : length drain.left < 5000000 = (subst (λ (s : Option DrainValue). IfSome s (IsUnwritten path)) is begins.shelf).few in
       keeps_now old new failed later tail (tail_with tail e) keeps refl refl class
       (begun_holds old new failed now pass tail path keeps begins)
       ((λ none. absurd (cc (none, is))), (λ all. absurd (omega (arith, one, even, all))))
       (record { low = omega (arith, one, even); high = omega (arith, one, even) })
       (last_begun tail.list pass now path new.shelf begins.shelf)
-      (subst (λ (s : Option DrainValue). tail.runs + runs_ahead s ≤ 5000000 * drains (tail.list ++ e ∷ [])) (sym is)
-      (subst (λ (n : ℕ). tail.runs + (length drain.left + 1) ≤ 5000000 * n) (sym one)
-      (begun_runs tail.runs (length drain.left) (drains tail.list) (no_runs old failed tail keeps begins.empty) few)))
+      (subst (λ (n : ℕ). tail.runs + new.steps ≤ 5000000 * n) (sym one) (begun_runs tail.runs old.steps new.steps (drains tail.list) keeps.runs begins.few))
       (begun_few old failed now later pass tail path keeps more)
 
   same_inside : (old new : Inside) (tail : TailValue) → new ≡ old → Holds (told old.class) old (replay start tail.list) → Holds (told old.class) new (replay start tail.list)
@@ -290,15 +276,15 @@ module _ (table : TableId) (told : ℕ → Option Image) (start : State) (faults
   keeps_plan old new failed now later pass tail (planned.Took path) keeps begins class more rose =
       keeps_begun old new failed now later pass tail path new.shelf keeps class begins more refl
   keeps_plan old new failed now later pass tail planned.Busy keeps plans class more rose =
-      keeps_still old new failed later tail keeps class (ap (λ (x : Inside). x.shelf) plans.1) (same_inside old new tail plans.1 keeps.holds) more
+      keeps_still old new failed later tail keeps class (ap (λ (x : Inside). x.shelf) plans.1) (ap (λ (x : Inside). x.steps) plans.1) (same_inside old new tail plans.1 keeps.holds) more
   keeps_plan old new failed now later pass tail planned.Idle keeps plans class more rose =
-      keeps_still old new failed later tail keeps class (ap (λ (x : Inside). x.shelf) plans.1.1) (same_inside old new tail plans.1.1 keeps.holds) more
+      keeps_still old new failed later tail keeps class (ap (λ (x : Inside). x.shelf) plans.1.1) (ap (λ (x : Inside). x.steps) plans.1.1) (same_inside old new tail plans.1.1 keeps.holds) more
   keeps_plan old new failed now later pass tail planned.DiskFault keeps refuses class more rose =
-      keeps_fault old new failed later pass tail keeps class refuses.shelf (refuses.stays (told old.class) (replay start tail.list) keeps.holds) (rose refl)
+      keeps_fault old new failed later pass tail keeps class refuses.shelf refuses.steps (refuses.stays (told old.class) (replay start tail.list) keeps.holds) (rose refl)
   keeps_plan old new failed now later pass tail planned.NoMemory keeps refuses class more rose =
-      keeps_still old new failed later tail keeps class refuses.shelf (refuses.stays (told old.class) (replay start tail.list) keeps.holds) more
+      keeps_still old new failed later tail keeps class refuses.shelf refuses.steps (refuses.stays (told old.class) (replay start tail.list) keeps.holds) more
 
-  -- ---- the write of a run
+  -- ---- a step of a drain
 
   shelf_owes : (old : Inside) (failed : ℕ) (tail : TailValue) → KeepsClass table told start faults old failed tail → IsSome old.shelf → Owes tail
   shelf_owes old failed tail keeps some =
@@ -322,17 +308,6 @@ module _ (table : TableId) (told : ℕ → Option Image) (start : State) (faults
   write_may pass tail wrote.Nothing room = tt
   write_may pass tail wrote.DiskFault room = plan_fault_may pass tail room
 
-  -- a run that is written is one of those that may come
-  marked_fewer : (old new : Option DrainValue) → IsSome old → new ≡ marked old → runs_ahead new + 1 ≤ runs_ahead old
-  marked_fewer None new some is = absurd (false≢true some)
-  marked_fewer (Some drain) new some is =
-      subst (λ (s : Option DrainValue). runs_ahead s + 1 ≤ length drain.left + 1) (sym is) (by drain.left)
-    where
-      by : (left : List Run) → runs_ahead (drain_with drain.patch (drop 1 left)) + 1 ≤ length left + 1
-      by [] = omega arith
-      by (run ∷ []) = omega arith
-      by (run ∷ (next ∷ others)) = omega arith
-
   pub keeps_write : (old new : Inside) (failed later pass : ℕ) (tail : TailValue) (run : Wrote)
       → KeepsClass table told start faults old failed tail → WritesTo run old new → Stays old new → new.class ≡ old.class
       → failed ≤ later → (run ≡ wrote.DiskFault → Rose failed later)
@@ -340,8 +315,8 @@ module _ (table : TableId) (told : ℕ → Option Image) (start : State) (faults
   keeps_write old new failed later pass tail wrote.Run keeps writes stays class more rose =
       keeps_now old new failed later tail (tail_ran tail) keeps refl refl class (stays (told old.class) (replay start tail.list) keeps.holds)
       ((λ none. absurd (some_none new.shelf writes.1 none)), (λ all. absurd (omega (arith, shelf_owes old failed tail keeps writes.0.some, all)))) keeps.owed
-      (last_marked tail.list old.shelf new.shelf writes.0.marked keeps.last)
-      (fewer_runs tail.runs (runs_ahead old.shelf) (runs_ahead new.shelf) (drains tail.list) keeps.runs (marked_fewer old.shelf new.shelf writes.0.some writes.0.marked))
+      (last_stays tail.list old.shelf new.shelf writes.0.patch keeps.last)
+      (fewer_runs tail.runs old.steps new.steps (drains tail.list) keeps.runs writes.0.fewer)
       (cap_later (faults old.class + count_by is_fault tail.list) failed later keeps.faults more)
     where
       some_none : (s : Option DrainValue) → IsSome s → s ≡ None → ⊥
@@ -352,13 +327,13 @@ module _ (table : TableId) (told : ℕ → Option Image) (start : State) (faults
       keeps_now old new failed later tail (tail_settled (tail_ran tail)) keeps refl refl class (stays (told old.class) (replay start tail.list) keeps.holds)
       ((λ none. omega (arith, low, keeps.owed.high)), (λ all. writes.1))
       (record { low = omega (arith, low); high = omega (arith, keeps.owed.high) })
-      (last_marked tail.list old.shelf new.shelf writes.0.marked keeps.last)
-      (fewer_runs tail.runs (runs_ahead old.shelf) (runs_ahead new.shelf) (drains tail.list) keeps.runs (marked_fewer old.shelf new.shelf writes.0.some writes.0.marked))
+      (last_stays tail.list old.shelf new.shelf writes.0.patch keeps.last)
+      (fewer_runs tail.runs old.steps new.steps (drains tail.list) keeps.runs writes.0.fewer)
       (cap_later (faults old.class + count_by is_fault tail.list) failed later keeps.faults more)
   keeps_write old new failed later pass tail wrote.Nothing keeps writes stays class more rose =
-      keeps_still old new failed later tail keeps class (ap (λ (x : Inside). x.shelf) writes.1) (stays (told old.class) (replay start tail.list) keeps.holds) more
+      keeps_still old new failed later tail keeps class (ap (λ (x : Inside). x.shelf) writes.1) (ap (λ (x : Inside). x.steps) writes.1) (stays (told old.class) (replay start tail.list) keeps.holds) more
   keeps_write old new failed later pass tail wrote.DiskFault keeps writes stays class more rose =
-      keeps_fault old new failed later pass tail keeps class writes.same (stays (told old.class) (replay start tail.list) keeps.holds) (rose refl)
+      keeps_fault old new failed later pass tail keeps class writes.shelf writes.steps (stays (told old.class) (replay start tail.list) keeps.holds) (rose refl)
 
   pub few_runs : (shard : Inside) (failed : ℕ) (tail : TailValue) → KeepsClass table told start faults shard failed tail → tail.runs ≤ 5000000 * drains tail.list
   few_runs shard failed tail keeps = omega (arith, keeps.runs)

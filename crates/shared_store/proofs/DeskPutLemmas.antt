@@ -27,7 +27,7 @@ use Rattle.shared_store.proofs.ClassLemmas.{replay_with}
 
 -- files that tell nothing
 abbrev pub untold : ℕ → FilesInside
-untold class = record { class = class; shelf = None; known = None }
+untold class = record { class = class; shelf = None; steps = 0; log = None; known = None }
 
 -- with such files a desk is a shard that stands for the state
 pub with_untold : (desk : DeskInside) (s : State) → HoldsDesk desk s → Holds None (both desk (untold desk.class)) s

@@ -37,4 +37,5 @@ halves_move before desk files layouts then now here are =
       one = here;
       rings = subst (λ (k : ℕ). HasFiles k desk.table (patch_on files.shelf) files.known) here (files_move files.class before.table desk.table layouts then now (patch_on files.shelf) files.known rings);
       writing = subst (λ (k : ℕ). HoldsShelf k desk.table files.shelf files.known) here (shelf_moves files.class before.table desk.table layouts then now files.shelf files.known writing);
+      logged = are.logged;
     }

@@ -1,7 +1,10 @@
 -- What holds of the files of a class while their lock is held and the desk is given back.
-use Rattle.std.proofs.Common.{◌≡◌, ◌∙◌, ◌⊎◌, inl, inr, ℕ, ◌<◌, ◌≤◌, ◌+◌, Bool, false, List, [], ◌∷◌, Option, Some, None, refl, sym, ap, subst, arith}
-use Rattle.std.specs.Prelude.{count_by, filter, is_some}
+use Rattle.std.proofs.Common.{◌≡◌, ◌∙◌, ◌⊎◌, inl, inr, ℕ, ◌<◌, ◌≤◌, ◌+◌, Bool, true, false, List, [], ◌∷◌, Option, Some, None, refl, sym, ap, subst, arith}
+use Rattle.std.specs.Prelude.{count_by, filter, is_some, length, slice_index_or}
+use Rattle.std.specs.Sync.Mutex.{mutex_guard_value}
+use Rattle.std.specs.declared.sync.MutexGuard.{MutexGuard}
 use Rattle.std.proofs.lemmas.Bool.{false≢true}
+use Rattle.std.proofs.lemmas.List.{get_or_default}
 use Rattle.metric_path.specs.Class.{class_of}
 use Rattle.outside_io.specs.Image.{Image}
 use Rattle.atomic_table.specs.Seated.{TableId}
@@ -17,23 +20,54 @@ use Rattle.write_shelf.specs.Shelf.{DrainValue}
 use Rattle.shared_history.specs.Parts.{PassValue, TailValue}
 use Rattle.shard_core.specs.Halves.{DeskInside, FilesInside}
 use Rattle.shard_core.specs.Plans.{OnlyPicks}
-use Rattle.shared_store.specs.Locks.{HoldsDesk, KeepsDesk, KeepsFiles, OnlyPuts, is_late}
+use Rattle.shard_core.specs.declared.looked.Looked.{Looked}
+use Rattle.shared_store.specs.Asking.{IsDeskOf}
+use Rattle.shared_store.specs.Desks.{DeskValue}
+use Rattle.shared_store.specs.Held.{IsCovered, IsMet, IsPlaceAt, IsPlaceOf, KeepsFilesHeld}
+use Rattle.shared_store.specs.Locks.{FilesValue, HoldsDesk, KeepsDesk, KeepsFiles, OnlyPuts, is_late}
 use Rattle.shared_store.proofs.DeskPutLemmas.{desk_part, untold, with_untold}
 use Rattle.shared_store.specs.Passes.{Enters}
 use Rattle.shared_store.specs.Tails.{Tells}
 use Rattle.shared_store.specs.Tallies.{capped, is_fault}
 use Rattle.shared_store.proofs.AskStateLemmas.{part_of}
 
--- ---- the locks of all classes
+-- ---- the places of all classes
 
--- a place in the locks that are held is one in those of all desks
-pub desk_there : (held desks i : ℕ) → (held ≡ 0) ⊎ (held ≡ 16) → desks ≡ 16 → i < held → i < desks
-desk_there held desks i (inl none) all less = absurd (omega (arith, none, less))
-desk_there held desks i (inr some) all less = omega (arith, some, all, less)
+-- one that is there
+pub place_at : (k : ℕ) (place : Option (MutexGuard FilesValue)) (desk : DeskValue) → desk.class ≡ k → IsPlaceAt k place → IsPlaceAt desk.class place
+place_at k place desk is at = subst (λ (j : ℕ). IsPlaceAt j place) (sym is) at
 
-pub as_many : (now held : ℕ) → now ≡ held → (held ≡ 0) ⊎ (held ≡ 16) → (now ≡ 0) ⊎ (now ≡ 16)
-as_many now held same (inl none) = inl (same ∙ none)
-as_many now held same (inr all) = inr (same ∙ all)
+-- it met the desk of a class in a history
+pub met_place : (k : ℕ) (list : List Entry) (desk : DeskValue) (place : Option (MutexGuard FilesValue)) → IsDeskOf k list desk → IsMet desk place → IsPlaceOf k list place
+met_place k list desk None is met = tt
+met_place k list desk (Some files) is met = record {
+  class = met.0 ∙ is.class;
+  since = subst (λ (l : List Entry). OnlyPuts (mutex_guard_value files).list l) is.list met.1;
+}
+
+pub met_class : (k : ℕ) (desk : DeskValue) (place : Option (MutexGuard FilesValue)) → desk.class ≡ k → IsMet desk place → IsPlaceAt k place
+met_class k desk None is met = tt
+met_class k desk (Some files) is met = met.0 ∙ is
+
+not_none : {A : Type 0} (o : Option A) → is_some o ≡ true → o ≡ None → ⊥
+not_none None is none = absurd (false≢true is)
+not_none (Some x) is none = absurd (cc none)
+
+-- what is not missing is covered
+pub held_covers : (s : State) (held : List (Option (MutexGuard FilesValue))) (looked : Looked) (k : ℕ) (one : Option (MutexGuard FilesValue)) → class_of looked.path ≡ k → k < length held
+    → one ≡ slice_index_or held k one → is_some one ≡ true → IsCovered s held looked
+held_covers s held looked k one here within is some = λ d less none.
+    absurd (not_none (slice_index_or held (class_of looked.path) d)
+    (ap is_some (ap (λ (j : ℕ). slice_index_or held j d) here ∙ (get_or_default held k d one within ∙ sym is)) ∙ some) none)
+
+pub bare_covers : (s : State) (held : List (Option (MutexGuard FilesValue))) (looked : Looked) → s.kept looked.path ≡ None → IsCovered s held looked
+bare_covers s held looked bare = λ d less none. bare
+
+-- places that are kept cover what they did
+pub still_covers : (s : State) (list : List Entry) (old new : List (Option (MutexGuard FilesValue))) (looked : Looked) → KeepsFilesHeld list old new → IsCovered s old looked
+    → IsCovered s new looked
+still_covers s list old new looked keeps covers = λ d less none.
+    covers d (subst (λ (n : ℕ). class_of looked.path < n) keeps.many less) (keeps.none (class_of looked.path) d none)
 
 -- ---- no drain is entered
 
@@ -115,9 +149,9 @@ module _ (table : TableId) (half_of : ℕ → TableId) (start : State) (old new 
       desk_stands (ap (λ (d : DeskInside). d.class) only.others)
       (desk_part None new (untold old.class) s (only.stays (untold old.class) None s (with_untold old s k.holds))) k
 
--- files of which neither the class nor the shelf nor what the disk tells changed
-pub same_files : (old new : FilesInside) → new.class ≡ old.class → new.shelf ≡ old.shelf → new.known ≡ old.known → new ≡ old
-same_files old new class shelf known = λ i. record { class = class i; shelf = shelf i; known = known i }
+-- files of which neither the class nor the drain nor what the disk tells changed
+pub same_files : (old new : FilesInside) → new.class ≡ old.class → new.shelf ≡ old.shelf → new.steps ≡ old.steps → new.log ≡ old.log → new.known ≡ old.known → new ≡ old
+same_files old new class shelf steps log known = λ i. record { class = class i; shelf = shelf i; steps = steps i; log = log i; known = known i }
 
 -- ---- what a pass entered
 

@@ -23,7 +23,7 @@ use Rattle.shard_core.specs.Table.{Lists}
 use Rattle.shared_history.specs.declared.view.Look.{Look}
 use Rattle.shared_history.specs.Parts.{PassValue}
 use Rattle.shared_history.specs.Views.{look_at}
-use Rattle.shared_store.specs.Asking.{AreAllDesksOf, EntersTries, IsDeskOf}
+use Rattle.shared_store.specs.Asking.{AreAllDesksOf, EntersTries, IsDeskOf, SeesDesks}
 use Rattle.shared_store.specs.Desks.{DeskValue}
 use Rattle.shared_store.specs.Known.{AllKnow, AreKnownAfter, IsKnownAfter, KnowsAt, KnowsBy, KnowsIn, WantedValue}
 use Rattle.shared_store.specs.Locks.{HoldsDesk}
@@ -93,6 +93,11 @@ knows_in start passes now try old new names enters knows = record {
       let begins : IsPrefix (look_at k old.looks).list (about_class k new.seen) =
       subst (λ (l : List Entry). IsPrefix (look_at k old.looks).list l) (sym (ap (about_class k) enters.seen ∙ ask_out k (old.seen ++ enters.between) old try now)) (enters.had k less).begins in
       known_on start k (look_at k old.looks).list (about_class k new.seen) (get_or names k []) begins (knows.each k);
+}
+
+pub knows_seen : (start : State) (old new : PassValue) (names : List (List (List ℕ))) → SeesDesks old new → KnowsBy start old.looks names → KnowsIn start new.seen names
+knows_seen start old new names sees knows = record {
+  each = λ k less. known_on start k (look_at k old.looks).list (about_class k new.seen) (get_or names k []) (sees.had k less).begins (knows.each k);
 }
 
 pub knows_at : (start : State) (list : List Entry) (desks : List (MutexGuard DeskValue)) (names : List (List (List ℕ))) → AreAllDesksOf list desks → KnowsIn start list names → KnowsAt start desks names

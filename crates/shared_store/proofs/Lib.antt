@@ -3,6 +3,7 @@ mod ClassLemmas
 mod DrainLemmas
 mod FreshLemmas
 mod HeldLemmas
+mod HoldLemmas
 mod LookLemmas
 mod DeskPutLemmas
 pub mod StartLemmas

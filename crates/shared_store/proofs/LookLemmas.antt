@@ -334,7 +334,7 @@ module _ (table : TableId) (told : ℕ → Option Image) (start : State) (faults
   after_write shard new later tail ended wrote.Nothing old pass pass' kept class runs settled writes first look =
       subst (λ (k : ℕ). IsSettled k pass') class ((settled_where new later ended pass pass' kept look).0 (ap (λ (x : Inside). x.shelf) writes.1 ∙ writes.0))
   after_write shard new later tail ended wrote.DiskFault old pass pass' kept class runs settled writes first look =
-      subst (λ (k : ℕ). IsUnderWay k pass') class (under_way_where new later ended pass pass' kept look (subst IsSome (sym writes.same) writes.some))
+      subst (λ (k : ℕ). IsUnderWay k pass') class (under_way_where new later ended pass pass' kept look (subst IsSome (sym writes.shelf) writes.some))
 
 -- ---- a look before, a call, and a look after
 

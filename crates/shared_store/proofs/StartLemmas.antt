@@ -17,7 +17,7 @@ use Rattle.shard_core.specs.View.{inside_of}
 use Rattle.shard_core.specs.declared.shard.Shard.{Shard}
 use Rattle.write_shelf.specs.Shelf.{DrainValue}
 use Rattle.shared_history.specs.Parts.{IsNewTail, TailValue}
-use Rattle.shared_store.specs.Desks.{KeepsClass, LastDrains, runs_ahead}
+use Rattle.shared_store.specs.Desks.{KeepsClass, LastDrains}
 use Rattle.shared_store.specs.Locks.{KeepsDesk, KeepsFiles}
 use Rattle.shared_store.specs.Starts.{AreFreshClasses, AreHalves, IsFresh, IsFreshClass, halves_at}
 use Rattle.shared_store.proofs.BothLemmas.{desk_keeps, files_keep}
@@ -51,7 +51,7 @@ both_fresh {D} {d} table half_of told start earlier tail pair shard fresh =
       settled = ((λ none. no_drains tail.settled tail.list t.list t.settled), (λ all. s.empty));
       owed = record { low = owed.0; high = owed.1 };
       last = subst (λ (o : Option DrainValue). IfSome o (λ drain. LastDrains drain.patch.path tail.list)) (sym s.empty) tt;
-      runs = runs_none tail.runs (runs_ahead shard.files.shelf) (drains tail.list) t.runs (ap runs_ahead s.empty);
+      runs = runs_none tail.runs shard.files.work.steps (drains tail.list) t.runs s.idle;
       faults = subst (λ (k : ℕ). capped (earlier k + count_by is_fault tail.list) ≤ d.faults shard.files.disk) (sym s.class)
           (faults_none (earlier fresh.place) (count_by is_fault tail.list) (d.faults shard.files.disk) (ap (count_by is_fault) t.list) s.faults);
     }

@@ -15,6 +15,8 @@ use Rattle.schema_rules.proofs.RulesCross.{rules-send}
 use Rattle.class_halves.proofs.HalvesCross.{desk-send as desk_half-send, files-send as files_half-send}
 use Rattle.shard_core.specs.contracts.desk.Desk as Desk
 use Rattle.shard_core.specs.contracts.files.Files as Files
+use Rattle.shard_core.specs.contracts.work.Work as Work
+use Rattle.shard_core.specs.contracts.work.Work.TheInside as WorkInside
 use Rattle.shared_history.specs.contracts.parts.Pass as Pass
 use Rattle.shared_history.specs.contracts.parts.Pass.TheInside as PassInside
 use Rattle.shared_history.specs.contracts.parts.Tail as Tail
@@ -53,10 +55,16 @@ shard_desk-send : IsSend Desk.the_row
 shard_desk-send =
     declared_send Desk.the_type (search sendable, (rules-send, (search (own.crosses, maps.crosses, sendable) depth 60 fits 20000, (search (own.crosses, maps.crosses, sendable) depth 60 fits 20000, (search (own.crosses, maps.crosses, sendable) depth 60 fits 20000, (search (own.crosses, sendable) depth 60, tt))))))
 
--- its fields in order: the class, the disk, the shelf, the name, and where memory comes from
+-- its fields in order: the shelf, the name, and the redo
+work-send : IsSend Work.the_row
+work-send =
+    let inside : IsSend WorkInside.the_row = declared_send WorkInside.the_type (search (own.crosses, maps.crosses, sendable) depth 60 fits 20000, (search (own.crosses, maps.crosses, sendable) depth 60 fits 20000, (search (own.crosses, maps.crosses, sendable) depth 60 fits 20000, tt))) in
+    search (inside, sendable) depth 10
+
+-- its fields in order: the class, the disk, the drain that is being written, and where memory comes from
 shard_files-send : (D : RattleType) (d : Disk.Ghosts D.Denot) → IsSend D → IsSend (Files.the_row D d)
 shard_files-send D d s =
-    declared_send (Files.the_type D d) (search sendable, (as_row_send (row_field D) s, (search (own.crosses, maps.crosses, sendable) depth 60 fits 20000, (search (own.crosses, maps.crosses, sendable) depth 60 fits 20000, (search (own.crosses, sendable) depth 60, tt)))))
+    declared_send (Files.the_type D d) (search sendable, (as_row_send (row_field D) s, (work-send, (search (own.crosses, sendable) depth 60, tt))))
 
 -- ---- what the locks of a store keep
 

@@ -34,7 +34,7 @@ use Rattle.render_need.specs.declared.need.Need.{Need}
 use Rattle.render_need.specs.Rows.{IsEarly, Rows, latest_row_end}
 use Rattle.found_rows.specs.Rows.{FindsFew, HasRows, HasTooManyPoints, HasTooManySeries, IsAsked, IsReadFor, most_points, window_of}
 use Rattle.shared_history.specs.Events.{ask_by}
-use Rattle.shared_history.specs.Parts.{PassValue}
+use Rattle.shared_history.specs.Parts.{PassValue, own_entries}
 use Rattle.shared_history.specs.Views.{look_at}
 use Rattle.shared_store.specs.declared.ask_fault.AskFault.{AskFault}
 use Rattle.shared_store.specs.declared.ask_fault.AskFault.TheVariants.{DiskFault, TooManySeries, TooManyPoints, NoMemory}
@@ -98,6 +98,19 @@ pub record EntersTries (start : State) (passes now try : ℕ) (old new : PassVal
   pub enters : Enters start passes (ask_by old try now ∷ []) old new
   pub had : (k : ℕ) → k < 16 → HadSeen (old.seen ++ between) old k
   pub on : LooksOn old new
+
+-- It entered nothing and saw more; its looks are no less than they were.
+pub record SeesMore (old new : PassValue) : Type 0 where
+  pub table : new.table ≡ old.table
+  pub number : new.number ≡ old.number
+  pub begins : IsPrefix old.seen new.seen
+  pub once : own_entries new ≡ own_entries old
+  pub on : LooksOn old new
+
+-- It did so, and looked at all classes.
+pub record SeesDesks (old new : PassValue) : Type 0 where
+  pub more : SeesMore old new
+  pub had : (k : ℕ) → k < 16 → HadSeen new.seen old k
 
 -- The disk of a class failed; that is the last entry that the pass sees.
 pub record EntersFault (start : State) (passes class : ℕ) (old new : PassValue) : Type 0 where
@@ -213,6 +226,17 @@ Counts s now needs (Err (TooManySeries count)) = HasTooManySeries s now needs co
 Counts s now needs (Err (TooManyPoints count)) = HasTooManyPoints s now needs count
 Counts s now needs (Err (DiskFault class)) = ⊥
 Counts s now needs (Err NoMemory) = Unit {0}
+
+-- the needs find few metrics, and these are looks at all of them
+pub record FindsSets (s : State) (now : ℕ) (needs : List Need) (sets : List (List Looked)) : Type 0 where
+  pub few : FindsFew s now needs
+  pub up : Pairwise (LooksUp s now) needs sets
+
+-- some needs find so at some moment
+pub record AreFound (s : State) (sets : List (List Looked)) : Type 0 where
+  pub now : ℕ
+  pub needs : List Need
+  pub finds : FindsSets s now needs sets
 
 -- ---- reads
 

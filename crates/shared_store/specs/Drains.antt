@@ -57,7 +57,7 @@ pub record EndsUnwritten (s : State) (class : ℕ) (made : List Entry) : Type 0 
 abbrev pub IsOwed : ℕ → PassValue → Type 0
 IsOwed class pass = settled_in class pass < drains (about_class class pass.seen)
 
--- The disk failed in a run of the drain of the class that is under way. Where the call stood alone, that is one from before it, and then it drained
+-- The disk failed in a step of the drain of the class that is under way. Where the call stood alone, that is one from before it, and then it drained
 -- no metric of the class, or the last that it drained.
 pub record FailedRun (start : State) (class : ℕ) (made : List Entry) (old new : PassValue) : Type 0 where
   pub under : IsUnderWay class new
@@ -65,7 +65,7 @@ pub record FailedRun (start : State) (class : ℕ) (made : List Entry) (old new 
       → (IsOwed class old × (about_class class made ≡ [])) ⊎ EndsUnwritten (replay start old.seen) class made
 
 -- The disk of a class failed: the last entry tells so, behind drains of classes up to this one. It failed in a plan of what was pending, with no
--- drain of the class under way, or in a run of the one that is.
+-- drain of the class under way, or in a step of the one that is.
 pub record DrainsToFault (start : State) (passes now class : ℕ) (old new : PassValue) : Type 0 where
   pub within : class < 16
   pub made : List Entry

@@ -16,7 +16,7 @@ use Rattle.shard_core.specs.Shard.{patch_on}
 use Rattle.shard_core.specs.Table.{Table, drains_in, kept_form}
 use Rattle.shared_history.specs.Parts.{TailValue}
 use Rattle.shared_history.specs.Rule.{OneOwed}
-use Rattle.shared_store.specs.Desks.{LastDrains, runs_ahead}
+use Rattle.shared_store.specs.Desks.{LastDrains}
 use Rattle.shared_store.specs.Tallies.{capped, is_fault}
 use Rattle.class_halves.specs.Parts.{HalfValue}
 
@@ -74,7 +74,7 @@ abbrev pub HoldsFiles : Option Image → FilesInside → (List ℕ → Option Ke
 HoldsFiles told files kept = WhereKnown told files.known (λ opening now. StandsUnder opening now (patch_on files.shelf) kept files.class)
 
 -- What the lock of the files keeps: they stand for what is kept after the entries that the class had when its locks were last held together; no drain is
--- being written exactly where all of them are settled, and all but one are where one is, which is the last; the runs that were written and those that may
+-- being written exactly where all of them are settled, and all but one are where one is, which is the last; the steps that were taken and those that may
 -- come are at most 5,000,000 for each drain; no more of the entries are faults than the disk counted since the start; and with the desk as it
 -- was then they are the halves of one shard.
 pub record KeepsFiles (half_of : ℕ → TableId) (told : ℕ → Option Image) (start : State) (earlier : ℕ → ℕ) (files : FilesInside) (failed : ℕ) (half : HalfValue) : Type 0 where
@@ -84,7 +84,7 @@ pub record KeepsFiles (half_of : ℕ → TableId) (told : ℕ → Option Image) 
   pub settled : (files.shelf ≡ None) ↔ (drains half.stand.list ≡ half.stand.settled)
   pub owed : OneOwed half.stand.settled half.stand.list
   pub last : IfSome files.shelf (λ drain. LastDrains drain.patch.path half.stand.list)
-  pub runs : half.stand.runs + runs_ahead files.shelf ≤ 5000000 * drains half.stand.list
+  pub runs : half.stand.runs + files.steps ≤ 5000000 * drains half.stand.list
   pub faults : capped (earlier files.class + count_by is_fault half.stand.list) ≤ failed
   pub before : DeskInside
   pub layouts : HasLayouts files.class before.table (forms_of (replay start half.stand.list).kept)

@@ -51,7 +51,7 @@ abbrev pub IsUnderWay : ℕ → PassValue → Type 0
 IsUnderWay class pass = planned_in class pass ≡ settled_in class pass + 1
 
 -- The pass looked at a class in the call: it saw all entries about the class that it sees, and how far its drains were written, of which none
--- needs more than 5,000,000 runs. Its looks at other classes are what they were.
+-- needs more than 5,000,000 steps. Its looks at other classes are what they were.
 pub record LooksAgain (class : ℕ) (old new : PassValue) : Type 0 where
   pub times : (look_at class old.looks).times < (look_at class new.looks).times
   pub list : (look_at class new.looks).list ≡ about_class class new.seen

@@ -9,7 +9,7 @@ use shared_history::agree;
 use std::alloc::AllocError;
 
 impl<N: Named> ClassDesk<N> {
-    ghost use Rattle.std.specs.Prelude.{◌≡◌, ◌≤◌, All, IfErr, IfOk, None, Ok};
+    ghost use Rattle.std.specs.Prelude.{◌≡◌, ◌≤◌, All, IfErr, IfOk, None, Ok, false};
     ghost use Rattle.metric_index.specs.Found.{IsFitted};
     ghost use Rattle.metric_path.specs.Class.{class_of};
     ghost use Rattle.path_glob.specs.Faults.{Said};
@@ -55,6 +55,18 @@ impl<N: Named> ClassDesk<N> {
         self.desk.recall(looked)
     }
 
+    /// Whether something is kept of a metric of the class that was looked at.
+    pub(crate) fn keeps(&self, looked: &Looked) -> bool
+        requires here { class_of looked.now.path ≡ self.now.class }
+        requires look { IsLookAt (replay N.start self.now.list) looked.now }
+        ensures bare { result ≡ false → (replay N.start self.now.list).kept looked.now.path ≡ None }
+    {
+        match self.desk.recall(looked) {
+            Ok(None) => return false,
+            _ => return true,
+        }
+    }
+
     /// The known metrics of the class that a need's glob fits, in byte order of their paths.
     pub(crate) fn find<'a>(
         &'a self,
@@ -97,6 +109,7 @@ impl<N: Named> OrderDesk<N> {
     /// The pass sees the whole history.
     pub(crate) fn see_all(&mut self, pass: &mut StorePass<N>)
         ensures enters { Enters N.start N.passes [] pass.old pass.new }
+        ensures seen { pass.new.seen ≡ self.old }
         ensures looks { SameLooks pass.old pass.new }
     {
         see(&mut self.order, pass);

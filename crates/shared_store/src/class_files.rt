@@ -32,7 +32,7 @@ impl<D: Disk, N: Named> Model for ClassFiles<D, N> {
     ghost view = { λ f. record {
       class = f.files.class;
       list = f.half.stand.list;
-      shelved = is_some f.files.shelf;
+      shelved = is_some f.files.work.shelf;
     } };
 
     ghost invariant = { λ f. KeepsFiles N.halves N.told N.start N.faults (files_of f.files)
@@ -70,8 +70,8 @@ impl<D: Disk, N: Named> ClassFiles<D, N> {
         meet(&mut desk.half, &mut self.half);
     }
 
-    /// Writes the next run of the drain that is being written, under the lock of the files alone. The desk is
-    /// locked for the count of it. The pass looks before and after that, so that it sees its own run.
+    /// Takes the next step of the drain that is being written, under the lock of the files alone. The desk is
+    /// locked for the count of it. The pass looks before and after that, so that it sees its own step.
     pub(crate) fn write(
         &mut self,
         rt: &impl Wait,

@@ -23,6 +23,7 @@ mod finding;
 mod finds;
 mod foreseeing;
 mod found_set;
+mod holding;
 mod laws;
 mod named;
 mod naming;

@@ -53,10 +53,11 @@ fn series_of(alloc: Global, looked: &Looked, values: Values) -> Result<Series, A
 
 impl<D: Disk, N: Named> Store<D, N> {
     ghost use Rattle.std.specs.Prelude.{◌≡◌, ◌<◌, ◌≤◌, ◌+◌, ◌^◌, All, IfErr, IfOk, None, Ok, length, vec_len};
+    ghost use Rattle.metric_path.specs.Class.{class_of};
     ghost use Rattle.carbon_model.specs.Replay.{replay};
     ghost use Rattle.shared_history.specs.Parts.{own_entries};
     ghost use Rattle.shared_store.specs.Asking.{IsLookAt, IsNoMove, IsShortLook, OnlyLooks, ReadsAll, ReadsOne, ReadsSet, WasDrained};
-    ghost use Rattle.shared_store.specs.Held.{AreFilesOf, IsHeld, KeepsFilesHeld};
+    ghost use Rattle.shared_store.specs.Held.{AreFilesOf, IsCovered, IsHeld, IsPlaceOf, KeepsFilesHeld};
 
     // Reads a metric where no lock is held. Where nothing is kept of it, the files of its class are not waited for.
     fn read_free(
@@ -112,11 +113,38 @@ impl<D: Disk, N: Named> Store<D, N> {
         end_of(read, class)
     }
 
-    // Reads a metric where the locks of the files of all classes are held since the look: none has moved.
+    // Reads a metric that has not moved: the lock of the files of its class is held since the look, in this place,
+    // or nothing was kept of it then.
+    fn read_place(
+        &self,
+        rt: &impl Wait,
+        alloc: Global,
+        place: &mut Option<MutexGuard<'_, ClassFiles<D, N>>>,
+        pass: &mut StorePass<N>,
+        looked: &Looked,
+    ) -> Result<Values, TryEnd>
+        requires room { length (own_entries pass.old) + 1 ≤ 2 ^ 48 }
+        requires look { IsLookAt (replay N.start pass.old.seen) looked.now }
+        requires place { IsPlaceOf (class_of looked.now.path) pass.old.seen place.old }
+        requires bare { place.old ≡ None → (replay N.start pass.old.seen).kept looked.now.path ≡ None }
+        ensures reads { ReadsOne N.start N.told N.passes looked.now result pass.old pass.new }
+        ensures still { IsNoMove result }
+        ensures place { IfOk result (λ values. IsPlaceOf (class_of looked.now.path) pass.old.seen place.new) }
+        ensures none { place.new ≡ None → place.old ≡ None }
+    {
+        let Some(files) = place else {
+            return Ok(values_of_pending(alloc, looked)?);
+        };
+        let read = files.read(rt, self.desks.as_slice(), &self.order, pass, looked);
+        end_of(read, looked.path.class())
+    }
+
+    // Reads a metric where the locks of the files of all classes that it takes are held since the look.
     fn read_held(
         &self,
         rt: &impl Wait,
-        held: &mut Vec<MutexGuard<'_, ClassFiles<D, N>>>,
+        alloc: Global,
+        held: &mut Vec<Option<MutexGuard<'_, ClassFiles<D, N>>>>,
         pass: &mut StorePass<N>,
         looked: &Looked,
     ) -> Result<Values, TryEnd>
@@ -124,14 +152,13 @@ impl<D: Disk, N: Named> Store<D, N> {
         requires look { IsLookAt (replay N.start pass.old.seen) looked.now }
         requires held { AreFilesOf pass.old.seen held.old.items }
         requires sixteen { vec_len held.old ≡ 16 }
+        requires covered { IsCovered (replay N.start pass.old.seen) held.old.items looked.now }
         ensures reads { ReadsOne N.start N.told N.passes looked.now result pass.old pass.new }
         ensures still { IsNoMove result }
         ensures held { IfOk result (λ values. KeepsFilesHeld pass.old.seen held.old.items held.new.items) }
     {
-        let class = looked.path.class();
-        let files = &mut held[class as usize];
-        let read = files.read(rt, self.desks.as_slice(), &self.order, pass, looked);
-        end_of(read, class)
+        let place = &mut held[looked.path.class() as usize];
+        self.read_place(rt, alloc, place, pass, looked)
     }
 
     // Reads a metric, under the locks that are held where there are some.
@@ -139,13 +166,14 @@ impl<D: Disk, N: Named> Store<D, N> {
         &self,
         rt: &impl Wait,
         alloc: Global,
-        held: &mut Vec<MutexGuard<'_, ClassFiles<D, N>>>,
+        held: &mut Vec<Option<MutexGuard<'_, ClassFiles<D, N>>>>,
         pass: &mut StorePass<N>,
         looked: &Looked,
     ) -> Result<Values, TryEnd>
         requires room { length (own_entries pass.old) + 1 ≤ 2 ^ 48 }
         requires look { IsLookAt (replay N.start pass.old.seen) looked.now }
         requires held { IsHeld pass.old.seen held.old.items }
+        requires covered { IsCovered (replay N.start pass.old.seen) held.old.items looked.now }
         ensures reads { ReadsOne N.start N.told N.passes looked.now result pass.old pass.new }
         ensures still { 0 < vec_len held.old → IsNoMove result }
         ensures held { IfOk result (λ values. KeepsFilesHeld pass.old.seen held.old.items held.new.items) }
@@ -153,7 +181,7 @@ impl<D: Disk, N: Named> Store<D, N> {
         if held.is_empty() {
             return self.read_free(rt, alloc, pass, looked);
         }
-        self.read_held(rt, held, pass, looked)
+        self.read_held(rt, alloc, held, pass, looked)
     }
 
     #[tactic(auto, using(crate::proofs::AskPassLemmas::only_itself))]
@@ -162,13 +190,14 @@ impl<D: Disk, N: Named> Store<D, N> {
         &self,
         rt: &impl Wait,
         alloc: Global,
-        held: &mut Vec<MutexGuard<'_, ClassFiles<D, N>>>,
+        held: &mut Vec<Option<MutexGuard<'_, ClassFiles<D, N>>>>,
         pass: &mut StorePass<N>,
         found: &[Looked],
     ) -> Result<SeriesSet, TryEnd>
         requires room { length (own_entries pass.old) + 1 ≤ 2 ^ 48 }
         requires looks { All (IsShortLook (replay N.start pass.old.seen)) found.now }
         requires held { IsHeld pass.old.seen held.old.items }
+        requires covered { All (IsCovered (replay N.start pass.old.seen) held.old.items) found.now }
         ensures reads { ReadsSet N.start N.told N.passes found.now result pass.old pass.new }
         ensures still { 0 < vec_len held.old → IsNoMove result }
         ensures held { IfOk result (λ set. KeepsFilesHeld pass.old.seen held.old.items held.new.items) }
@@ -187,13 +216,14 @@ impl<D: Disk, N: Named> Store<D, N> {
         &self,
         rt: &impl Wait,
         alloc: Global,
-        held: &mut Vec<MutexGuard<'_, ClassFiles<D, N>>>,
+        held: &mut Vec<Option<MutexGuard<'_, ClassFiles<D, N>>>>,
         pass: &mut StorePass<N>,
         sets: &[FoundSet],
     ) -> Result<SeriesRows, TryEnd>
         requires room { length (own_entries pass.old) + 1 ≤ 2 ^ 48 }
         requires looks { All (All (IsShortLook (replay N.start pass.old.seen))) sets.now }
         requires held { IsHeld pass.old.seen held.old.items }
+        requires covered { All (All (IsCovered (replay N.start pass.old.seen) held.old.items)) sets.now }
         ensures reads { ReadsAll N.start N.told N.passes sets.now result pass.old pass.new }
         ensures still { 0 < vec_len held.old → IsNoMove result }
     {

@@ -104,7 +104,7 @@ impl<D: Disk, N: Named> Store<D, N> {
         files.plan(rt, self.desks.as_slice(), &self.order, pass, now)
     }
 
-    /// Writes the next run of the drain of a class that is being written: one entry where the disk
+    /// Takes the next step of the drain of a class that is being written: one entry where the disk
     /// failed. No memory is taken.
     pub fn write_step(&self, rt: &impl Wait, pass: &mut StorePass<N>, class: u32) -> Wrote
         requires class { class < 16 }
@@ -118,8 +118,8 @@ impl<D: Disk, N: Named> Store<D, N> {
         files.write(rt, self.desks.as_slice(), &self.order, pass)
     }
 
-    /// One step of draining a class at the moment `now`: the next run of the drain that is being
-    /// written, or else the begin of one.
+    /// One step of draining a class at the moment `now`: the next of the drain that is being written,
+    /// or else the begin of one.
     pub fn drain_step(&self, rt: &impl Wait, pass: &mut StorePass<N>, class: u32, now: u32) -> Step
         requires class { class < 16 }
         requires room { HasRoom pass.old }

@@ -48,6 +48,8 @@ pub(crate) enum Deed {
     Put(&'static str, u32, u32),
     // Such points are put as one piece.
     PutAll(&'static [(&'static str, u32, u32)]),
+    // Such a point is put as a piece of its own.
+    PutAlone(&'static str, u32, u32),
     // A point of each of the metrics `s.00000` on is put, from one number up to another.
     PutMany(u32, u32),
     // A drain of a class is planned.
@@ -382,6 +384,9 @@ impl<N: Named> Worker<N> {
                 self.put_point(rt, alloc, store, path, minute, value)
             }
             Deed::PutAll(piece) => self.put_all(rt, alloc, store, piece),
+            Deed::PutAlone(path, minute, value) => {
+                self.put_all(rt, alloc, store, &[(path, minute, value)])
+            }
             Deed::PutMany(from, until) => self.put_many(rt, alloc, store, from, until),
             Deed::Plan(class) => self.plan(rt, store, class),
             Deed::Write(class) => self.write(rt, store, class),
@@ -598,6 +603,7 @@ fn setup_of(rules: Rules, limit: u64) -> Setup {
         rules,
         limit: limit.max(1),
         strategy: Strategy::Naive,
+        redo: false,
     }
 }
 

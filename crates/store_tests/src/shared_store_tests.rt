@@ -336,7 +336,8 @@ fn a_question_has_the_rows_of_all_classes(rt: HostRuntime) -> Result<(), Fail> {
     assert_case(&rt, rt.alloc(), &case, 11, tally)
 }
 
-// The start reads the names of the disk, and the next call that reads is that of the question.
+// The start asks for the gate and reads the names of the disk, and the next call that reads is that of
+// the question.
 const UNREAD: [Row; 7] = [
     (Deed::Put("p.a", 0, 1), End::Put(Put::Stored)),
     (Deed::Put("p.a", 1, 2), End::Put(Put::Stored)),
@@ -355,7 +356,7 @@ fn a_disk_that_fails_ends_a_question(rt: HostRuntime) -> Result<(), Fail> {
         limit: 2,
         class: 6,
         writes: 0,
-        reads: 2,
+        reads: 3,
         first: &UNREAD,
         second: &[],
     };
@@ -366,6 +367,38 @@ fn a_disk_that_fails_ends_a_question(rt: HostRuntime) -> Result<(), Fail> {
         drains: 1,
     };
     assert_case(&rt, rt.alloc(), &case, 8, tally)
+}
+
+// The next call that reads is that of a plan.
+const UNPLANNED: [Row; 7] = [
+    (Deed::Put("p.a", 0, 1), End::Put(Put::Stored)),
+    (Deed::DrainAll, End::Drained(DrainEnd::Done(1))),
+    (Deed::Put("p.a", 1, 2), End::Put(Put::Stored)),
+    (Deed::Plan(6), End::Planned("disk fault")),
+    (Deed::Plan(6), End::Planned("p.a")),
+    (Deed::Plan(6), End::Planned("busy")),
+    (Deed::DrainAll, End::Drained(DrainEnd::Done(0))),
+];
+
+// Of the five entries one tells of the disk.
+#[test]
+fn a_disk_that_fails_ends_a_plan(rt: HostRuntime) -> Result<(), Fail> {
+    let case = Case {
+        schemas: RULES,
+        limit: 2,
+        class: 6,
+        writes: 0,
+        reads: 3,
+        first: &UNPLANNED,
+        second: &[],
+    };
+    let tally = Tally {
+        stored: 2,
+        replaced: 0,
+        full: 0,
+        drains: 2,
+    };
+    assert_case(&rt, rt.alloc(), &case, 5, tally)
 }
 
 const POINTS: [(&str, u32, u32); 6] = [

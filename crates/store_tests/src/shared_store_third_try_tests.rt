@@ -1,4 +1,5 @@
-// A question whose metric is drained at two tries: the third one holds the files of all classes.
+// A question whose metric is drained at two tries: the third one holds the files of the classes of which it shows
+// what is kept, beside a class whose disk hangs.
 ghost use Rattle.std.specs.Prelude.{◌≡◌, IfOk, vec_len};
 
 use crate::shared_store_ends::{End, Row, Shown, assert_counts, assert_replies, job_of, jobs_of};
@@ -48,7 +49,17 @@ fn thrice_reading<R: Clock + Copy + Drop>(
     reading(rt, disk, 4, flags)
 }
 
-// The disk of `a`'s class waits, and no other one.
+// A disk without files whose first create waits.
+fn hanging<R: Clock + Copy + Drop>(
+    rt: R,
+    alloc: Global,
+    pair: &[Flag],
+) -> Result<ThriceDisk<R>, Fail> {
+    let disk = GateDisk::new(GateDisk::new(MemDisk::new(alloc, 10_000_000)));
+    Ok(GateDisk::new(disk).creating_at(gate_of(rt, pair)?))
+}
+
+// The disk of `a`'s class waits at its reads and that of `i`'s at a create, and no other one.
 fn disk_of<R: Clock + Copy + Drop>(
     rt: R,
     alloc: Global,
@@ -57,6 +68,9 @@ fn disk_of<R: Clock + Copy + Drop>(
 ) -> Result<ThriceDisk<R>, Fail> {
     if class == 12 {
         return thrice_reading(rt, alloc, flags);
+    }
+    if class == 4 {
+        return hanging(rt, alloc, flags.get(8..10).unwrap_or_default());
     }
     let disk = GateDisk::new(MemDisk::new(alloc, 10_000_000));
     Ok(GateDisk::new(GateDisk::new(disk)))
@@ -76,10 +90,10 @@ fn disks_of<R: Clock + Copy + Drop>(
     Ok(disks)
 }
 
-// ---- what is done: the path `a` is of class 12, `b` of class 5, and `d` of class 3
+// ---- what is done: the path `a` is of class 12, `b` of class 5, `d` of class 3, and `i` and `y` of class 4
 
-// `a` and `b` are drained, and put anew.
-const BEFORE: [Row; 12] = [
+// `a` and `b` are drained, and put anew, and the disk of class 4 hangs.
+const BEFORE: [Row; 13] = [
     (Deed::Put("a", 0, 4), End::Put(Put::Stored)),
     (Deed::Plan(12), End::Planned("a")),
     (Deed::Write(12), End::Wrote(Wrote::Run)),
@@ -92,9 +106,21 @@ const BEFORE: [Row; 12] = [
     (Deed::Write(5), End::Wrote(Wrote::Finished)),
     (Deed::Put("a", 1, 5), End::Put(Put::Stored)),
     (Deed::Put("b", 1, 2), End::Put(Put::Stored)),
+    (Deed::Await(8), End::Up),
 ];
 
-// What is kept and pending of both metrics as the third try begins.
+// The file of `i` is not made before the flag 9 is up. Nothing of `y`, of the same class, is drained by then.
+const HANGS: [Row; 7] = [
+    (Deed::Put("i", 0, 11), End::Put(Put::Stored)),
+    (Deed::Plan(4), End::Planned("i")),
+    (Deed::Put("y", 0, 6), End::Put(Put::Stored)),
+    (Deed::Write(4), End::Wrote(Wrote::Run)),
+    (Deed::Write(4), End::Wrote(Wrote::Run)),
+    (Deed::Write(4), End::Wrote(Wrote::Finished)),
+    (Deed::Raise(10), End::Up),
+];
+
+// What is kept and pending of the metrics as the third try begins.
 const THIRD_A: Shown = Shown {
     path: "a",
     values: &[Some(4_000), Some(5_000), None, None, None],
@@ -126,21 +152,37 @@ const D: Shown = Shown {
     values: &[Some(2_000), None, None, None, None],
 };
 
-// The question waits in each of its three tries, and has the rows of the third. When the drain that
-// waited for it has ended the rest is drained.
-const ASKS: [Row; 4] = [
+const I: Shown = Shown {
+    path: "i",
+    values: &[Some(11_000), None, None, None, None],
+};
+
+const Y: Shown = Shown {
+    path: "y",
+    values: &[Some(6_000), None, None, None, None],
+};
+
+// The question waits in each of its three tries, and has the rows of the third, while the disk of class 4 hangs.
+// When that is well again and the drain that waited for the question has ended the rest is drained.
+const ASKS: [Row; 6] = [
     (
-        Deed::Ask(&[b"a", b"b"]),
-        End::Shown(&[&[THIRD_A], &[THIRD_B]], 3),
+        Deed::Ask(&[b"a", b"b", b"y"]),
+        End::Shown(&[&[THIRD_A], &[THIRD_B], &[Y]], 3),
     ),
+    (Deed::Raise(9), End::Up),
     (Deed::Await(7), End::Up),
+    (Deed::Await(10), End::Up),
     (Deed::DrainAll, End::Drained(DrainEnd::Done(2))),
-    (Deed::Ask(&[b"?"]), End::Shown(&[&[LAST_A, LAST_B, D]], 1)),
+    (
+        Deed::Ask(&[b"?"]),
+        End::Shown(&[&[LAST_A, LAST_B, D, I, Y]], 1),
+    ),
 ];
 
 // While `a` is read at the first and at the second try, `b` is drained and put anew. While it is
-// read at the third, nothing waits but a drain.
-const MEANWHILE: [Row; 20] = [
+// read at the third, nothing waits but a drain of `b`: a class of which the question shows nothing is drained, and
+// what is kept of it is shown to another one.
+const MEANWHILE: [Row; 24] = [
     (Deed::Await(0), End::Up),
     (Deed::Plan(5), End::Planned("b")),
     (Deed::Write(5), End::Wrote(Wrote::Finished)),
@@ -159,7 +201,11 @@ const MEANWHILE: [Row; 20] = [
     (Deed::Put("a", 1, 6), End::Put(Put::Replaced)),
     (Deed::Put("b", 3, 10), End::Put(Put::Replaced)),
     (Deed::Raise(6), End::Up),
-    (Deed::Names, End::Names(&["a", "b", "d"])),
+    (Deed::Plan(3), End::Planned("d")),
+    (Deed::Write(3), End::Wrote(Wrote::Run)),
+    (Deed::Write(3), End::Wrote(Wrote::Run)),
+    (Deed::Write(3), End::Wrote(Wrote::Finished)),
+    (Deed::Names, End::Names(&["a", "b", "d", "i", "y"])),
     (Deed::Ask(&[b"d", b"none"]), End::Shown(&[&[D], &[]], 1)),
     (Deed::Watch(7), End::Down),
     (Deed::Count, End::Counted(MEANWHILE_COUNTED)),
@@ -175,31 +221,22 @@ const THREE_STORED: PutCounts = PutCounts {
 
 // The third drain of `b` is not begun.
 const MEANWHILE_COUNTED: Tally = Tally {
-    stored: 9,
+    stored: 11,
     replaced: 2,
     full: 0,
-    drains: 4,
+    drains: 6,
 };
 
-// A class is drained while the third try holds its files: `b`'s, or one of which nothing is shown.
-const DRAINS_B: [Row; 4] = [
+// `b` is drained once more, which waits for the third try.
+const DRAINS: [Row; 4] = [
     (Deed::Await(6), End::Up),
     (Deed::Plan(5), End::Planned("b")),
     (Deed::Write(5), End::Wrote(Wrote::Finished)),
     (Deed::Raise(7), End::Up),
 ];
 
-const DRAINS_D: [Row; 6] = [
-    (Deed::Await(6), End::Up),
-    (Deed::Plan(3), End::Planned("d")),
-    (Deed::Write(3), End::Wrote(Wrote::Run)),
-    (Deed::Write(3), End::Wrote(Wrote::Run)),
-    (Deed::Write(3), End::Wrote(Wrote::Finished)),
-    (Deed::Raise(7), End::Up),
-];
-
 // Each point that was accepted is in its file, with the last of its values.
-const KEPT: [Kept; 3] = [
+const KEPT: [Kept; 5] = [
     Kept {
         class: 12,
         file: "a.ring",
@@ -215,66 +252,66 @@ const KEPT: [Kept; 3] = [
         file: "d.ring",
         numbers: &[2],
     },
+    Kept {
+        class: 4,
+        file: "i.ring",
+        numbers: &[11],
+    },
+    Kept {
+        class: 4,
+        file: "y.ring",
+        numbers: &[6],
+    },
 ];
 
-// ---- the three callers
+// ---- the four callers
 
-fn three_jobs(alloc: Global, drains: &[Row], flags: &[Flag]) -> Result<Vec<Job>, AllocError> {
+fn four_jobs(alloc: Global, flags: &[Flag]) -> Result<Vec<Job>, AllocError> {
     let mut jobs = jobs_of(alloc, &BEFORE, &ASKS, &MEANWHILE, flags)?;
-    jobs.push(job_of(alloc, &[], drains, flags)?)?;
+    jobs.push(job_of(alloc, &[], &DRAINS, flags)?)?;
+    jobs.push(job_of(alloc, &[], &HANGS, flags)?)?;
     Ok(jobs)
 }
 
-fn run_three<R: Threads + Wait + Clock + Copy + Send + Sync + Drop>(
+fn run_four<R: Threads + Wait + Clock + Copy + Send + Sync + Drop>(
     rt: &R,
     alloc: Global,
-    drains: &[Row],
 ) -> Result<Ran<ThriceDisk<R>>, Fail> {
-    let flags = flags_of(alloc, 4)?;
-    let jobs = three_jobs(alloc, drains, &flags)?;
+    let flags = flags_of(alloc, 6)?;
+    let jobs = four_jobs(alloc, &flags)?;
     run(rt, alloc, disks_of(*rt, alloc, &flags)?, SCENE, jobs)
 }
 
-// Of the 24 entries 18 are puts and drains, three are of the question that waited, two of others,
-// and one is of the names.
-fn assert_ran<D: Disk>(
-    rt: &impl Abort,
-    jobs: &[Job],
-    closed: &Closed<D>,
-    drains: &[Row],
-) -> Result<(), Fail> {
-    let [asker, other, drainer] = jobs else {
-        return Err(Fail::new("there are three callers"));
+fn assert_jobs(rt: &impl Abort, jobs: &[Job]) -> Result<(), Fail> {
+    let [asker, other, drainer, hanger] = jobs else {
+        return Err(Fail::new("there are four callers"));
     };
     assert_replies(rt, asker, &BEFORE, &ASKS);
     assert_replies(rt, other, &[], &MEANWHILE);
-    assert_replies(rt, drainer, &[], drains);
+    assert_replies(rt, drainer, &[], &DRAINS);
+    assert_replies(rt, hanger, &[], &HANGS);
+    Ok(())
+}
+
+// Of the 28 entries 22 are puts and drains, three are of the question that waited, two of others,
+// and one is of the names.
+fn assert_ran<D: Disk>(rt: &impl Abort, jobs: &[Job], closed: &Closed<D>) -> Result<(), Fail> {
+    assert_jobs(rt, jobs)?;
     let tally = Tally {
-        stored: 9,
+        stored: 11,
         replaced: 2,
         full: 0,
-        drains: 7,
+        drains: 9,
     };
-    assert_counts(rt, closed, 24, tally);
+    assert_counts(rt, closed, 28, tally);
     assert!(rt; count_faults(closed.disks.as_slice()) == 0);
     Ok(())
 }
 
-fn assert_three<R: Threads + Wait + Abort + Clock + Copy + Send + Sync + Drop>(
-    rt: &R,
-    alloc: Global,
-    drains: &[Row],
-) -> Result<(), Fail> {
-    let Ran { jobs, mut closed } = run_three(rt, alloc, drains)?;
-    assert_ran(rt, jobs.as_slice(), &closed, drains)?;
-    assert_files(rt, alloc, closed.disks.as_mut_slice(), &KEPT)
-}
-
 #[test]
-fn a_third_try_holds_up_drains_and_nothing_else(rt: HostRuntime) -> Result<(), Fail> {
-    let table: [&[Row]; 2] = [&DRAINS_B, &DRAINS_D];
-    for drains in table {
-        assert_three(&rt, rt.alloc(), drains)?;
-    }
-    Ok(())
+fn a_third_try_waits_for_no_disk_of_which_it_shows_nothing(rt: HostRuntime) -> Result<(), Fail> {
+    let alloc = rt.alloc();
+    let Ran { jobs, mut closed } = run_four(&rt, alloc)?;
+    assert_ran(&rt, jobs.as_slice(), &closed)?;
+    assert_files(&rt, alloc, closed.disks.as_mut_slice(), &KEPT)
 }

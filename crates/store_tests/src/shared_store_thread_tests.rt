@@ -11,7 +11,7 @@ use metric_path::{CLASSES, MetricPath};
 use outside_io::{Disk, MemDisk};
 use point_cache::Put;
 use series_set::{Series, SeriesRows, SeriesSet};
-use shared_store::{Closed, DrainEnd, Step, Tally};
+use shared_store::{Closed, DrainEnd, PutCounts, Step, Tally};
 use std::alloc::{AllocError, Global};
 use std::process::Abort;
 use std::sync::Wait;
@@ -73,9 +73,17 @@ fn globs_of(caller: u32) -> &'static [&'static [u8]] {
     }
 }
 
-// One round: a point of one of the caller's metrics is put, whose value tells the round and the
-// caller, two classes are drained by a step, and sometimes the caller asks for its own metrics, or
-// for all.
+// The point of a round, whose value tells the round and the caller: in odd ones it is a piece of its own.
+fn put_of(name: &'static str, minute: u32, value: u32) -> Deed {
+    if value / 4 % 2 == 1 {
+        return Deed::PutAlone(name, minute, value);
+    }
+    Deed::Put(name, minute, value)
+}
+
+// One round: a point of one of the caller's metrics is put, alone or as a piece, whose value tells the
+// round and the caller, two classes are drained by a step, and sometimes the caller asks for its own
+// metrics, for all, or for the names of all, or drains all.
 fn push_round(
     deeds: &mut Vec<Deed>,
     caller: u32,
@@ -85,7 +93,7 @@ fn push_round(
 ) -> Result<(), AllocError> {
     let name = names[(random % 16) as usize];
     let value = round.wrapping_mul(4).wrapping_add(caller);
-    deeds.push(Deed::Put(name, random / 16 % 5, value))?;
+    deeds.push(put_of(name, random / 16 % 5, value))?;
     deeds.push(Deed::Step(random / 80 % 16))?;
     deeds.push(Deed::Step(random / 1_280 % 16))?;
     if round % 4 == 0 {
@@ -93,6 +101,10 @@ fn push_round(
     }
     if round % 16 == 0 {
         deeds.push(Deed::Ask(&[ALL]))?;
+        deeds.push(Deed::Names)?;
+    }
+    if round % 128 == 0 {
+        deeds.push(Deed::DrainAll)?;
     }
     Ok(())
 }
@@ -356,17 +368,21 @@ impl Replay {
 fn is_kept(reply: &Reply) -> bool {
     match reply {
         Reply::Put(put) => *put == Put::Stored || *put == Put::Replaced,
+        Reply::PutAll(counts) => counts.stored > 0 || counts.replaced > 0,
         _ => false,
     }
 }
 
 fn put_up_to(numbers: &mut [u32], deed: Deed, reply: &Reply, most: u32) {
-    if let Deed::Put(path, minute, value) = deed {
-        if value <= most && is_kept(reply) {
-            if let Some(number) = numbers.get_mut(place_of(path, minute)) {
-                *number = value;
+    match deed {
+        Deed::Put(path, minute, value) | Deed::PutAlone(path, minute, value) => {
+            if value <= most && is_kept(reply) {
+                if let Some(number) = numbers.get_mut(place_of(path, minute)) {
+                    *number = value;
+                }
             }
         }
+        _ => {}
     }
 }
 
@@ -395,6 +411,24 @@ fn is_of_all(deed: Deed) -> bool {
     match deed {
         Deed::Ask(globs) => globs.iter().any(|glob| *glob == ALL),
         _ => false,
+    }
+}
+
+// How the one point of a piece was put.
+fn put_in(counts: PutCounts) -> Put {
+    match (counts.done, counts.stored, counts.replaced, counts.full) {
+        (1, 1, 0, 0) => Put::Stored,
+        (1, 0, 1, 0) => Put::Replaced,
+        (1, 0, 0, 1) => Put::Full,
+        _ => Put::NoMemory,
+    }
+}
+
+// Whether a metric is one of a caller's.
+fn is_of(path: &str, caller: usize) -> bool {
+    match metric_of(path) {
+        Some(metric) => metric / 16 == caller,
+        None => false,
     }
 }
 
@@ -471,9 +505,21 @@ impl Replay {
 
     fn puts(&mut self, deed: Deed, put: Put) -> bool {
         match deed {
-            Deed::Put(path, minute, value) => self.put(place_of(path, minute), value, put),
+            Deed::Put(path, minute, value) | Deed::PutAlone(path, minute, value) => {
+                self.put(place_of(path, minute), value, put)
+            }
             _ => false,
         }
+    }
+
+    // The names are those of the metrics that have numbers, of the caller's own.
+    fn names(&mut self, names: &[MetricPath]) -> bool {
+        self.entries = self.entries.saturating_add(1);
+        let own = names
+            .iter()
+            .filter(|name| is_of(name.as_str(), self.caller))
+            .count();
+        own == count_metrics(self.numbers.as_slice())
     }
 
     // Whether a reply is what is to come of a deed.
@@ -486,6 +532,8 @@ impl Replay {
     ) -> Result<bool, Fail> {
         match reply {
             Reply::Put(put) => Ok(self.puts(deed, *put)),
+            Reply::PutAll(counts) => Ok(self.puts(deed, put_in(*counts))),
+            Reply::Names(names) => Ok(self.names(names.as_slice())),
             Reply::Stepped(step) => Ok(self.step(*step)),
             Reply::Drained(end) => Ok(self.drain_all(*end)),
             Reply::Rows(rows, tries) => self.asks(alloc, jobs, rows, *tries, is_of_all(deed)),

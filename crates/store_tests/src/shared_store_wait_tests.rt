@@ -82,38 +82,6 @@ fn a_class_is_drained_while_the_disk_of_another_writes(rt: HostRuntime) -> Resul
     assert_case(&rt, rt.alloc(), &case)
 }
 
-// Two points of `d` are put as a piece meanwhile.
-const PIECES: [Row; 3] = [
-    (Deed::Await(0), End::Up),
-    (
-        Deed::PutAll(&[("d", 0, 2), ("d", 1, 3)]),
-        End::PutAll(TWO_STORED),
-    ),
-    (Deed::Raise(1), End::Up),
-];
-
-const TWO_STORED: PutCounts = PutCounts {
-    done: 2,
-    stored: 2,
-    replaced: 0,
-    full: 0,
-};
-
-const ASKS_LATER: [Row; 1] = [(Deed::Ask(BOTH), End::Shown(&[&[B], &[LATER_D]], 1))];
-
-#[test]
-fn a_piece_waits_for_no_class_that_it_has_no_points_of(rt: HostRuntime) -> Result<(), Fail> {
-    let case = Case {
-        stops: &[Stop::Write(5)],
-        before: &WRITES,
-        first: &ASKS_LATER,
-        second: &PIECES,
-        entries: 5,
-        tally: tally(3, 1),
-    };
-    assert_case(&rt, rt.alloc(), &case)
-}
-
 // ---- a plan that waits
 
 // `b` is drained, and put anew.

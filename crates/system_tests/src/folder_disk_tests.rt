@@ -50,7 +50,7 @@ struct Story {
     told: &'static str,
 }
 
-const STORIES: [Story; 25] = [
+const STORIES: [Story; 20] = [
     Story {
         title: "no folder has no names",
         steps: &[Step::Names, Step::Length("c")],
@@ -236,9 +236,10 @@ const STORIES: [Story; 25] = [
         told: "[c.ring,d.ring] ok 18 \\0\\0 [c.ring,d.ring] tw ok \\0\\0 ",
     },
     Story {
-        title: "a file of version 1 that came since the list is not made anew, nor one of which there was none",
+        title: "a file of version 1 that came since the list is not made anew, nor one that came since the disk was made",
         steps: &[
             Step::Folder(""),
+            Step::Wait(30),
             Step::Put("d.ring", "\0\0\0\u{1}twenty bytes and more"),
             Step::Create("d.ring", 18),
             Step::Names,
@@ -254,7 +255,74 @@ const STORIES: [Story; 25] = [
         told: "failed [d.ring] failed tw failed ot ",
     },
     Story {
-        title: "nor is one that got its name since, however old its bytes are",
+        title: "before the list a file of version 1 is made anew that was there when the disk was made, for the log that is laid",
+        steps: &[
+            Step::Folder("a"),
+            Step::Put("a/c.ring", "\0\0\0\u{1}twenty bytes and more"),
+            Step::Put("d.ring", "\0\0\0\u{8}twenty bytes and more"),
+            Step::Wait(30),
+            Step::Over(Kind::ToBeWritten, ""),
+            Step::Length("redo.gate"),
+            Step::Create("a/c.ring", 18),
+            Step::Length("a/c.ring"),
+            Step::Read("a/c.ring", 2),
+            Step::Wait(30),
+            Step::Put("d.ring", "\0\0\0\u{1}others"),
+            Step::Create("d.ring", 18),
+            Step::Wait(60),
+            Step::Names,
+            Step::Read("d.ring", 4),
+        ],
+        told: "none ok 18 \\0\\0 failed [a/c.ring,d.ring] ot ",
+    },
+    Story {
+        title: "so is a ring file that the log has brought to its length, but none of another length, and none behind the list",
+        steps: &[
+            Step::Folder(""),
+            Step::Put("redo.log", "text"),
+            Step::Wait(30),
+            Step::Put("c.ring", "\0\0\u{2}\u{1}fourteen bytes"),
+            Step::Put("d.ring", "\0\0\u{2}\u{1}fourteen bytes"),
+            Step::Wait(30),
+            Step::Over(Kind::Data, ""),
+            Step::Read("redo.log", 0),
+            Step::Create("c.ring", 18),
+            Step::Read("c.ring", 2),
+            Step::Write("c.ring", 2, "xy"),
+            Step::Read("redo.log", 0),
+            Step::Create("d.ring", 19),
+            Step::Wait(60),
+            Step::Names,
+            Step::Read("redo.log", 0),
+            Step::Create("d.ring", 18),
+            Step::Read("d.ring", 4),
+            Step::Wait(120),
+            Step::Over(Kind::Data, ""),
+            Step::Read("redo.log", 0),
+            Step::Create("c.ring", 18),
+            Step::Read("c.ring", 2),
+        ],
+        told: "te ok \\0\\0 ok te failed [c.ring,d.ring,redo.log] te failed fo te ok \\0\\0 ",
+    },
+    Story {
+        title: "a ring file that is older than the log is not made anew before the list, nor is one where no log was read",
+        steps: &[
+            Step::Folder(""),
+            Step::Put("c.ring", "\0\0\u{2}\u{1}fourteen bytes"),
+            Step::Wait(30),
+            Step::Put("redo.log", "text"),
+            Step::Wait(30),
+            Step::Over(Kind::Data, ""),
+            Step::Read("redo.log", 0),
+            Step::Create("c.ring", 18),
+            Step::Over(Kind::Data, ""),
+            Step::Create("c.ring", 18),
+            Step::Read("c.ring", 4),
+        ],
+        told: "te failed failed fo ",
+    },
+    Story {
+        title: "a file of version 1 that got its name since the list is not made anew, however old its bytes are",
         steps: &[
             Step::Folder(""),
             Step::Put("c", "\0\0\0\u{1}twenty bytes and more"),
@@ -282,6 +350,10 @@ const STORIES: [Story; 25] = [
         ],
         told: "[c.ring,d.ring] failed failed tw ",
     },
+];
+
+// What others do to files that are in use, and what is in the way.
+const CHANGED: [Story; 9] = [
     Story {
         title: "a file that is removed while it is open takes no more, until it is there again",
         steps: &[
@@ -357,6 +429,25 @@ const STORIES: [Story; 25] = [
             Step::Create("e.ring", 9),
         ],
         told: "failed failed ok ok ",
+    },
+    Story {
+        title: "each further create that fails has a pause twice as long behind it",
+        steps: &[
+            Step::Folder(""),
+            Step::Put("c.ring", "text"),
+            Step::Create("c.ring", 9),
+            Step::Wait(60),
+            Step::Create("c.ring", 9),
+            Step::Wait(120),
+            Step::Create("c.ring", 9),
+            Step::Wait(240),
+            Step::Create("c.ring", 9),
+            Step::Wait(60),
+            Step::Create("d.ring", 9),
+            Step::Wait(400),
+            Step::Create("d.ring", 9),
+        ],
+        told: "failed failed failed failed failed ok ",
     },
     Story {
         title: "a file in the way of a folder is a fault",
@@ -835,6 +926,17 @@ fn a_folder_is_a_disk_while_others_use_it(rt: HostRuntime) -> Result<(), Fail> {
         "folder_disk_story",
         "folder_disk_story/disk",
         &STORIES,
+    )
+}
+
+#[test]
+fn a_file_that_others_change_is_a_fault(rt: HostRuntime) -> Result<(), Fail> {
+    assert_stories(
+        &rt,
+        &rt,
+        "folder_disk_changed",
+        "folder_disk_changed/disk",
+        &CHANGED,
     )
 }
 

@@ -88,7 +88,8 @@ fn push_options(told: &mut String, options: Options) -> Result<(), AllocError> {
         Strategy::TimeSorted => "timesorted",
         Strategy::Naive => "naive",
     };
-    write!(told, " limit {} order {order}", options.limit)
+    let redo = if options.redo { " redo" } else { "" };
+    write!(told, " limit {} order {order}{redo}", options.limit)
 }
 
 fn push_serve(told: &mut String, more: ServeOptions) -> Result<(), AllocError> {

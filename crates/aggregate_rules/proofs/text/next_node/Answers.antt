@@ -2,7 +2,7 @@ use Rattle.std.proofs.Common.{◌≡◌, sym, ◌∙◌, Some, rules}
 use Rattle.std.proofs.lemmas.List.{take_rest}
 use Rattle.std.specs.List.{position}
 use Rattle.metric_path.specs.Path.{is_dot}
-use Rattle.schema_rules.proofs.SplitLemmas.{split_first, split_nowhere}
+use Rattle.rule_lines.proofs.SplitLemmas.{split_first, split_nowhere}
 use Rattle.aggregate_rules.proofs.text.next_node.Goals as goal
 
 pub returns-in-Some : goal.returns-in-Some

@@ -5,7 +5,7 @@ use Rattle.std.specs.contracts.sync.atomic.AtomicU32 as AtomicU32
 use Rattle.std.specs.contracts.sync.atomic.AtomicUsize as AtomicUsize
 use Rattle.shared_store.specs.contracts.store.Store as Store
 use Rattle.shared_store.proofs.StoreCross.{store-sync}
-use Rattle.carbon_serve.proofs.RulesCross.{rules-sync}
+use Rattle.aggregate_rules.proofs.RulesCross.{rules-sync}
 use Rattle.carbon_serve.proofs.workers.work_all.Goals as goal
 
 pub for_each_mut-requires-sync-F : goal.for_each_mut-requires-sync-F

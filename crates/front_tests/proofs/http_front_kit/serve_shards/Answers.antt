@@ -12,7 +12,7 @@ use Rattle.front_tests.proofs.http_front_kit.serve_shards.Goals as goal
 
 fresh_from : {D : Type 0} {d : Ghosts D} (told : ℕ → Option Image) (start : State) (earlier : ℕ → ℕ) (shards : List (Shard D d)) → AreReadyShards told start earlier shards → AreReadyShards told start earlier shards
 fresh_from told start earlier shards ready k shard there =
-    let one = ready k shard there in record { class = one.class; empty = one.empty; holds = one.holds; faults = one.faults }
+    let one = ready k shard there in record { class = one.class; empty = one.empty; idle = one.idle; holds = one.holds; faults = one.faults }
 
 pub serve_parts-requires : goal.serve_parts-requires
 serve_parts-requires g c =

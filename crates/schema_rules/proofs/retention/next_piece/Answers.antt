@@ -2,7 +2,7 @@ use Rattle.std.proofs.Common.{◌≡◌, sym, ◌∙◌, Some, rules}
 use Rattle.std.proofs.lemmas.List.{take_rest}
 use Rattle.std.specs.List.{position}
 use Rattle.schema_rules.specs.Retentions.{is_comma}
-use Rattle.schema_rules.proofs.SplitLemmas.{split_first, split_nowhere}
+use Rattle.rule_lines.proofs.SplitLemmas.{split_first, split_nowhere}
 use Rattle.schema_rules.proofs.retention.next_piece.Goals as goal
 
 pub returns-in-Some : goal.returns-in-Some

@@ -1,8 +1,7 @@
-use Rattle.std.proofs.Common.{◌≡◌, ◌∙◌, [], Some, false, Option, ℕ, arith, inl, refl, rules, subst, sym}
+use Rattle.std.proofs.Common.{◌≡◌, ◌∙◌, [], Some, false, arith, inl, refl, rules}
 use Rattle.std.specs.Prelude.{◌&&◌, not, unwrap_or}
 use Rattle.metric_path.specs.FileName.{file_name_of}
 use Rattle.metric_table.specs.Table.{kept_version}
-use Rattle.ring_archive.specs.Ring.{HoldsRing}
 use Rattle.shard_core.proofs.KeptLemmas.{version_or_new}
 use Rattle.shard_core.proofs.PlannedLemmas.{given_for, old_is_there, plan_is_there, plans_for}
 use Rattle.shard_core.proofs.ReadingLemmas.{view_is_there}

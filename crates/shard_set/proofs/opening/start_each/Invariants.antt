@@ -5,7 +5,7 @@ use Rattle.shard_set.proofs.opening.start_each.Given as goal
 
 abbrev pub invariant-loop-class : goal.invariant-loop-class
 invariant-loop-class g l = record {
-  started : AreStarted (settings_of l.setup) l.fn.disks.items l.shards.items;
+  started : AreStarted (settings_of l.setup) l.setup.redo l.fn.disks.items l.shards.items;
   rest : l.disks.items ≡ drop (length l.shards.items) l.fn.disks.items;
   count : vec_len l.shards ≡ l.class;
   left : vec_len l.disks + l.class ≡ 16;

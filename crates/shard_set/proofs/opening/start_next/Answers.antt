@@ -10,5 +10,5 @@ returns-in-Ok-push-clause-starts g c = record {
   shard = c.in-Ok.shard;
   taken = first_taken c.args.disks.now.items c.remove-disk.new.self.items c.remove-disk.result (omega (arith, c.args.disks.now.ok.0, c.requires.next)) c.remove-disk.ensures.value c.remove-disk.ensures.items;
   more = c.in-Ok-push.ensures.items;
-  started = subst (λ (class : ℕ). StartedFrom class (settings_of c.args.setup.now) c.remove-disk.result c.in-Ok.shard) {x = c.len.result} {y = length c.args.shards.now.items} (omega (arith, c.len.ensures, c.args.shards.now.ok.0)) c.in-Ok.ensures.started;
+  started = subst (λ (class : ℕ). StartedFrom class (settings_of c.args.setup.now) c.args.setup.now.redo c.remove-disk.result c.in-Ok.shard) {x = c.len.result} {y = length c.args.shards.now.items} (omega (arith, c.len.ensures, c.args.shards.now.ok.0)) c.in-Ok.ensures.started;
 }

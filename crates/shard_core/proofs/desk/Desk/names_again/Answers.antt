@@ -1,4 +1,4 @@
-use Rattle.std.proofs.Common.{rules, ◌≡◌, ◌∙◌, length, sym}
+use Rattle.std.proofs.Common.{rules, ◌≡◌, length}
 use Rattle.shard_core.specs.Halves.{both, desk_of}
 use Rattle.shard_core.proofs.LookLemmas.{names_all}
 use Rattle.shard_core.proofs.desk.Desk.names_again.Goals as goal

@@ -8,9 +8,9 @@ use Rattle.drain_order.specs.Picking.{Follows, Picking, settled_with}
 use Rattle.write_shelf.specs.Shelf.{DrainValue}
 use Rattle.carbon_model.specs.RingFiles.{IsOfClass}
 use Rattle.shard_core.specs.Halves.{held_by}
-use Rattle.shard_core.specs.Shard.{AreOfClass, HasFiles, patch_on}
+use Rattle.shard_core.specs.Shard.{AreOfClass, HasFiles, HoldsShelf, patch_on}
 use Rattle.shard_core.specs.Table.{Lists}
-use Rattle.shard_core.proofs.BeginLemmas.{begins, files_begun, kept_begun, layouts_drained, named_begun, shelf_begun}
+use Rattle.shard_core.proofs.BeginLemmas.{begins, files_begun, kept_begun, layouts_drained, log_begun, shelf_begun}
 use Rattle.shard_core.proofs.PendingLemmas.{of_class_without}
 use Rattle.shard_core.proofs.PickLemmas.{of_class_at}
 use Rattle.shard_core.proofs.TableLemmas.{lists_drained}
@@ -38,11 +38,6 @@ invariant_of-desk g c =
           (lists_drained old.class old.rules old.cache.metrics old.table c.note_drain.new.self path makes.known makes.there sets old.listed);
     }
 
-pub invariant_of-self : goal.invariant_of-self
-invariant_of-self g c = record {
-  named = c.name_where_shelved.ensures ∙ named_begun c.put.new.self c.args.next.patch _ c.put.ensures.value c.args.next.named;
-}
-
 pub returns-clause-begins : goal.returns-clause-begins
 returns-clause-begins g c =
     let old = c.args.desk.now in
@@ -56,7 +51,7 @@ returns-clause-begins g c =
     subst (λ (o : Option Known). Sets old.table c.note_drain.new.self path (option_map drained o)) makes.there c.note_drain.ensures in
     let files : HasFiles old.class old.table None (g.D.Disk.image c.args.self.now.disk) =
     subst (λ (shelf : Option DrainValue). HasFiles old.class old.table (patch_on shelf) (g.D.Disk.image c.args.self.now.disk)) c.requires.empty c.requires.halves.rings in
-    begins (held_by old c.args.self.now) c.take-path.new.self c.settle.new.self c.note_drain.new.self c.put.new.self path c.args.next.now c.args.next.patch c.requires.empty one
+    begins (held_by old c.args.self.now) c.take-path.new.self c.settle.new.self c.note_drain.new.self c.put.new.self.shelf c.put.new.self.steps c.put.new.self.log path c.args.next.now c.args.next.patch c.requires.empty one
     (record {
       metrics = ap (λ (cache : Cache). cache.metrics) c.take-path.ensures.others;
       limit = ap (λ (cache : Cache). cache.limit) c.take-path.ensures.others;
@@ -65,7 +60,7 @@ returns-clause-begins g c =
       picked = sym picked.told ∙ c.take-path.ensures.path;
       some = subst (λ (points : List (ℕ × ℤ)). 0 < length points) c.take-path.ensures.points c.take-path.ensures.some;
     })
-    makes sets c.put.ensures.value c.put.ensures.few files old.listed
+    makes sets c.put.ensures.shelf c.put.ensures.runs c.put.ensures.steps files old.listed
 
 pub returns-clause-keeps : goal.returns-clause-keeps
 returns-clause-keeps g c =
@@ -77,13 +72,16 @@ returns-clause-keeps g c =
     let one : IsOfClass old.class path = of_class_at old.class old.cache.metrics old.cache.places c.args.place path old.metrics c.metrics.ensures.placed c.take-path.ensures.path in
     let sets : Sets old.table c.note_drain.new.self path (Some (drained makes.known)) =
     subst (λ (o : Option Known). Sets old.table c.note_drain.new.self path (option_map drained o)) makes.there c.note_drain.ensures in
-    let files : HasFiles old.class old.table None image = subst (λ (shelf : Option DrainValue). HasFiles old.class old.table (patch_on shelf) image) c.requires.empty c.requires.halves.rings in record {
+    let files : HasFiles old.class old.table None image = subst (λ (shelf : Option DrainValue). HasFiles old.class old.table (patch_on shelf) image) c.requires.empty c.requires.halves.rings in
+    let writing : HoldsShelf old.class c.note_drain.new.self c.put.new.self.shelf image =
+    shelf_begun old.class old.table c.note_drain.new.self path makes.known c.put.new.self.shelf patch image one makes.there sets makes.plans.own makes.plans.layout makes.plans.fresh c.put.ensures.shelf
+    (kept_begun old.class old.table c.note_drain.new.self path makes.known patch one sets makes.plans.own makes.plans.layout makes.lawful) files in record {
       halves = record {
         one = c.requires.halves.one;
-        rings = files_begun old.class old.table c.note_drain.new.self path makes.known c.put.new.self patch image one makes.there sets makes.plans.own makes.plans.layout makes.plans.fresh c.put.ensures.value files;
-        writing = shelf_begun old.class old.table c.note_drain.new.self path makes.known c.put.new.self patch image one makes.there sets makes.plans.own makes.plans.layout makes.plans.fresh c.put.ensures.value
-            (kept_begun old.class old.table c.note_drain.new.self path makes.known patch one sets makes.plans.own makes.plans.layout makes.lawful) files;
+        rings = files_begun old.class old.table c.note_drain.new.self path makes.known c.put.new.self.shelf patch image one makes.there sets makes.plans.own makes.plans.layout makes.plans.fresh c.put.ensures.shelf files;
+        writing = writing;
+        logged = log_begun old.class c.note_drain.new.self c.args.self.now.work.log c.put.new.self.log c.put.new.self.shelf patch _ image c.put.ensures.was c.put.ensures.log c.args.next.named c.put.ensures.shelf writing c.requires.halves.logged;
       };
       same = record { class = refl; rules = refl };
-      layouts = layouts_drained (held_by old c.args.self.now) c.take-path.new.self c.settle.new.self c.note_drain.new.self c.put.new.self path makes.known makes.there sets;
+      layouts = layouts_drained (held_by old c.args.self.now) c.take-path.new.self c.settle.new.self c.note_drain.new.self c.put.new.self.shelf c.put.new.self.steps c.put.new.self.log path makes.known makes.there sets;
     }

@@ -25,9 +25,9 @@ make-made-requires g c =
     let failed : ℕ = g.D.Disk.faults f.files.disk in
     let here : f.files.class ≡ d.desk.class = search rules in
     let halves : AreHalves desk files = both_halves n.table n.halves n.told n.start n.faults desk files failed d.half f.half d.tail here c.meet.ensures.same c.desk.invariant c.self.invariant in
-    let shelved : c.args.self.now.shelved ≡ is_some f.files.shelf = search rules in
+    let shelved : c.args.self.now.shelved ≡ is_some f.files.work.shelf = search rules in
     let next : IsNext desk (Some c.in-Ok-Some.metric) = subst (λ (o : Option NextMetric). IsNext desk o) c.in-Ok-Some.field-0-is c.in-Ok-Some.ensures.next in
-    next.may files halves (is_empty f.files.shelf c.args.self.now.shelved shelved c.requires.shelved)
+    next.may files halves (is_empty f.files.work.shelf c.args.self.now.shelved shelved c.requires.shelved)
 
 pub invariant_of-desk : goal.invariant_of-desk
 invariant_of-desk g c =
@@ -54,8 +54,8 @@ begin_next-begun-requires-clause-halves g c =
 pub begin_next-begun-requires-clause-empty : goal.begin_next-begun-requires-clause-empty
 begin_next-begun-requires-clause-empty g c =
     let f = c.self.inside in
-    let shelved : c.args.self.now.shelved ≡ is_some f.files.shelf = search rules in
-    ap (λ (x : FilesInside). x.shelf) c.make-made.ensures.same ∙ is_empty f.files.shelf c.args.self.now.shelved shelved c.requires.shelved
+    let shelved : c.args.self.now.shelved ≡ is_some f.files.work.shelf = search rules in
+    ap (λ (x : FilesInside). x.shelf) c.make-made.ensures.same ∙ is_empty f.files.work.shelf c.args.self.now.shelved shelved c.requires.shelved
 
 pub tell-requires-clause-may : goal.tell-requires-clause-may
 tell-requires-clause-may g c =
@@ -96,7 +96,7 @@ invariant_of-self-2 g c =
     let plans = planned_over c.in-Some.planned c.args.now (desk_of d.desk) (desk_of c.begin_next-begun.new.desk) files (files_of {d = g.D.Disk} c.make-made.new.self)
     (files_of {d = g.D.Disk} c.begin_next-begun.new.self) c.make-made.ensures.same c.in-Some.ensures.plans in
     let count : g.D.Disk.faults c.begin_next-begun.new.self.disk ≡ g.D.Disk.faults c.make-made.new.self.disk = ap (λ x. g.D.Disk.faults x) c.in-Some.ensures.disk in
-    let begun = planned_tail c.in-Some.planned c.args.now c.args.pass.now.number d.tail c.tell.new.tail c.settle_begun.new.tail _ c.shelved.result c.begin_next-begun.new.self.shelf
+    let begun = planned_tail c.in-Some.planned c.args.now c.args.pass.now.number d.tail c.tell.new.tail c.settle_begun.new.tail _ c.shelved.result c.begin_next-begun.new.self.work.shelf
     c.settle_begun.ensures c.shelved.ensures c.tell.ensures.tail (c.plan_event-event.ensures.event c.args.pass.now.number d.tail.class) in
     files_planned n.table n.halves n.told n.start n.faults (desk_of d.desk) (desk_of c.begin_next-begun.new.desk) files (files_of {d = g.D.Disk} c.begin_next-begun.new.self)
     (g.D.Disk.faults f.files.disk) (g.D.Disk.faults c.begin_next-begun.new.self.disk) c.args.now c.args.pass.now.number d.half f.half d.tail c.settle_begun.new.tail c.in-Some.planned
@@ -117,7 +117,7 @@ invariant_of-desk-2 g c =
     let plans = planned_over c.in-Some.planned c.args.now (desk_of d.desk) (desk_of c.begin_next-begun.new.desk) files (files_of {d = g.D.Disk} c.make-made.new.self)
     (files_of {d = g.D.Disk} c.begin_next-begun.new.self) c.make-made.ensures.same c.in-Some.ensures.plans in
     let count : g.D.Disk.faults c.begin_next-begun.new.self.disk ≡ g.D.Disk.faults c.make-made.new.self.disk = ap (λ x. g.D.Disk.faults x) c.in-Some.ensures.disk in
-    let begun = planned_tail c.in-Some.planned c.args.now c.args.pass.now.number d.tail c.tell.new.tail c.settle_begun.new.tail _ c.shelved.result c.begin_next-begun.new.self.shelf
+    let begun = planned_tail c.in-Some.planned c.args.now c.args.pass.now.number d.tail c.tell.new.tail c.settle_begun.new.tail _ c.shelved.result c.begin_next-begun.new.self.work.shelf
     c.settle_begun.ensures c.shelved.ensures c.tell.ensures.tail (c.plan_event-event.ensures.event c.args.pass.now.number d.tail.class) in
     desk_planned n.table n.halves n.told n.start n.faults (desk_of d.desk) (desk_of c.begin_next-begun.new.desk) files (files_of {d = g.D.Disk} c.begin_next-begun.new.self)
     (g.D.Disk.faults f.files.disk) (g.D.Disk.faults c.begin_next-begun.new.self.disk) c.args.now c.args.pass.now.number d.half f.half d.tail c.settle_begun.new.tail c.in-Some.planned
@@ -138,7 +138,7 @@ returns-clause-plans g c =
     let plans = planned_over c.in-Some.planned c.args.now (desk_of d.desk) (desk_of c.begin_next-begun.new.desk) files (files_of {d = g.D.Disk} c.make-made.new.self)
     (files_of {d = g.D.Disk} c.begin_next-begun.new.self) c.make-made.ensures.same c.in-Some.ensures.plans in
     let count : g.D.Disk.faults c.begin_next-begun.new.self.disk ≡ g.D.Disk.faults c.make-made.new.self.disk = ap (λ x. g.D.Disk.faults x) c.in-Some.ensures.disk in
-    let begun = planned_tail c.in-Some.planned c.args.now c.args.pass.now.number d.tail c.tell.new.tail c.settle_begun.new.tail _ c.shelved.result c.begin_next-begun.new.self.shelf
+    let begun = planned_tail c.in-Some.planned c.args.now c.args.pass.now.number d.tail c.tell.new.tail c.settle_begun.new.tail _ c.shelved.result c.begin_next-begun.new.self.work.shelf
     c.settle_begun.ensures c.shelved.ensures c.tell.ensures.tail (c.plan_event-event.ensures.event c.args.pass.now.number d.tail.class) in
     let self_class : d.tail.class ≡ c.args.self.now.class = search rules in
     told_planned n.table n.halves n.told n.start n.faults (desk_of d.desk) (desk_of c.begin_next-begun.new.desk) files (files_of {d = g.D.Disk} c.begin_next-begun.new.self)
@@ -193,7 +193,7 @@ invariant_of-self-in-None g c =
     let fault_count : later ≡ g.D.Disk.faults c.make-made.new.self.disk = ap (λ x. g.D.Disk.faults x) c.in-None.ensures.disk in
     let more : failed ≤ later = subst (λ (n : ℕ). failed ≤ n) (sym fault_count) c.make-made.ensures.frame.later in
     files_read n.halves n.told n.start n.faults files there failed later f.half c.meet-2.new.files
-    (same_files files there (c.in-None.ensures.keeps.halves.one ∙ (c.in-None.ensures.keeps.same.class ∙ sym here)) before.shelf
+    (same_files files there (c.in-None.ensures.keeps.halves.one ∙ (c.in-None.ensures.keeps.same.class ∙ sym here)) before.shelf before.steps before.log
     (ap (λ x. g.D.Disk.image x) c.in-None.ensures.disk ∙ ap (λ (x : FilesInside). x.known) same))
     (c.meet-2.ensures.files ∙ c.meet.ensures.files) more c.self.invariant
 

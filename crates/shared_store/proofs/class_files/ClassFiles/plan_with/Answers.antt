@@ -40,7 +40,7 @@ invariant_of-self g c =
     let f = c.self.inside in
     let d = c.desk.inside in
     let here : f.files.class ≡ d.desk.class = search rules in
-    let begun = planned_tail c.plan-planned.result c.args.now c.args.pass.now.number d.tail c.tell.new.tail c.settle_begun.new.tail _ c.shelved.result c.plan-planned.new.self.shelf
+    let begun = planned_tail c.plan-planned.result c.args.now c.args.pass.now.number d.tail c.tell.new.tail c.settle_begun.new.tail _ c.shelved.result c.plan-planned.new.self.work.shelf
     c.settle_begun.ensures c.shelved.ensures c.tell.ensures.tail (c.plan_event-event.ensures.event c.args.pass.now.number d.tail.class) in
     files_planned n.table n.halves n.told n.start n.faults (desk_of d.desk) (desk_of c.plan-planned.new.desk) (files_of {d = g.D.Disk} f.files) (files_of {d = g.D.Disk} c.plan-planned.new.self)
     (g.D.Disk.faults f.files.disk) (g.D.Disk.faults c.plan-planned.new.self.disk) c.args.now c.args.pass.now.number d.half f.half d.tail c.settle_begun.new.tail c.plan-planned.result
@@ -54,7 +54,7 @@ invariant_of-desk g c =
     let f = c.self.inside in
     let d = c.desk.inside in
     let here : f.files.class ≡ d.desk.class = search rules in
-    let begun = planned_tail c.plan-planned.result c.args.now c.args.pass.now.number d.tail c.tell.new.tail c.settle_begun.new.tail _ c.shelved.result c.plan-planned.new.self.shelf
+    let begun = planned_tail c.plan-planned.result c.args.now c.args.pass.now.number d.tail c.tell.new.tail c.settle_begun.new.tail _ c.shelved.result c.plan-planned.new.self.work.shelf
     c.settle_begun.ensures c.shelved.ensures c.tell.ensures.tail (c.plan_event-event.ensures.event c.args.pass.now.number d.tail.class) in
     desk_planned n.table n.halves n.told n.start n.faults (desk_of d.desk) (desk_of c.plan-planned.new.desk) (files_of {d = g.D.Disk} f.files) (files_of {d = g.D.Disk} c.plan-planned.new.self)
     (g.D.Disk.faults f.files.disk) (g.D.Disk.faults c.plan-planned.new.self.disk) c.args.now c.args.pass.now.number d.half f.half d.tail c.settle_begun.new.tail c.plan-planned.result
@@ -68,7 +68,7 @@ returns-clause-after g c =
     let f = c.self.inside in
     let d = c.desk.inside in
     let here : f.files.class ≡ d.desk.class = search rules in
-    let begun = planned_tail c.plan-planned.result c.args.now c.args.pass.now.number d.tail c.tell.new.tail c.settle_begun.new.tail _ c.shelved.result c.plan-planned.new.self.shelf
+    let begun = planned_tail c.plan-planned.result c.args.now c.args.pass.now.number d.tail c.tell.new.tail c.settle_begun.new.tail _ c.shelved.result c.plan-planned.new.self.work.shelf
     c.settle_begun.ensures c.shelved.ensures c.tell.ensures.tail (c.plan_event-event.ensures.event c.args.pass.now.number d.tail.class) in
     let self_class : d.tail.class ≡ c.args.self.now.class = search rules in
     let plans : PlansAs n.start n.passes c.args.self.now.class c.args.now c.plan-planned.result c.args.pass.now c.mark.new.pass =
@@ -86,7 +86,7 @@ returns-clause-looks g c =
     let f = c.self.inside in
     let d = c.desk.inside in
     let here : f.files.class ≡ d.desk.class = search rules in
-    let begun = planned_tail c.plan-planned.result c.args.now c.args.pass.now.number d.tail c.tell.new.tail c.settle_begun.new.tail _ c.shelved.result c.plan-planned.new.self.shelf
+    let begun = planned_tail c.plan-planned.result c.args.now c.args.pass.now.number d.tail c.tell.new.tail c.settle_begun.new.tail _ c.shelved.result c.plan-planned.new.self.work.shelf
     c.settle_begun.ensures c.shelved.ensures c.tell.ensures.tail (c.plan_event-event.ensures.event c.args.pass.now.number d.tail.class) in
     let self_class : d.tail.class ≡ c.args.self.now.class = search rules in
     let plans : PlansAs n.start n.passes c.args.self.now.class c.args.now c.plan-planned.result c.args.pass.now c.mark.new.pass =

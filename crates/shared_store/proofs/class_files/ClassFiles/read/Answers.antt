@@ -125,7 +125,7 @@ invariant_of-self-2 g c =
     let kept : KeepsClass n.table n.told n.start n.faults (both desk new) later ended =
     subst (λ (t : TailValue). KeepsClass n.table n.told n.start n.faults (both desk new) later t) (sym c.tell.ensures.tail)
     (keeps_fault n.table n.told n.start n.faults (both desk old) (both desk new) failed later pass.number d.tail keeps refl
-    (ap (λ (x : FilesInside). x.shelf) same) holds (c.in-Err-DiskFault.ensures.frame.cause (search rules))) in
+    (ap (λ (x : FilesInside). x.shelf) same) (ap (λ (x : FilesInside). x.steps) same) holds (c.in-Err-DiskFault.ensures.frame.cause (search rules))) in
     let before : AreHalves desk old = both_halves n.table n.halves n.told n.start n.faults desk old failed d.half f.half d.tail here met c.desk-2.invariant c.self.invariant in
     let half : c.renew.new.files ≡ half_with f.half (stand_of ended) =
     c.renew.ensures.files ∙ ap (λ (h : HalfValue). half_with h (stand_of ended)) (c.meet-2.ensures.files ∙ c.meet.ensures.files) in
@@ -155,7 +155,7 @@ invariant_of-desk-2 g c =
     let kept : KeepsClass n.table n.told n.start n.faults (both desk new) later ended =
     subst (λ (t : TailValue). KeepsClass n.table n.told n.start n.faults (both desk new) later t) (sym c.tell.ensures.tail)
     (keeps_fault n.table n.told n.start n.faults (both desk old) (both desk new) failed later pass.number d.tail keeps refl
-    (ap (λ (x : FilesInside). x.shelf) same) holds (c.in-Err-DiskFault.ensures.frame.cause (search rules))) in
+    (ap (λ (x : FilesInside). x.shelf) same) (ap (λ (x : FilesInside). x.steps) same) holds (c.in-Err-DiskFault.ensures.frame.cause (search rules))) in
     let half : c.renew.new.desk ≡ half_with d.half (stand_of ended) =
     c.renew.ensures.desk ∙ ap (λ (h : HalfValue). half_with h (stand_of ended)) c.meet-2.ensures.desk in
     subst (λ (h : HalfValue). KeepsDesk n.table n.halves n.start desk h ended) (sym half)

@@ -27,7 +27,7 @@ returns-clause-nothing g c = λ nothing.
     let desk : DeskInside = desk_of c.desk.inside.desk in
     let old : FilesInside = files_of {d = g.D.Disk} f.files in
     let new : FilesInside = files_of {d = g.D.Disk} c.write_next-wrote.new.self in
-    let shelved : c.args.self.now.shelved ≡ is_some f.files.shelf = search rules in
+    let shelved : c.args.self.now.shelved ≡ is_some f.files.work.shelf = search rules in
     let writes : WritesTo Nothing (both desk old) (both desk new) = subst (λ (w : Wrote). WritesTo w (both desk old) (both desk new)) nothing (c.write_next-wrote.ensures.writes desk) in
     shelved ∙ ap is_some writes.0
 

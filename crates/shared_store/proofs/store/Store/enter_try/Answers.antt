@@ -12,3 +12,6 @@ returns-clause-enters g c =
 pub returns-clause-desks : goal.returns-clause-desks
 returns-clause-desks g c =
     subst (λ (l : List Entry). AreDesksOf l c.mark_all.new.desks.items) (sym c.mark_all.ensures.marks.only.seen) c.mark_all.ensures.desks
+
+pub returns-clause-still : goal.returns-clause-still
+returns-clause-still g c = λ list are. c.mark_all.ensures.still list (c.enter_behind.ensures.still list are)

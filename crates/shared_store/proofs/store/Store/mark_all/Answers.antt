@@ -35,6 +35,10 @@ loop-i-preserved g c =
       count = search rules;
       desks = λ k d less. put_one (λ (x : MutexGuard DeskValue). IsDeskOf k seen (mutex_guard_value x)) desks i k guard d within
           (λ apart. v.desks k d (subst (λ (n : ℕ). k < n) (length-set desks i guard) less)) (λ e. subst (λ (j : ℕ). IsDeskOf j seen c.mark.new.self) (sym e) put);
+      still = λ list are k d less. put_one (λ (x : MutexGuard DeskValue). IsDeskOf k list (mutex_guard_value x)) desks i k guard d within
+          (λ apart. v.still list are k d (subst (λ (n : ℕ). k < n) (length-set desks i guard) less))
+          (λ e. subst (λ (j : ℕ). IsDeskOf j list c.mark.new.self) (sym e) (subst (λ (x : DeskValue). IsDeskOf i list x) (sym (c.mark.ensures.desk ∙ value))
+          (v.still list are i c.index_mut-desk.result.now within)));
       only = only_both c.args.pass.now c.loop-i.pass c.mark.new.pass v.only marks.only;
       had = below_more (λ (k : ℕ). HadSeen seen c.args.pass.now k) i v.had here;
       rest = λ k from. marks.others k (λ e. omega (arith, e, desk.class, from)) ∙ v.rest k (omega (arith, from));

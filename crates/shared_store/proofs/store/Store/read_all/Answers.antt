@@ -1,5 +1,5 @@
 use Rattle.std.proofs.Common.{◌≡◌, ◌∙◌, ℕ, ◌+◌, List, ◌++◌, ◌∷◌, [], take, sym, ap, subst}
-use Rattle.std.specs.Prelude.{Contains}
+use Rattle.std.specs.Prelude.{All, Contains}
 use Rattle.std.proofs.lemmas.List.{take_more}
 use Rattle.carbon_model.specs.Replay.{replay}
 use Rattle.carbon_model.specs.State.{State}
@@ -8,8 +8,9 @@ use Rattle.series_set.specs.Series.{SeriesValue}
 use Rattle.shard_core.specs.Looks.{looked_paths}
 use Rattle.shard_core.specs.declared.looked.Looked.{Looked}
 use Rattle.shared_store.specs.Asking.{IsSeriesAt, Pairwise, Stops}
+use Rattle.shared_store.specs.Held.{IsCovered}
 use Rattle.shared_store.proofs.AskPassLemmas.{only_both}
-use Rattle.shared_store.proofs.AskReadLemmas.{all_ends, all_fails, keeps_both, rows_more}
+use Rattle.shared_store.proofs.AskReadLemmas.{all_ends, all_fails, keeps_both, rows_more, set_covered}
 use Rattle.shared_store.proofs.store.Store.read_all.Goals as goal
 
 pub loop-found-preserved : goal.loop-found-preserved
@@ -47,3 +48,10 @@ returns-in_err-push-clause-reads g c =
     let n = g.N.Named in
     all_ends n.start n.told n.passes c.args.sets.now c.from_residual-in_err-push.result c.args.pass.now c.read_set.new.pass c.from_residual-in_err-push.ensures.1
     (only_both c.args.pass.now c.loop-found.pass c.read_set.new.pass c.loop-found.invariant.only c.in_ok-read_set.ensures.reads.0)
+
+pub read_set-requires-clause-covered : goal.read_set-requires-clause-covered
+read_set-requires-clause-covered g c =
+    let v = c.loop-found.invariant in
+    subst (All (IsCovered (replay g.N.Named.start c.loop-found.pass.seen) c.loop-found.held.items)) (sym c.as_slice.ensures)
+    (set_covered g.N.Named.start c.args.pass.now c.loop-found.pass c.args.held.now.items c.loop-found.held.items c.args.sets.now c.loop-found.found-index c.found-item.result
+    c.loop-found-test.true c.found-item.is v.only v.held c.requires.covered)

@@ -7,7 +7,7 @@ use Rattle.series_set.specs.Series.{SeriesValue}
 use Rattle.shard_core.specs.declared.looked.Looked.{Looked}
 use Rattle.shared_store.specs.Asking.{IsSeriesAt, Pairwise}
 use Rattle.shared_store.proofs.AskPassLemmas.{only_both}
-use Rattle.shared_store.proofs.AskReadLemmas.{keeps_both, set_ends, set_fails, set_more}
+use Rattle.shared_store.proofs.AskReadLemmas.{keeps_both, one_covered, set_ends, set_fails, set_more}
 use Rattle.shared_store.proofs.store.Store.read_set.Goals as goal
 
 pub loop-looked-preserved : goal.loop-looked-preserved
@@ -48,3 +48,9 @@ returns-in_err-push-clause-reads g c =
     let n = g.N.Named in
     set_ends n.start n.told n.passes c.args.found.now c.from_residual-in_err-push.result c.args.pass.now c.read_one.new.pass c.from_residual-in_err-push.ensures.1
     (only_both c.args.pass.now c.loop-looked.pass c.read_one.new.pass c.loop-looked.invariant.only c.in_ok-values.ensures.reads.0)
+
+pub read_one-requires-clause-covered : goal.read_one-requires-clause-covered
+read_one-requires-clause-covered g c =
+    let v = c.loop-looked.invariant in
+    one_covered g.N.Named.start c.args.pass.now c.loop-looked.pass c.args.held.now.items c.loop-looked.held.items c.args.found.now c.loop-looked.looked-index c.looked-item.result
+    c.loop-looked-test.true c.looked-item.is v.only v.held c.requires.covered

@@ -1,0 +1,179 @@
+#!/usr/bin/env python3
+"""What the log of --redo costs: lines a second and drained metrics a second, beside SQLite and Whisper that wait for the device as well.
+
+Usage: bench/redo.py [FOLDER [METRICS [LINES]]]      (the folder of temporary files, 2,000 metrics and 1,000,000 lines, where none are named)
+
+All is done in new folders in FOLDER, one after the other. In a folder in memory nothing waits for a device: name one of a disk.
+
+  lines     `carbon serve --drainers 16` with and without --redo is sent LINES lines of 10,000 metrics, which have ring files by then, over one
+            connection as fast as they are taken. The last line is taken where the daemon has closed the connection. Told are the lines a second, and how
+            many seconds after the first byte the last write was seen, when all is drained
+  metrics   one point of each of so many metrics, into files that are there: the drained metrics a second from the first write to the last, by 1, 4 and
+            16 drainers with --redo, and without it. Without it nothing is waited for: those are for the difference alone
+  SQLite    that of python3, a table of points by metric and time with its rows there already, a transaction for each metric with one point, and
+            synchronous=FULL; with a rollback journal, and with a write-ahead log
+  Whisper   the same points into files of its format that are there, as whisper.update writes one: open, read the head and the base, write the point,
+            flush, fsync, close. By the package whisper where python3 has it, else by a loop here that makes the same calls
+
+Nothing timed here is a test. Run ./carbon build first.
+"""
+import os
+import shutil
+import sqlite3
+import struct
+import sys
+import tempfile
+import threading
+import time
+
+from drainers import last_write, send as send_points, writes_of
+from live import need_program, write_rules
+from serve import METRICS as LINE_METRICS, Lines, send as send_lines
+from slow_disk import Daemon
+
+RULES = b"[drained]\npattern = ^drained\\.\nretentions = 1s:1h\n"
+DRAINERS = 1, 4, 16
+
+
+class Place:
+    """A folder of its own, which is removed."""
+
+    def __init__(self, above):
+        self.above = above
+
+    def __enter__(self):
+        self.name = tempfile.mkdtemp(prefix="redo", dir=self.above)
+        return self.name
+
+    def __exit__(self, *_):
+        shutil.rmtree(self.name)
+
+
+def make_files(place, metrics):
+    """Makes the files without a log, and waits until the device has them, so that later waits are not for these."""
+    daemon = Daemon(place, "", 0, "--drainers", "4")
+    send_points(daemon.lines, metrics, 0)
+    send_lines(daemon.lines, Lines(LINE_METRICS, int(time.time()) - 86_400).parts(1))
+    last_write(daemon.process, 0)
+    daemon.stop()
+    os.sync()
+
+
+def row(name, count, what, took, rest=""):
+    print("%-46s %10.0f %s a second%s" % (name, count / took, what, rest), flush=True)
+
+
+def run_lines(place, count, words):
+    daemon = Daemon(place, "", 0, "--drainers", "16", *words)
+    lines = Lines(count, int(time.time()))
+    pieces, before, begun, told = lines.parts(1), writes_of(daemon.process), time.monotonic(), []
+    watch = threading.Thread(target=lambda: told.append(last_write(daemon.process, before)))
+    watch.start()
+    took = send_lines(daemon.lines, pieces)
+    watch.join()
+    daemon.stop()
+    name = "lines, 16 drainers, " + (" ".join(words) or "no log")
+    row(name, lines.count, "lines", took, ", all drained after %.1f s" % (told[0][1] - begun))
+
+
+def run_metrics(place, metrics, drainers, words):
+    daemon = Daemon(place, "", 0, "--drainers", str(drainers), *words)
+    before = writes_of(daemon.process)
+    sender = threading.Thread(target=send_points, args=(daemon.lines, metrics, drainers))
+    sender.start()
+    begun, ended = last_write(daemon.process, before)
+    sender.join()
+    daemon.stop()
+    row("metrics, %d drainers, %s" % (drainers, " ".join(words) or "no log"), metrics, "metrics", ended - begun)
+
+
+def run_sqlite(place, metrics, journal):
+    link = sqlite3.connect(os.path.join(place, journal + ".db"), isolation_level=None)
+    link.execute("PRAGMA journal_mode=" + journal)
+    link.execute("PRAGMA synchronous=FULL")
+    link.execute("CREATE TABLE points (metric TEXT, time INTEGER, value REAL, PRIMARY KEY (metric, time)) WITHOUT ROWID")
+    names, now = ["drained.m%05d" % k for k in range(metrics)], int(time.time())
+    link.execute("BEGIN")
+    link.executemany("INSERT INTO points VALUES (?, ?, 0)", ((name, now - 60) for name in names))
+    link.execute("COMMIT")
+    begun = time.monotonic()
+    for name in names:
+        link.execute("BEGIN")
+        link.execute("INSERT OR REPLACE INTO points VALUES (?, ?, 1.5)", (name, now))
+        link.execute("COMMIT")
+    row("SQLite %s, journal_mode=%s" % (sqlite3.sqlite_version, journal), metrics, "metrics", time.monotonic() - begun)
+    link.close()
+
+
+POINTS = 3600
+HEAD = struct.Struct(">2LfL")
+ARCHIVE = struct.Struct(">3L")
+POINT = struct.Struct(">Ld")
+
+
+def create_wsp(name):
+    """A file of one archive of 3,600 seconds, with a point in its first slot."""
+    with open(name, "wb") as file:
+        file.write(HEAD.pack(1, POINTS, 0.5, 1) + ARCHIVE.pack(HEAD.size + ARCHIVE.size, 1, POINTS))
+        file.write(POINT.pack(int(time.time()) - 60, 0.0))
+        file.truncate(HEAD.size + ARCHIVE.size + POINT.size * POINTS)
+
+
+def update_wsp(name, value, moment):
+    """The calls of whisper.update for a file of one archive."""
+    with open(name, "r+b") as file:
+        HEAD.unpack(file.read(HEAD.size))
+        offset, step, points = ARCHIVE.unpack(file.read(ARCHIVE.size))
+        file.seek(offset)
+        base, _ = POINT.unpack(file.read(POINT.size))
+        file.seek(offset + POINT.size * ((moment - base) // step % points))
+        file.write(POINT.pack(moment, value))
+        file.flush()
+        os.fsync(file.fileno())
+
+
+def whisper_calls():
+    """Makes a file, writes a point, and what these are called."""
+    try:
+        import whisper
+    except ImportError:
+        return create_wsp, update_wsp, "Whisper's calls in a loop, with fsync"
+    whisper.AUTOFLUSH = True
+    return lambda name: whisper.create(name, [(1, POINTS)]), whisper.update, "Whisper, with fsync"
+
+
+def run_whisper(place, metrics):
+    create, update, told = whisper_calls()
+    names = [os.path.join(place, "m%05d.wsp" % k) for k in range(metrics)]
+    for name in names:
+        create(name)
+    os.sync()
+    begun = time.monotonic()
+    for name in names:
+        update(name, 1.5, int(time.time()))
+    row(told, metrics, "metrics", time.monotonic() - begun)
+
+
+def main():
+    need_program()
+    above = sys.argv[1] if len(sys.argv) > 1 else None
+    metrics, count = ([int(word) for word in sys.argv[2:]] + [2_000, 1_000_000][len(sys.argv[2:]) :])[:2]
+    with Place(above) as place:
+        write_rules(place, RULES)
+        make_files(place, metrics)
+        for words in [], ["--redo"]:
+            run_lines(place, count, words)
+            os.sync()
+        for words in [], ["--redo"]:
+            for drainers in DRAINERS:
+                run_metrics(place, metrics, drainers, words)
+                os.sync()
+    for journal in "delete", "wal":
+        with Place(above) as place:
+            run_sqlite(place, metrics, journal)
+    with Place(above) as place:
+        run_whisper(place, metrics)
+
+
+if __name__ == "__main__":
+    main()

@@ -1,6 +1,0 @@
-use Rattle.std.proofs.Common.{◌∙◌}
-use Rattle.fixed_num.proofs.DigitLemmas.{position_or_len-from_position}
-use Rattle.aggregate_rules.proofs.lines.first_blanks.Goals as goal
-
-pub returns-clause-count : goal.returns-clause-count
-returns-clause-count c = c.unwrap_or.ensures ∙ position_or_len-from_position _ _ _ c.no_blank_in.ensures

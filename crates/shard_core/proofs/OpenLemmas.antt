@@ -1,0 +1,170 @@
+-- What a start finds on a disk, and what it makes of it.
+use Rattle.std.proofs.Common.{◌≡◌, ◌∙◌, inl, inr, ⊎_elim, ℕ, Bool, true, false, List, [], ◌∷◌, Option, None, Some, IfSome, refl, sym, ap, subst}
+use Rattle.std.specs.Prelude.{option_and_then}
+use Rattle.std.proofs.lemmas.Bool.{true≢false}
+use Rattle.outside_io.specs.Image.{Image, WhereKnown}
+use Rattle.ring_format.specs.Patch.{PatchValue}
+use Rattle.redo_log.specs.Arm.{Arms, IsShut}
+use Rattle.redo_log.specs.Recovery.{IsDamaged as IsDamagedLog, Lays, OpensAs, Recovers, StandsWithin, is_open}
+use Rattle.redo_log.specs.Rows.{KeepsRings}
+use Rattle.redo_log.specs.Steps.{IsClosed, gate_name, log_name}
+use Rattle.carbon_model.specs.RingFiles.{StandsUnder, kept_in}
+use Rattle.shard_core.specs.Opened.{IsOpening, Opens, StillOpens}
+use Rattle.shard_core.specs.Opening.{IsLogRefused, OpensDisk, RefusesDisk}
+use Rattle.shard_core.specs.Shard.{HasFiles}
+use Rattle.shard_core.specs.StartFaults.{IsDamagedFile, IsDamagedRing}
+use Rattle.shard_core.specs.Starting.{OnDamaged}
+use Rattle.shard_core.specs.Table.{Table}
+use Rattle.shard_core.specs.Work.{HoldsLog, no_work}
+use Rattle.shard_core.specs.declared.fault.StartFault.{StartFault}
+use Rattle.shard_core.specs.declared.fault.StartFault.TheVariants.{Damaged, DiskFault, NoMemory}
+use Rattle.shard_core.proofs.LogLemmas.{files_keep, ring_same, rings_stand}
+
+-- ---- the gate behind a recovery
+
+closed_is_shut : (held : Option (List ℕ)) → IsClosed held → IsShut held
+closed_is_shut None closed = tt
+closed_is_shut (Some []) closed = tt
+closed_is_shut (Some (byte ∷ file)) closed = closed
+
+unopened_is_shut : (held : Option (List ℕ)) → is_open held ≡ false → IsShut held
+unopened_is_shut None other = tt
+unopened_is_shut (Some []) other = tt
+unopened_is_shut (Some (byte ∷ file)) other = λ is. absurd (true≢false (sym (subst (λ (n : ℕ). is_open (Some (n ∷ file)) ≡ true) (sym is) refl) ∙ other))
+
+shut_behind : (before after : Image) → Recovers before after → IsShut (after gate_name)
+shut_behind before after recovers = ⊎_elim
+    (λ none. subst IsShut (sym (none.1 gate_name)) (unopened_is_shut (before gate_name) none.0))
+    (λ laid. closed_is_shut (after gate_name) laid.closed) recovers
+
+pub recovered_shut : (a m b : Option Image) → WhereKnown a m Recovers → b ≡ m → IfSome b (λ image. IsShut (image gate_name))
+recovered_shut a m b recovers same = subst (λ (o : Option Image). IfSome o (λ image. IsShut (image gate_name))) (sym same) (by a m recovers)
+  where
+    by : (a m : Option Image) → WhereKnown a m Recovers → IfSome m (λ image. IsShut (image gate_name))
+    by None None recovers = tt
+    by None (Some after) recovers = absurd recovers
+    by (Some before) None recovers = absurd recovers
+    by (Some before) (Some after) recovers = shut_behind before after recovers
+
+-- ---- it opens as it did
+
+stands_laid : (patch : Option PatchValue) (before after : Image) → Lays patch before after → IsClosed (after gate_name) → StandsWithin patch before after
+stands_laid None before after rings closed = record { rings = rings; gate = inl closed }
+stands_laid (Some patch) before after rings closed = inr (record { rings = rings; gate = inl closed })
+
+opens_laid : (before after : Image) → Recovers before after → OpensAs before after
+opens_laid before after recovers = ⊎_elim
+    (λ none. inl none.1)
+    (λ laid. inr (record { gate = laid.gate; patch = laid.patch; holds = laid.holds; stands = stands_laid laid.patch before after laid.rings laid.closed })) recovers
+
+pub opening_opens : (image opening : Image) → IsOpening image opening → StillOpens image opening
+opening_opens image opening is = record { held = is.laid; opens = opens_laid image is.laid is.recovers; rings = is.rings }
+
+itself : (image : Image) → KeepsRings image image
+itself image = λ name no_log no_gate. refl
+
+-- a step behind it that keeps the rings
+pub still_known : (a m b : Option Image) → WhereKnown a m Recovers → WhereKnown m b KeepsRings → WhereKnown a b StillOpens
+still_known None None None recovers keeps = tt
+still_known None None (Some b) recovers keeps = keeps
+still_known None (Some m) b recovers keeps = absurd recovers
+still_known (Some a) None b recovers keeps = absurd recovers
+still_known (Some a) (Some m) None recovers keeps = keeps
+still_known (Some a) (Some m) (Some b) recovers keeps = record { held = m; opens = opens_laid a m recovers; rings = keeps }
+
+pub as_known : (a b : Option Image) → WhereKnown a b OpensAs → WhereKnown a b StillOpens
+as_known None None opens = tt
+as_known None (Some b) opens = opens
+as_known (Some a) None opens = opens
+as_known (Some a) (Some b) opens = record { held = b; opens = opens; rings = itself b }
+
+keeps_known : (a : Option Image) → WhereKnown a a KeepsRings
+keeps_known None = tt
+keeps_known (Some image) = itself image
+
+pub same_known : (a b : Option Image) → b ≡ a → WhereKnown a b KeepsRings
+same_known a b same = subst (λ (o : Option Image). WhereKnown a o KeepsRings) (sym same) (keeps_known a)
+
+pub opening_known : (a m b : Option Image) → WhereKnown a m Recovers → WhereKnown m b KeepsRings → WhereKnown a b IsOpening
+opening_known None None None recovers keeps = tt
+opening_known None None (Some b) recovers keeps = keeps
+opening_known None (Some m) b recovers keeps = absurd recovers
+opening_known (Some a) None b recovers keeps = absurd recovers
+opening_known (Some a) (Some m) None recovers keeps = keeps
+opening_known (Some a) (Some m) (Some b) recovers keeps = record { laid = m; recovers = recovers; rings = keeps }
+
+-- the log is made
+pub armed_keeps : (a b : Option Image) → WhereKnown a b Arms → WhereKnown a b KeepsRings
+armed_keeps None None arms = tt
+armed_keeps None (Some b) arms = arms
+armed_keeps (Some a) None arms = arms
+armed_keeps (Some a) (Some b) arms = arms.rings
+
+-- ---- the table
+
+opens_on : (class : ℕ) (table : Table) (m b : Image) → KeepsRings m b → Opens class (Some m) table → Opens class (Some b) table
+opens_on class table m b keeps opens = record {
+  kept = opens.kept;
+  shown = λ path one. opens.shown path one ∙ ap (λ (held : Option (List ℕ)). option_and_then kept_in held) (sym (ring_same m b path keeps));
+  holds = record {
+    layouts = opens.holds.layouts;
+    files = from_itself b (rings_stand m m b None opens.kept class keeps opens.holds.files);
+  };
+}
+  where
+    -- all else is as it is now
+    from_itself : (opening : Image) → StandsUnder m b None opens.kept class → StandsUnder b b None opens.kept class
+    from_itself opening stands = record { rings = stands.rings; sound = stands.sound; patched = tt; others = λ name no_log no_gate far. refl }
+
+pub opens_known : (class : ℕ) (table : Table) (m b : Option Image) → WhereKnown m b KeepsRings → Opens class m table → Opens class b table
+opens_known class table None None keeps opens = opens
+opens_known class table None (Some b) keeps opens = absurd keeps
+opens_known class table (Some m) None keeps opens = absurd keeps
+opens_known class table (Some m) (Some b) keeps opens = opens_on class table m b keeps opens
+
+pub files_known : (class : ℕ) (table : Table) (m b : Option Image) → WhereKnown m b KeepsRings → HasFiles class table None m → HasFiles class table None b
+files_known class table None None keeps files = tt
+files_known class table None (Some b) keeps files = absurd keeps
+files_known class table (Some m) None keeps files = tt
+files_known class table (Some m) (Some b) keeps files = files_keep class table None m b keeps files
+
+-- ---- what is damaged
+
+pub ring_damaged : (fault : StartFault) (a m : Option Image) (class : ℕ) → WhereKnown a m Recovers → IsDamagedRing fault m class → IsDamagedFile fault a class
+ring_damaged (Damaged name) None m class recovers damaged = tt
+ring_damaged (Damaged name) (Some a) None class recovers damaged = absurd recovers
+ring_damaged (Damaged name) (Some a) (Some m) class recovers damaged = inr (m, (recovers, damaged))
+ring_damaged DiskFault a m class recovers damaged = tt
+ring_damaged NoMemory a m class recovers damaged = tt
+
+log_known : (fault : StartFault) (a : Option Image) (class : ℕ) → OnDamaged fault (λ name. (name ≡ log_name) × IfSome a IsDamagedLog) → IsDamagedFile fault a class
+log_known (Damaged name) None class damaged = tt
+log_known (Damaged name) (Some a) class damaged = inl (damaged.0, damaged.1)
+log_known DiskFault a class damaged = tt
+log_known NoMemory a class damaged = tt
+
+pub log_refuses : (fault : StartFault) (a b : Option Image) (class : ℕ) → IsLogRefused fault a b → RefusesDisk fault class a b
+log_refuses fault a b class refused = record { opens = as_known a b refused.opens; damaged = log_known fault a class refused.damaged }
+
+-- ---- the whole opening
+
+keeps_behind : (m t b : Option Image) → t ≡ m → WhereKnown t b KeepsRings → WhereKnown m b KeepsRings
+keeps_behind m t b same keeps = subst (λ (o : Option Image). WhereKnown o b KeepsRings) same keeps
+
+-- before it, behind the recovery, behind the read of the heads, and behind the making of the log
+pub all_opened : (class : ℕ) (is_logged : Bool) (table : Table) (a m t b : Option Image) → WhereKnown a m Recovers → t ≡ m → WhereKnown t b KeepsRings → Opens class m table → HasFiles class table None m → HoldsLog (no_work is_logged).log b → OpensDisk class is_logged a b table
+all_opened class is_logged table a m t b recovers same keeps opens files log = record {
+  opening = opening_known a m b recovers (keeps_behind m t b same keeps);
+  opens = opens_known class table m b (keeps_behind m t b same keeps) opens;
+  files = files_known class table m b (keeps_behind m t b same keeps) files;
+  log = log;
+}
+
+pub heads_refused : (fault : StartFault) (class : ℕ) (a m t : Option Image) → WhereKnown a m Recovers → t ≡ m → IsDamagedRing fault m class → RefusesDisk fault class a t
+heads_refused fault class a m t recovers same damaged = record {
+  opens = still_known a m t recovers (same_known m t same);
+  damaged = ring_damaged fault a m class recovers damaged;
+}
+
+pub log_refused : (class : ℕ) (a m t b : Option Image) → WhereKnown a m Recovers → t ≡ m → WhereKnown t b KeepsRings → RefusesDisk DiskFault class a b
+log_refused class a m t b recovers same keeps = record { opens = still_known a m b recovers (keeps_behind m t b same keeps); damaged = tt }

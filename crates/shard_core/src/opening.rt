@@ -1,0 +1,97 @@
+//! Opening the disk of a class.
+ghost use Rattle.std.specs.Prelude.{◌≡◌, ◌≤◌, IfErr, IfOk, IfSome, IsErr, OnOk};
+ghost use Rattle.outside_io.specs.Faults.{Rose};
+ghost use Rattle.outside_io.specs.Frames.{CountsFaults};
+ghost use Rattle.outside_io.specs.Image.{WhereKnown};
+ghost use Rattle.redo_log.specs.Arm.{IsShut};
+ghost use Rattle.redo_log.specs.Recovery.{Recovers};
+ghost use Rattle.redo_log.specs.Rows.{KeepsRings};
+ghost use Rattle.redo_log.specs.Steps.{gate_name, log_name};
+ghost use Rattle.shard_core.specs.Opened.{IsOpened};
+ghost use Rattle.shard_core.specs.Opening.{IsLogRefused, OpensDisk, RefusesDisk};
+ghost use Rattle.shard_core.specs.StartFaults.{IsDiskFault};
+ghost use Rattle.shard_core.specs.Starting.{OnDamaged};
+ghost use Rattle.shard_core.specs.Work.{HoldsLog, no_work};
+
+use crate::fault::StartFault;
+use crate::starting::read_table;
+use metric_table::MetricTable;
+use outside_io::{Disk, DiskFailed};
+use redo_log::{LOG_NAME, RedoFault, arm, recover};
+use std::alloc::Global;
+
+/// Lays what an open gate holds, reads the heads of the files of the class, and makes the log where
+/// drains are to go through it.
+pub(crate) fn open_disk<D: Disk>(
+    alloc: Global,
+    disk: &mut D,
+    class: u32,
+    is_logged: bool,
+) -> Result<MetricTable, StartFault>
+    ensures opens { IfOk result
+        (OpensDisk class is_logged (D.image disk.old) (D.image disk.new)) }
+    ensures opened { IfOk result (IsOpened class) }
+    ensures refused { IfErr result
+        (λ fault. RefusesDisk fault class (D.image disk.old) (D.image disk.new)) }
+    ensures later { D.faults disk.old ≤ D.faults disk.new }
+    ensures cause { IfErr result
+        (λ fault. IsDiskFault fault → Rose (D.faults disk.old) (D.faults disk.new)) }
+{
+    match lay_log(alloc, disk) {
+        Ok(()) => {}
+        Err(fault) => return Err(fault),
+    }
+    let table = match read_table(alloc, disk, class) {
+        Ok(table) => table,
+        Err(fault) => return Err(fault),
+    };
+    match make_log(disk, is_logged) {
+        Ok(()) => return Ok(table),
+        Err(DiskFailed) => return Err(StartFault::DiskFault),
+    }
+}
+
+// Lays what an open gate holds.
+fn lay_log<D: Disk>(alloc: Global, disk: &mut D) -> Result<(), StartFault>
+    ensures laid { OnOk result (WhereKnown (D.image disk.old) (D.image disk.new) Recovers) }
+    ensures refused { IfErr result
+        (λ fault. IsLogRefused fault (D.image disk.old) (D.image disk.new)) }
+    ensures later { D.faults disk.old ≤ D.faults disk.new }
+    ensures cause { IfErr result
+        (λ fault. IsDiskFault fault → Rose (D.faults disk.old) (D.faults disk.new)) }
+{
+    match recover(alloc, disk) {
+        Ok(()) => return Ok(()),
+        Err(RedoFault::Damaged) => return Err(damaged_log(alloc)),
+        Err(RedoFault::DiskFault) => return Err(StartFault::DiskFault),
+        Err(RedoFault::NoMemory) => return Err(StartFault::NoMemory),
+    }
+}
+
+// The fault of a damaged log.
+#[tactic(auto, unfolding(redo_log::specs::Steps::log_name))]
+fn damaged_log(alloc: Global) -> StartFault
+    ensures named { OnDamaged result (λ name. name ≡ log_name) }
+    ensures sound { IsDiskFault result → ⊥ }
+{
+    match String::from_str(alloc, LOG_NAME) {
+        Ok(name) => StartFault::Damaged(name),
+        Err(_) => StartFault::NoMemory,
+    }
+}
+
+// Makes the log, where drains are to go through it.
+fn make_log<D: Disk>(disk: &mut D, is_logged: bool) -> Result<(), DiskFailed>
+    requires shut { IfSome (D.image disk.old) (λ image. IsShut (image gate_name)) }
+    ensures rings { WhereKnown (D.image disk.old) (D.image disk.new) KeepsRings }
+    ensures log { OnOk result (HoldsLog (no_work is_logged).log (D.image disk.new)) }
+    ensures frame { CountsFaults D.Disk disk.old disk.new (IsErr result) }
+{
+    if !is_logged {
+        return Ok(());
+    }
+    match arm(disk) {
+        Ok(()) => return Ok(()),
+        Err(fault) => return Err(fault),
+    }
+}
