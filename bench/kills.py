@@ -12,17 +12,19 @@ come and are drained. Then it is started again. What has to be then, and is look
                  and in its coarser archives what these make. So each drain is there whole or not at all. It holds no less than it held before
   at the end     a stop by the line `stop` has status 0, and all that was sent since the last kill is there
 
-The points of a metric come in rising time, one a second of its own count; each start sends on behind what the file holds, since what was pending is
-lost. Each start makes new metrics, and files of version 1 that its drains write anew. One start in eight is one without --redo, which gets no points.
+The points of a metric come in rising time, one for each second of a day that is to come; each start sends on behind what the file holds, since what was
+pending is lost. Each start makes new metrics, and files of version 1 that its drains write anew. One start in eight is one without --redo, which gets no points.
 The files are read here, by the layout in FORMATS. With --plain no start has --redo: a drain may be found in part then, and how many were is told and
 is no fault; those metrics get no further points. What is wrong is printed, its folder is left there, and the exit status is 1. Run ./carbon build first.
 """
 import collections
+import ctypes
 import multiprocessing
 import os
 import random
 import re
 import shutil
+import signal
 import socket
 import struct
 import subprocess
@@ -43,7 +45,9 @@ NEW = 3  # metrics that a start makes, and as many files of version 1
 MOST = 240  # points of a metric behind a start: a drain of all of them leaves what a coarser archive is made of
 OLD_POINTS = 500  # of a file of version 1
 LOAD = 0.15  # seconds of points before a kill, at most
-WAIT = 30  # seconds for a start or an end
+AHEAD = 86_407  # seconds of the first points: those of the future go to the finest archive
+WAIT = 120  # seconds for a start or an end
+LIBC = ctypes.CDLL(None)
 PORTS = re.compile(r"carbon: lines on (\d+), HTTP on (\d+)")
 
 
@@ -168,14 +172,21 @@ def open_gates(place):
     return names
 
 
+def ends_with_parent():
+    """The system kills this process once its parent has ended."""
+    LIBC.prctl(1, signal.SIGKILL)
+
+
 class Daemon:
-    """`carbon serve` in this folder, without its launcher. Its end comes with that of this script, which holds its input."""
+    """`carbon serve` in this folder, without its launcher. It does not outlive this script."""
 
     def __init__(self, place, *words):
         command = [PROGRAM, "serve", "--line-port", "0", "--http-port", "0", "--receivers", "2", "--renderers", "2", *words]
         pipe = subprocess.PIPE
         self.begun = time.monotonic()
-        self.process = subprocess.Popen(command, stdin=pipe, stdout=pipe, stderr=pipe, cwd=place, text=True)
+        self.process = subprocess.Popen(
+            command, stdin=pipe, stdout=pipe, stderr=pipe, cwd=place, text=True, preexec_fn=ends_with_parent
+        )
 
     def kill_after(self, seconds):
         """Kills it so many seconds from now, whatever this script waits for then."""
@@ -209,7 +220,7 @@ class Lane:
         self.random, self.has_redo = random.Random(seed), has_redo
         self.place = tempfile.mkdtemp(prefix="kills", dir=above)
         write_rules(self.place, RULES, AGGREGATIONS)
-        self.first = int(time.time()) // 60 * 60 + 7
+        self.first = int(time.time()) // 60 * 60 + AHEAD
         self.metrics, self.number, self.opened, self.wrong = [], 0, {}, []
         self.counts = collections.Counter()
         self.start_took = 0.05
