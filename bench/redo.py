@@ -2,6 +2,7 @@
 """What the log of --redo costs: lines a second and drained metrics a second, beside SQLite and Whisper that wait for the device as well.
 
 Usage: bench/redo.py [FOLDER [METRICS [LINES]]]      (the folder of temporary files, 2,000 metrics and 1,000,000 lines, where none are named)
+       bench/redo.py --sync-ms MS,.. [FOLDER [METRICS [LINES]]]      (a folder in memory, 2,000 metrics and 1,000,000 lines)
 
 All is done in new folders in FOLDER, one after the other. In a folder in memory nothing waits for a device: name one of a disk.
 
@@ -15,6 +16,11 @@ All is done in new folders in FOLDER, one after the other. In a folder in memory
   Whisper   the same points into files of its format that are there, as whisper.update writes one: open, read the head and the base, write the point,
             flush, fsync, close. By the package whisper where python3 has it, else by a loop here that makes the same calls
 
+With --sync-ms a sync takes so many milliseconds more, by a library before the system's fsync and fdatasync that waits first, and there are the lines
+and the metrics alone, for each of the times. In the column "at once" all that wait do so beside each other, as before a device that takes many syncs at
+once; in the column "in turn" one after the other. So what the log costs by itself is told apart from what a device does. With the log fewer metrics are
+drained where a sync takes long. A start waits for no sync, since it writes nothing. Wants a C compiler, `cc`.
+
 Nothing timed here is a test. Run ./carbon build first.
 """
 import os
@@ -27,9 +33,9 @@ import threading
 import time
 
 from drainers import last_write, send as send_points, writes_of
-from live import need_program, write_rules
+from live import MEMORY, need_program, write_rules
 from serve import METRICS as LINE_METRICS, Lines, send as send_lines
-from slow_disk import Daemon
+from slow_disk import Daemon, library
 
 RULES = b"[drained]\npattern = ^drained\\.\nretentions = 1s:1h\n"
 DRAINERS = 1, 4, 16
@@ -59,12 +65,17 @@ def make_files(place, metrics):
     os.sync()
 
 
+def named(words):
+    return " ".join(words) or "no log"
+
+
 def row(name, count, what, took, rest=""):
     print("%-46s %10.0f %s a second%s" % (name, count / took, what, rest), flush=True)
 
 
-def run_lines(place, count, words):
-    daemon = Daemon(place, "", 0, "--drainers", "16", *words)
+def measure_lines(place, count, words, preload="", **device):
+    """How many lines, in how many seconds they were taken, and after how many all was drained."""
+    daemon = Daemon(place, preload, 0, "--drainers", "16", *words, **device)
     lines = Lines(count, int(time.time()))
     pieces, before, begun, told = lines.parts(1), writes_of(daemon.process), time.monotonic(), []
     watch = threading.Thread(target=lambda: told.append(last_write(daemon.process, before)))
@@ -72,19 +83,61 @@ def run_lines(place, count, words):
     took = send_lines(daemon.lines, pieces)
     watch.join()
     daemon.stop()
-    name = "lines, 16 drainers, " + (" ".join(words) or "no log")
-    row(name, lines.count, "lines", took, ", all drained after %.1f s" % (told[0][1] - begun))
+    return lines.count, took, told[0][1] - begun
 
 
-def run_metrics(place, metrics, drainers, words):
-    daemon = Daemon(place, "", 0, "--drainers", str(drainers), *words)
+def run_lines(place, count, words):
+    count, took, drained = measure_lines(place, count, words)
+    row("lines, 16 drainers, " + named(words), count, "lines", took, ", all drained after %.1f s" % drained)
+
+
+def measure_metrics(place, metrics, drainers, words, preload="", **device):
+    """In how many seconds so many metrics were drained."""
+    daemon = Daemon(place, preload, 0, "--drainers", str(drainers), *words, **device)
     before = writes_of(daemon.process)
     sender = threading.Thread(target=send_points, args=(daemon.lines, metrics, drainers))
     sender.start()
     begun, ended = last_write(daemon.process, before)
     sender.join()
     daemon.stop()
-    row("metrics, %d drainers, %s" % (drainers, " ".join(words) or "no log"), metrics, "metrics", ended - begun)
+    return ended - begun
+
+
+def run_metrics(place, metrics, drainers, words):
+    row("metrics, %d drainers, %s" % (drainers, named(words)), metrics, "metrics", measure_metrics(place, metrics, drainers, words))
+
+
+def slow_row(name, told):
+    print(" | ".join(["%-34s" % name] + ["%12s" % text for text in told]), flush=True)
+
+
+def rate(count, took):
+    return "%.0f" % (count / took) if took else "-"
+
+
+def run_slow(place, metrics, count, delay, preload):
+    """The rows of one delay: before a device that takes many syncs at once, and before one that takes them in turn."""
+    at_once = {"SLOW_SYNC": "%d" % (delay * 1000)}
+    devices = at_once, dict(at_once, SLOW_TURN="1")
+    slow_row("%g ms a sync" % delay, ["at once", "in turn"])
+    for words in [], ["--redo"]:
+        some = int(metrics / (1 + delay / 4)) if words else metrics
+        for drainers in DRAINERS:
+            took = [measure_metrics(place, some, drainers, words, preload, **device) for device in devices]
+            slow_row("metrics, %d drainers, %s" % (drainers, named(words)), [rate(some, seconds) for seconds in took])
+    for words in [], ["--redo"]:
+        taken, took, drained = measure_lines(place, count, words, preload, **at_once)
+        slow_row("lines, 16 drainers, " + named(words), [rate(taken, took), ""])
+        slow_row("all of these drained after", ["%.1f s" % drained, ""])
+
+
+def main_slow(delays, above, metrics, count):
+    with Place(above) as place:
+        preload = library(place)
+        write_rules(place, RULES)
+        make_files(place, metrics)
+        for delay in delays:
+            run_slow(place, metrics, count, delay, preload)
 
 
 def run_sqlite(place, metrics, journal):
@@ -156,8 +209,13 @@ def run_whisper(place, metrics):
 
 def main():
     need_program()
-    above = sys.argv[1] if len(sys.argv) > 1 else None
-    metrics, count = ([int(word) for word in sys.argv[2:]] + [2_000, 1_000_000][len(sys.argv[2:]) :])[:2]
+    words, delays = sys.argv[1:], []
+    if words[:1] == ["--sync-ms"]:
+        delays, words = [float(word) for word in words[1].split(",")], words[2:]
+    above = words[0] if words else MEMORY if delays else None
+    metrics, count = ([int(word) for word in words[1:]] + [2_000, 1_000_000][len(words[1:]) :])[:2]
+    if delays:
+        return main_slow(delays, above, metrics, count)
     with Place(above) as place:
         write_rules(place, RULES)
         make_files(place, metrics)

@@ -40,13 +40,13 @@ def names_of(is_one_class):
 
 def library(place):
     made = os.path.join(place, "slow_write.so")
-    subprocess.run(["cc", "-O2", "-shared", "-fPIC", "-o", made, os.path.join(HERE, "slow_write_c.c"), "-ldl"], check=True)
+    subprocess.run(["cc", "-O2", "-shared", "-fPIC", "-o", made, os.path.join(HERE, "slow_write_c.c"), "-ldl", "-pthread"], check=True)
     return made
 
 
 class Daemon:
-    def __init__(self, place, preload, milliseconds, *words):
-        surroundings = dict(os.environ, LD_PRELOAD=preload, SLOW=str(int(milliseconds * 1000)))
+    def __init__(self, place, preload, milliseconds, *words, **others):
+        surroundings = dict(os.environ, LD_PRELOAD=preload, SLOW=str(int(milliseconds * 1000)), **others)
         self.process = subprocess.Popen(
             [PROGRAM, "serve", "--line-port", "0", "--http-port", "0", "--limit", "10000000", *words],
             stdin=subprocess.PIPE, stdout=subprocess.PIPE, stderr=subprocess.PIPE, cwd=place, env=surroundings, text=True,

@@ -44,10 +44,16 @@ pub(crate) fn expand_paths(
     for glob in globs {
         let nodes = find_nodes(alloc, glob, names, &mut work)?;
         push_paths(nodes, &mut paths)?;
+        work.spend(sorting_work(paths.len()))?;
         paths.sort()?;
         paths.dedup();
     }
     Ok(paths)
+}
+
+// About how much work it is to sort so many paths.
+fn sorting_work(count: usize) -> u64 {
+    (count as u64).saturating_mul(20)
 }
 
 // The paths of nodes behind others.

@@ -33,9 +33,10 @@ use std::time::Clock;
 /// that was cut. The next call looks into the folder anew.
 ///
 /// `sync` brings to the device what this disk wrote and made since the last one, and the names of what it made with the folders on their way,
-/// from its own folder on. Where that is more than four files it goes over the whole folder, and so does the first one, for what an earlier
-/// process may have left. A file that was removed or replaced meanwhile is a fault. Once the system failed to bring something to the device
-/// every further `sync` fails: it may have forgotten what was written, and would not say so again.
+/// from its own folder on; and once, when its own folder is there, the name of that. Where more than four files were written or made it goes
+/// over the whole folder, and so does the first one, for what an earlier process may have left. A file that was removed or replaced meanwhile
+/// is a fault. Once the system failed to bring something to the device every further `sync` fails: it may have forgotten what was written,
+/// and would not say so again.
 ///
 /// After a create that failed no other is tried for a twentieth of a second, and twice as long after each further one, up to a second; calls
 /// in between fail.
@@ -143,6 +144,8 @@ impl<R: Eprint + Clock> FolderDisk<R> {
 }
 
 impl<R: Files<File = File> + AllocGlobal + Clone + Drop + Eprint + Clock> Disk for FolderDisk<R> {
+    ghost use Rattle.std.specs.Prelude.{ℕ, refl};
+
     ghost image = { λ _. None };
 
     ghost faults = { λ disk. disk.faults };
@@ -156,6 +159,17 @@ impl<R: Files<File = File> + AllocGlobal + Clone + Drop + Eprint + Clock> Disk f
     ghost counts_now = { λ _ _ _ _ now. now };
 
     ghost only_now = { λ _ _ since. since };
+
+    ghost Past = { ℕ };
+
+    ghost changes = { λ _. 0 };
+
+    ghost same_changes = { λ _ _ _ _. record {
+      moment = refl;
+      leaves = λ _ none. none;
+      since = λ _ _ none. none;
+      keeps = λ _ _ none. none;
+    } };
 
     fn faults(&self) -> u64 {
         self.faults

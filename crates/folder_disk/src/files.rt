@@ -1,7 +1,7 @@
 // The files of a folder, one open at a time.
 use crate::fault::{FileFault, NamedFault};
 use crate::moment::Moment;
-use crate::open_file::{Access, Links, OpenedFile};
+use crate::open_file::{Access, Links, OpenedFile, sync_folder};
 use crate::unsynced::Unsynced;
 use std::alloc::AllocError;
 use std::fs::{self, File, OpenFile, OpenOptions};
@@ -35,6 +35,8 @@ pub(crate) struct FolderFiles<R> {
     unsynced: Unsynced,
     // whether what an earlier process may have left is on the device
     is_settled: bool,
+    // whether the name of the folder itself is on the device
+    is_named: bool,
     // whether the system failed to bring something to the device
     has_forgotten: bool,
 }
@@ -60,6 +62,7 @@ impl<R: Files<File = File> + AllocGlobal + Clock> FolderFiles<R> {
             is_listed: false,
             unsynced,
             is_settled: false,
+            is_named: false,
             has_forgotten: false,
         }
     }
@@ -261,6 +264,7 @@ impl<R: Files<File = File> + AllocGlobal + Clone + Drop> FolderFiles<R> {
     }
 
     fn sync_awaited(&mut self) -> Result<(), NamedFault> {
+        self.settle_name()?;
         if self.unsynced.is_more() {
             self.sync_every()?;
         } else {
@@ -271,6 +275,20 @@ impl<R: Files<File = File> + AllocGlobal + Clone + Drop> FolderFiles<R> {
         self.is_settled = true;
         self.unsynced.clear();
         Ok(())
+    }
+
+    // Brings the name of the folder itself to the device, once it is there.
+    fn settle_name(&mut self) -> Result<(), NamedFault> {
+        if self.is_named || !self.has_folder()? {
+            return Ok(());
+        }
+        match sync_folder(&self.rt, outer_of(self.folder.as_str())) {
+            Ok(()) => {
+                self.is_named = true;
+                Ok(())
+            }
+            Err(fault) => Err(NamedFault::of_folder(self.rt.alloc(), fault)),
+        }
     }
 
     // Brings to the device what an earlier process may have left, once. Where there is no folder it left nothing.
@@ -288,6 +306,15 @@ impl<R: Files<File = File> + AllocGlobal + Clone + Drop> FolderFiles<R> {
             Err(error) if error.kind() == ErrorKind::NotFound => Ok(false),
             Err(error) => Err(NamedFault::of_folder(self.rt.alloc(), FileFault::System(error))),
         }
+    }
+}
+
+// The folder that a folder stands in.
+fn outer_of(folder: &str) -> &str {
+    match folder.rsplit_once('/') {
+        Some((outer, _)) if outer.is_empty() => "/",
+        Some((outer, _)) => outer,
+        None => ".",
     }
 }
 

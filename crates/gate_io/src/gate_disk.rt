@@ -4,18 +4,28 @@ use crate::gate::{Gate, pass};
 use outside_io::{Disk, DiskFailed, MemDisk, NamesFault};
 use std::time::Clock;
 
-/// A disk over another one, whose image it tells, and what a crash may leave of it. One of its calls of `read_at`, its first `create`, its
-/// first `write_at` and its first `sync` may be made to wait at a gate, and fail where that does not open.
+/// A disk over another one, whose image it tells, and what a crash may leave of it. One of its calls of `read_at`, or some one behind the
+/// other, its first `create`, its first `write_at` and its first `sync` may be made to wait at a gate, and fail where that does not open.
 #[derive(Drop)]
 pub struct GateDisk<R: Clock, D: Disk = MemDisk> {
     disk: D,
     // how many reads come before the one that waits
     reads_before: u64,
     read_gate: Option<Gate<R>>,
+    // those of the reads that come next, the last one first
+    later_gates: Option<Vec<Gate<R>>>,
     create_gate: Option<Gate<R>>,
     write_gate: Option<Gate<R>>,
     sync_gate: Option<Gate<R>>,
     faults: u64,
+}
+
+// The next of these gates, of which the last comes first.
+fn next_of<R: Clock>(gates: &mut Option<Vec<Gate<R>>>) -> Option<Gate<R>> {
+    match gates {
+        Some(gates) => gates.pop(),
+        None => None,
+    }
 }
 
 impl<R: Clock + Drop, D: Disk + Drop> GateDisk<R, D> {
@@ -25,6 +35,7 @@ impl<R: Clock + Drop, D: Disk + Drop> GateDisk<R, D> {
             disk,
             reads_before: 0,
             read_gate: None,
+            later_gates: None,
             create_gate: None,
             write_gate: None,
             sync_gate: None,
@@ -36,6 +47,13 @@ impl<R: Clock + Drop, D: Disk + Drop> GateDisk<R, D> {
     pub fn reading_at(mut self, reads_before: u64, gate: Gate<R>) -> GateDisk<R, D> {
         self.reads_before = reads_before;
         self.read_gate = Some(gate);
+        self
+    }
+
+    /// The same disk, whose calls of `read_at` behind the one that waits wait too, each at the next of these gates.
+    pub fn reading_on(mut self, mut gates: Vec<Gate<R>>) -> GateDisk<R, D> {
+        gates.reverse();
+        self.later_gates = Some(gates);
         self
     }
 
@@ -72,6 +90,12 @@ impl<R: Clock + Drop, D: Disk + Drop> Disk for GateDisk<R, D> {
     ghost counts_now = { λ disk. D.counts_now disk.disk };
 
     ghost only_now = { λ disk. D.only_now disk.disk };
+
+    ghost Past = { D.Past };
+
+    ghost changes = { λ disk. D.changes disk.disk };
+
+    ghost same_changes = { λ old new. D.same_changes old.disk new.disk };
 
     fn faults(&self) -> u64 {
         self.faults
@@ -116,7 +140,7 @@ impl<R: Clock + Drop, D: Disk + Drop> Disk for GateDisk<R, D> {
     fn read_at(&mut self, name: &str, at: u64, buf: &mut [u8]) -> Result<(), DiskFailed> {
         let is_open = self.reads_before > 0 || pass(&self.read_gate);
         if self.reads_before == 0 {
-            self.read_gate = None;
+            self.read_gate = next_of(&mut self.later_gates);
         }
         self.reads_before = self.reads_before.saturating_sub(1);
         if !is_open {

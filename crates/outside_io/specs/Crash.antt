@@ -1,6 +1,6 @@
 -- What a crash may leave of a disk. Between two syncs it leaves any bytes in each range that was written, and under
 -- each name created since then nothing or any bytes; all else is as it reads.
-use Rattle.std.specs.Prelude.{◌≤◌, ◌⊎◌, ℕ, Option, IfSome}
+use Rattle.std.specs.Prelude.{◌≡◌, ◌≤◌, ◌⊎◌, ℕ, Option, IfSome}
 use Rattle.outside_io.specs.Image.{Image, SameImage}
 
 -- each image that a crash may leave now is one of before, after that step
@@ -20,6 +20,13 @@ pub record Elapses (before now : ℕ) (past since : ℕ → Image → Type 0) (m
   pub later : before ≤ now
   pub nothing_else : (t : ℕ) (left : Image) → t ≤ before → since t left → past t left ⊎ may_leave left
   pub keeps : (t : ℕ) (left : Image) → t ≤ before → past t left → since t left
+
+-- nothing was changed: no moment passed, and a crash leaves what it might have left, now and since each moment
+pub record SameCrashes (before now : ℕ) (old_leaves new_leaves : Image → Type 0) (old_since new_since : ℕ → Image → Type 0) : Type 0 where
+  pub moment : now ≡ before
+  pub leaves : (left : Image) → new_leaves left → old_leaves left
+  pub since : (t : ℕ) (left : Image) → new_since t left → old_since t left
+  pub keeps : (t : ℕ) (left : Image) → old_since t left → new_since t left
 
 -- what a call says of crashes: each image that one may leave behind it is one of before after that step, and time
 -- went on

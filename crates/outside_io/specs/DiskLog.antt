@@ -1,10 +1,11 @@
 -- What a crash may leave of a disk in memory, by the log of its changes, the last one first.
 use Rattle.std.specs.Prelude.{◌≡◌, ◌≤◌, ◌⊎◌, ℕ, List, [], ◌∷◌, length, Some, option_map, if◌then◌else◌, bytes_eq, string_bytes}
-use Rattle.std.proofs.Common.{inl, inr, arith}
+use Rattle.std.proofs.Common.{inl, inr, arith, IfSome, Option, refl, sym, subst}
 use Rattle.outside_io.specs.declared.disk_log.DiskChange.{DiskChange}
 use Rattle.outside_io.specs.declared.disk_log.DiskChange.TheVariants.{Wrote, Created, Synced}
 use Rattle.outside_io.specs.declared.disk_log.OldRange.{OldRange}
 use Rattle.outside_io.specs.declared.disk_log.OldFile.{OldFile}
+use Rattle.outside_io.specs.Crash.{SameCrashes}
 use Rattle.outside_io.specs.Image.{Image, SameImage, ReadsFile, ChangesOnly, Tears, put_over}
 
 -- the files before a change
@@ -61,3 +62,13 @@ pub now_alone : (image : Image) (log : List DiskChange) (left : Image) → LeftS
 now_alone image [] left since = since
 now_alone image (change ∷ older) left (inl now) = now
 now_alone image (change ∷ older) left (inr earlier) = absurd (omega (arith, earlier.0))
+
+-- where files and log are as they were, so is what a crash leaves
+abbrev SameBy : Image → List DiskChange → Image → List DiskChange → Type 0
+SameBy x p y q = SameCrashes (length p) (length q) (Outcomes x p) (Outcomes y q) (LeftSince x p) (LeftSince y q)
+
+pub same_log : (x y : Image) (p q : List DiskChange) → Some y ≡ Some x → q ≡ p → SameBy x p y q
+same_log x y p q files logged =
+    let still : SameBy x p x p = record { moment = refl; leaves = λ left now. now; since = λ t left was. was; keeps = λ t left was. was } in
+    subst (λ (log : List DiskChange). SameBy x p y log) (sym logged)
+    (subst (λ (known : Option Image). IfSome known (λ image. SameBy x p image p)) (sym files) still)

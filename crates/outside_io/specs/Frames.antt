@@ -5,10 +5,11 @@ use Rattle.outside_io.specs.declared.disk.Disk.{Ghosts as DiskGhosts}
 use Rattle.outside_io.specs.declared.source.Source.{Ghosts as SourceGhosts}
 use Rattle.outside_io.specs.declared.sink.Sink.{Ghosts as SinkGhosts}
 
--- a call that only reads a disk: the disk tells what it told, its count of failed calls did not fall, and the count
--- rose where the call failed
+-- a call that only reads a disk: the disk tells what it told, nothing was changed that a crash may undo, its count of
+-- failed calls did not fall, and the count rose where the call failed
 pub record ReadsOnly {D : Type 0} (d : DiskGhosts D) (old new : D) (failed : Type 0) : Type 0 where
   pub kept : d.image new ≡ d.image old
+  pub changes : d.changes new ≡ d.changes old
   pub later : d.faults old ≤ d.faults new
   pub cause : failed → Rose (d.faults old) (d.faults new)
 

@@ -1,6 +1,6 @@
 // Named files.
 ghost use Rattle.std.specs.Prelude.{◌≡◌, ℕ, ◌≤◌, length, map, Option, IfOk, OnOk, OnErr, IfSome, string_bytes, IsErrOf};
-ghost use Rattle.outside_io.specs.Crash.{Crashes, OnlyKnown};
+ghost use Rattle.outside_io.specs.Crash.{Crashes, OnlyKnown, SameCrashes};
 ghost use Rattle.outside_io.specs.Faults.{Rose};
 ghost use Rattle.outside_io.specs.Image.{Image, SameImage, WhereKnown, ListsNames, LengthIs, IsWithinFile, ReadsFile, ChangesOnly, Creates, Writes, Tears};
 
@@ -74,6 +74,16 @@ pub trait Disk {
     ghost only_now: { (disk : Self) (left : Image) → left_since disk (moment disk) left
         → may_leave disk left };
 
+    // What was changed so far, as far as a crash may undo it.
+    ghost Past: { Type 0 };
+
+    ghost changes: { Self → Past };
+
+    // Where nothing was changed since, no moment passed, and a crash leaves what it might have left.
+    ghost same_changes: { (old new : Self) → image new ≡ image old → changes new ≡ changes old
+        → SameCrashes (moment old) (moment new) (may_leave old) (may_leave new)
+        (left_since old) (left_since new) };
+
     /// How many calls have failed. The count never falls, and stays at 2^64 - 1.
     fn faults(&self) -> u64
         ensures { result ≡ Self.faults self.now };
@@ -84,18 +94,18 @@ pub trait Disk {
             (λ names. IfSome (image self.old)
             (λ held. ListsNames held (map string_bytes names.items))) }
         ensures kept { image self.new ≡ image self.old }
+        ensures changes { Self.changes self.new ≡ Self.changes self.old }
         ensures later { Self.faults self.old ≤ Self.faults self.new }
         ensures cause { IsErrOf result NamesFault.Failed
-            → Rose (Self.faults self.old) (Self.faults self.new) }
-        ensures crash { Crashes may_leave moment left_since SameImage self.old self.new };
+            → Rose (Self.faults self.old) (Self.faults self.new) };
 
     /// The length in bytes of a file, or `None` where the name is not there.
     fn length(&mut self, name: &str) -> Result<Option<u64>, DiskFailed>
         ensures value { IfOk result (LengthIs (image self.old) name.now) }
         ensures kept { image self.new ≡ image self.old }
+        ensures changes { Self.changes self.new ≡ Self.changes self.old }
         ensures later { Self.faults self.old ≤ Self.faults self.new }
-        ensures cause { OnErr result (Rose (Self.faults self.old) (Self.faults self.new)) }
-        ensures crash { Crashes may_leave moment left_since SameImage self.old self.new };
+        ensures cause { OnErr result (Rose (Self.faults self.old) (Self.faults self.new)) };
 
     /// Leaves under the name exactly `len` zero bytes, whether it was there or not. A call that fails leaves
     /// anything or nothing under that name.
@@ -117,9 +127,9 @@ pub trait Disk {
         requires { IsWithinFile (image self.old) name.now at (length buf.old) }
         ensures bytes { OnOk result (ReadsFile (image self.old) name.now at buf.new) }
         ensures kept { image self.new ≡ image self.old }
+        ensures changes { Self.changes self.new ≡ Self.changes self.old }
         ensures later { Self.faults self.old ≤ Self.faults self.new }
-        ensures cause { OnErr result (Rose (Self.faults self.old) (Self.faults self.new)) }
-        ensures crash { Crashes may_leave moment left_since SameImage self.old self.new };
+        ensures cause { OnErr result (Rose (Self.faults self.old) (Self.faults self.new)) };
 
     /// Puts a piece over the bytes of the file from a place on. Where the disk tells its image, the range has
     /// to lie in the file. A call that fails leaves any bytes in that range.

@@ -3,7 +3,7 @@ ghost use Rattle.std.specs.Prelude.{◌≡◌, ◌↔◌, ℕ, ◌+◌, ◌-◌,
 ghost use Rattle.std.specs.BTreeMap.{IsOrdered, keys};
 ghost use Rattle.outside_io.specs.Calls.{fails_next, listed_calls};
 ghost use Rattle.outside_io.specs.Crash.{Only, OnlyKnown};
-ghost use Rattle.outside_io.specs.DiskLog.{LogsFile, LogsRange, counted_now, now_alone};
+ghost use Rattle.outside_io.specs.DiskLog.{LogsFile, LogsRange, counted_now, now_alone, same_log};
 ghost use Rattle.outside_io.specs.Frames.{ReadsOnly, CountsFaults};
 ghost use Rattle.outside_io.specs.Image.{ListsNames, LengthIs, IsWithinFile, ReadsFile, SameImage, PutsFile, ChangesOnly, Creates, Writes, Tears, IsEmptyImage, put_over};
 ghost use Rattle.outside_io.specs.MemDisk.{image_of, disk_image, held_bytes, state_of, new_state, after_names, after_length, after_create, after_read, after_write, after_sync, room_left, IsBeyondRoom, LeavesTorn, disk_may_leave, disk_moment, disk_left_since, DiskCrashes};
@@ -391,6 +391,9 @@ fn names_of(alloc: Global, files: &BTreeMap<String, Vec<u8>>) -> Result<Vec<Stri
 }
 
 impl Disk for MemDisk {
+    ghost use Rattle.std.specs.Prelude.{List};
+    ghost use Rattle.outside_io.specs.declared.disk_log.DiskChange.{DiskChange};
+
     ghost image = { λ disk. Some (disk_image disk) };
 
     ghost faults = { λ disk. disk.state.faults };
@@ -404,6 +407,13 @@ impl Disk for MemDisk {
     ghost counts_now = { λ disk t left le now. counted_now (disk_image disk) disk.log t left now };
 
     ghost only_now = { λ disk left since. now_alone (disk_image disk) disk.log left since };
+
+    ghost Past = { List DiskChange };
+
+    ghost changes = { λ disk. disk.log };
+
+    ghost same_changes = { λ old new files logged. same_log (disk_image old) (disk_image new)
+        old.log new.log files logged };
 
     fn faults(&self) -> u64 {
         self.state.faults
@@ -419,7 +429,6 @@ impl Disk for MemDisk {
         ensures frame { ReadsOnly ⟦<MemDisk as Disk>⟧ self.old self.new
             (IsErrOf result NamesFault.Failed) }
         ensures state { state_of self.new ≡ after_names (state_of self.old) }
-        ensures crash { DiskCrashes SameImage self.old self.new }
     {
         self.state.calls.names = raised(self.state.calls.names);
         match self.state.start_read() {
@@ -434,7 +443,6 @@ impl Disk for MemDisk {
         ensures fails { is_err result ≡ fails_next (state_of self.old).reads }
         ensures frame { ReadsOnly ⟦<MemDisk as Disk>⟧ self.old self.new (IsErr result) }
         ensures state { state_of self.new ≡ after_length (state_of self.old) }
-        ensures crash { DiskCrashes SameImage self.old self.new }
     {
         self.state.calls.lengths = raised(self.state.calls.lengths);
         self.state.start_read()?;
@@ -474,7 +482,6 @@ impl Disk for MemDisk {
         ensures fails { is_err result ≡ fails_next (state_of self.old).reads }
         ensures frame { ReadsOnly ⟦<MemDisk as Disk>⟧ self.old self.new (IsErr result) }
         ensures state { state_of self.new ≡ after_read (state_of self.old) (length buf.old) }
-        ensures crash { DiskCrashes SameImage self.old self.new }
     {
         let longest = self.state.calls.longest_read.max(buf.len() as u64);
         self.state.calls.longest_read = longest;

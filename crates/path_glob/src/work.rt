@@ -3,8 +3,8 @@ ghost use Rattle.std.specs.Prelude.{◌≡◌, ◌+◌, ◌<◌, ◌≤◌, OnEr
 
 use std::alloc::AllocError;
 
-// How much one question may do: a second or two of a processor.
-const MOST_WORK: u64 = 500_000_000;
+// How much one question may do: half a second of a processor or more.
+const MOST_WORK: u64 = 240_000_000;
 
 /// How much a question may still do: one is about a byte of a pattern that is held against a node.
 #[derive(Clone, Copy, Debug)]
@@ -22,7 +22,7 @@ impl Work {
 
     /// What one question may do.
     pub fn of_question() -> Work
-        ensures { result.left ≡ 500_000_000 }
+        ensures { result.left ≡ 240_000_000 }
     {
         Work::new(MOST_WORK)
     }

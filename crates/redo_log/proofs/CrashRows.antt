@@ -1,11 +1,13 @@
 -- Each call of the disk but that of a run keeps to the row of its step.
-use Rattle.std.proofs.Common.{◌≡◌, ◌≢◌, ◌∙◌, ℕ, Bool, true, false, cond, ◌==◌, List, length, Option, None, Some, IfSome, refl, sym, subst}
+use Rattle.std.proofs.Common.{◌≡◌, ◌≢◌, ◌∙◌, ℕ, Bool, true, false, cond, ◌==◌, List, length, All, Option, None, Some, IfSome, refl, sym, subst}
 use Rattle.outside_io.specs.Crash.{Follows, OnlyKnown}
 use Rattle.outside_io.specs.Image.{Image, ChangesOnly, SameImage, Tears, WhereKnown}
+use Rattle.metric_path.specs.FileName.{file_name_of}
 use Rattle.ring_format.specs.Patch.{PatchValue}
 use Rattle.write_shelf.specs.Shelf.{DrainValue}
+use Rattle.redo_log.specs.Body.{Fits, IsSound}
 use Rattle.redo_log.specs.Rows.{InRow, KeepsRings, LeavesBy, LeavesClosed, LeavesEither, LeavesOpen, MayLeave, goes_on}
-use Rattle.redo_log.specs.Steps.{IsClosed, IsGate, IsGateStep, IsOpen, IsReady, IsSyncStep, Stands, behind_cells, gate_name, is_run, log_name, on_way, with_next}
+use Rattle.redo_log.specs.Steps.{HasWritten, IsClosed, IsGate, IsGateStep, IsNamed, IsOpen, IsReady, IsSyncStep, Stands, behind_cells, gate_name, is_run, log_name, on_way, with_next}
 use Rattle.redo_log.specs.declared.next_step.NextStep.{NextStep}
 use Rattle.redo_log.specs.declared.next_step.NextStep.TheVariants.{CreateLog, FirstPiece, Piece, SyncBody, OpenGate, SyncOpen, Run, SyncRuns, CloseGate, SyncClose}
 use Rattle.redo_log.proofs.RunRows.{stays_both, stays_same}
@@ -28,6 +30,7 @@ either_gate patch x y old new only follows row left now =
     let step = follows left now in
     let was = row step.0 step.1 in
     record {
+      sound = was.sound;
       log = step.2.1 log_name log_is_no_gate ∙ was.log;
       gate = gate_torn (step.0 gate_name) (left gate_name) was.gate step.2.0;
       rings = λ name no_log no_gate. step.2.1 name no_gate ∙ was.rings name no_log no_gate ∙ sym (only name no_gate);
@@ -70,44 +73,69 @@ piece_row (Some drain) name now written at count patch (Some x) (Some y) old new
 same_rings : (x left : Image) → SameImage x left → KeepsRings x left
 same_rings x left same = λ name no_log no_gate. same name
 
-synced_left : (drain : DrainValue) (name : List ℕ) (now : NextStep) (behind : Option NextStep) (x left : Image) → IsSyncStep now behind → Stands drain name now x → SameImage x left → MayLeave (goes_on (on_way (Some drain) name now) behind) x left
-synced_left drain name CreateLog behind x left step s same = absurd step
-synced_left drain name FirstPiece behind x left step s same = absurd step
-synced_left drain name (Piece written) behind x left step s same = absurd step
-synced_left drain name SyncBody behind x left step s same =
+synced_left : (drain : DrainValue) (name : List ℕ) (now : NextStep) (behind : Option NextStep) (x left : Image) → IsSound drain.patch → name ≡ file_name_of drain.patch.path → IsSyncStep now behind → Stands drain name now x → SameImage x left → MayLeave (goes_on (on_way (Some drain) name now) behind) x left
+synced_left drain name CreateLog behind x left sound named step s same = absurd step
+synced_left drain name FirstPiece behind x left sound named step s same = absurd step
+synced_left drain name (Piece written) behind x left sound named step s same = absurd step
+synced_left drain name SyncBody behind x left sound named step s same =
     subst (λ (o : Option NextStep). MayLeave (goes_on (on_way (Some drain) name SyncBody) o) x left) (sym step)
-    (record { log = same log_name ∙ s.log; gate = subst IsGate (sym (same gate_name)) (closed_is_gate (x gate_name) s.gate); rings = same_rings x left same })
-synced_left drain name OpenGate behind x left step s same = absurd step
-synced_left drain name SyncOpen behind x left step s same =
+    (record { sound = sound; log = same log_name ∙ s.log; gate = subst IsGate (sym (same gate_name)) (closed_is_gate (x gate_name) s.gate); rings = same_rings x left same })
+synced_left drain name OpenGate behind x left sound named step s same = absurd step
+synced_left drain name SyncOpen behind x left sound named step s same =
     subst (λ (o : Option NextStep). MayLeave (goes_on (on_way (Some drain) name SyncOpen) o) x left) (sym step)
     (record {
+      sound = sound;
+      named = named;
       log = same log_name ∙ s.log;
       gate = subst IsOpen (sym (same gate_name)) s.gate;
       others = λ other no_log no_gate no_file. same other;
       ring = λ over whole. stays_same drain.patch name x left (same name) whole;
     })
-synced_left drain name Run behind x left step s same = absurd step
-synced_left drain name SyncRuns behind x left step s same =
+synced_left drain name Run behind x left sound named step s same = absurd step
+synced_left drain name SyncRuns behind x left sound named step s same =
     subst (λ (o : Option NextStep). MayLeave (goes_on (on_way (Some drain) name SyncRuns) o) x left) (sym step)
-    (record { log = same log_name ∙ s.log; gate = subst IsGate (sym (same gate_name)) (open_is_gate (x gate_name) s.gate); rings = same_rings x left same })
-synced_left drain name CloseGate behind x left step s same = absurd step
-synced_left drain name SyncClose behind x left step s same =
+    (record { sound = sound; log = same log_name ∙ s.log; gate = subst IsGate (sym (same gate_name)) (open_is_gate (x gate_name) s.gate); rings = same_rings x left same })
+synced_left drain name CloseGate behind x left sound named step s same = absurd step
+synced_left drain name SyncClose behind x left sound named step s same =
     subst (λ (o : Option NextStep). MayLeave (goes_on (on_way (Some drain) name SyncClose) o) x left) (sym step)
     (record { gate = subst IsClosed (sym (same gate_name)) s.gate; rings = same_rings x left same })
 
-pub synced_row : (shelf : Option DrainValue) (name : List ℕ) (now : NextStep) (behind : Option NextStep) (x y : Option Image) (new : Image → Type 0) → shelf ≢ None → IsSyncStep now behind → IfSome x (IsReady (on_way shelf name now)) → y ≡ x
+-- where a step syncs, each cell fits
+fits_at : (patch : PatchValue) (now : NextStep) (behind : Option NextStep) → IsSyncStep now behind → HasWritten patch now → All Fits patch.cells
+fits_at patch CreateLog behind step written = absurd step
+fits_at patch FirstPiece behind step written = absurd step
+fits_at patch (Piece count) behind step written = absurd step
+fits_at patch SyncBody behind step written = written
+fits_at patch OpenGate behind step written = absurd step
+fits_at patch SyncOpen behind step written = written
+fits_at patch Run behind step written = absurd step
+fits_at patch SyncRuns behind step written = written
+fits_at patch CloseGate behind step written = absurd step
+fits_at patch SyncClose behind step written = written
+
+pub sync_fits : (shelf : Option DrainValue) (now : NextStep) (behind : Option NextStep) (patch : PatchValue) → shelf ≢ None → IsSyncStep now behind → IfSome shelf (λ drain. HasWritten drain.patch now) → IfSome shelf (λ drain. patch ≡ drain.patch) → All Fits patch.cells
+sync_fits None now behind patch some step written is = absurd (some refl)
+sync_fits (Some drain) now behind patch some step written is = fits_at patch now behind step (subst (λ (p : PatchValue). HasWritten p now) (sym is) written)
+
+pub sound_named : (shelf : Option DrainValue) (name : List ℕ) (patch : PatchValue) → IfSome shelf (λ drain. patch ≡ drain.patch) → IsSound patch → IsNamed shelf name → IfSome shelf (λ drain. IsSound drain.patch × (name ≡ file_name_of drain.patch.path))
+sound_named None name patch is sound named = tt
+sound_named (Some drain) name patch is sound named = (subst IsSound is sound, named)
+
+pub synced_row : (shelf : Option DrainValue) (name : List ℕ) (now : NextStep) (behind : Option NextStep) (x y : Option Image) (new : Image → Type 0) → shelf ≢ None → IfSome shelf (λ drain. IsSound drain.patch × (name ≡ file_name_of drain.patch.path)) → IsSyncStep now behind → IfSome x (IsReady (on_way shelf name now)) → y ≡ x
     → OnlyKnown y new → InRow (goes_on (on_way shelf name now) behind) y new
-synced_row None name now behind x y new some step ready kept only = absurd (some refl)
-synced_row (Some drain) name now behind x y new some step ready kept only =
+synced_row None name now behind x y new some sound step ready kept only = absurd (some refl)
+synced_row (Some drain) name now behind x y new some sound step ready kept only =
     subst (λ (o : Option Image). OnlyKnown o new → InRow (goes_on (on_way (Some drain) name now) behind) o new) (sym kept) (by x ready) only
   where
     by : (x : Option Image) → IfSome x (IsReady (on_way (Some drain) name now)) → OnlyKnown x new → InRow (goes_on (on_way (Some drain) name now) behind) x new
     by None ready only = tt
-    by (Some x) ready only = λ left may. synced_left drain name now behind x left step ready (only left may)
+    by (Some x) ready only = λ left may. synced_left drain name now behind x left sound.0 sound.1 step ready (only left may)
 
 -- a sync that failed
 same_open : (patch : PatchValue) (name : List ℕ) (x before left : Image) → SameImage before left → LeavesOpen patch name x before → LeavesOpen patch name x left
 same_open patch name x before left same row = record {
+  sound = row.sound;
+  named = row.named;
   log = same log_name ∙ row.log;
   gate = subst IsOpen (sym (same gate_name)) row.gate;
   others = λ other a b c. same other ∙ row.others other a b c;
@@ -119,12 +147,12 @@ same_by patch name CreateLog x before left same row = record { gate = subst IsCl
 same_by patch name FirstPiece x before left same row = record { gate = subst IsClosed (sym (same gate_name)) row.gate; rings = λ other a b. same other ∙ row.rings other a b }
 same_by patch name (Piece written) x before left same row = record { gate = subst IsClosed (sym (same gate_name)) row.gate; rings = λ other a b. same other ∙ row.rings other a b }
 same_by patch name SyncBody x before left same row = record { gate = subst IsClosed (sym (same gate_name)) row.gate; rings = λ other a b. same other ∙ row.rings other a b }
-same_by patch name OpenGate x before left same row = record { log = same log_name ∙ row.log; gate = subst IsGate (sym (same gate_name)) row.gate; rings = λ other a b. same other ∙ row.rings other a b }
-same_by patch name SyncOpen x before left same row = record { log = same log_name ∙ row.log; gate = subst IsGate (sym (same gate_name)) row.gate; rings = λ other a b. same other ∙ row.rings other a b }
+same_by patch name OpenGate x before left same row = record { sound = row.sound; log = same log_name ∙ row.log; gate = subst IsGate (sym (same gate_name)) row.gate; rings = λ other a b. same other ∙ row.rings other a b }
+same_by patch name SyncOpen x before left same row = record { sound = row.sound; log = same log_name ∙ row.log; gate = subst IsGate (sym (same gate_name)) row.gate; rings = λ other a b. same other ∙ row.rings other a b }
 same_by patch name Run x before left same row = same_open patch name x before left same row
 same_by patch name SyncRuns x before left same row = same_open patch name x before left same row
-same_by patch name CloseGate x before left same row = record { log = same log_name ∙ row.log; gate = subst IsGate (sym (same gate_name)) row.gate; rings = λ other a b. same other ∙ row.rings other a b }
-same_by patch name SyncClose x before left same row = record { log = same log_name ∙ row.log; gate = subst IsGate (sym (same gate_name)) row.gate; rings = λ other a b. same other ∙ row.rings other a b }
+same_by patch name CloseGate x before left same row = record { sound = row.sound; log = same log_name ∙ row.log; gate = subst IsGate (sym (same gate_name)) row.gate; rings = λ other a b. same other ∙ row.rings other a b }
+same_by patch name SyncClose x before left same row = record { sound = row.sound; log = same log_name ∙ row.log; gate = subst IsGate (sym (same gate_name)) row.gate; rings = λ other a b. same other ∙ row.rings other a b }
 
 pub not_synced_row : (shelf : Option DrainValue) (name : List ℕ) (now : NextStep) (x y : Option Image) (old new : Image → Type 0) → shelf ≢ None → y ≡ x → Follows SameImage old new → InRow (Some (on_way shelf name now)) x old
     → InRow (Some (on_way shelf name now)) y new

@@ -14,7 +14,7 @@ use Rattle.ring_writer.proofs.PartLemmas.{part_laid, ring_file_begun}
 use Rattle.write_shelf.specs.Runs.{runs_in, runs_of, runs_on}
 use Rattle.write_shelf.specs.declared.run.Run.{Run as ShelfRun}
 use Rattle.write_shelf.specs.declared.run.Run.TheVariants.{Create, Cells, Head}
-use Rattle.redo_log.specs.Body.{IsBody, body_bytes}
+use Rattle.redo_log.specs.Body.{IsBody, IsSound, body_bytes}
 use Rattle.redo_log.specs.Recovery.{HasLaid, Holds, IsLaid, Lays, OpensAs, StandsWithin, StillHolds, at_runs, is_open, resumed}
 use Rattle.redo_log.specs.Rows.{KeepsRings, LeavesClosed, LeavesEither, LeavesOpen, MayLeave}
 use Rattle.redo_log.specs.Steps.{Calls, IsOpen, IsReady, Leads, RedoValue, Stands, Touches, gate_name, log_name, on_way, with_next}
@@ -33,6 +33,10 @@ open_is (Some (byte ∷ file)) is = ap (λ (n : ℕ). Some n) (eqb-true byte 1 i
 pub held_body : (patch : PatchValue) (held : Option (List ℕ)) → IsSomeAnd held (λ bytes. IsBody bytes (Some patch)) → held ≡ Some (body_bytes patch)
 held_body patch None body = absurd body
 held_body patch (Some bytes) body = ap (λ (xs : List ℕ). Some xs) body.1
+
+pub held_sound : (patch : PatchValue) (held : Option (List ℕ)) → IsSomeAnd held (λ bytes. IsBody bytes (Some patch)) → IsSound patch
+held_sound patch None body = absurd body
+held_sound patch (Some bytes) body = body.0
 
 held_lawful : (patch : PatchValue) (held : Option (List ℕ)) → IsSomeAnd held (λ bytes. IsBody bytes (Some patch)) → layout_fault patch.layout.archives patch.layout.factor ≡ None
 held_lawful patch None body = absurd body
@@ -53,6 +57,12 @@ part_alone : (patch : PatchValue) (image : Image) (name : List ℕ) (held : Opti
     → UnderPatch patch.fresh (Some image) name (λ file. ReadsAs patch file rings) → IsSomeAnd held (λ file. ReadsAs (bare patch.path patch.layout) file rings)
 part_alone patch image name None rings lawful is part reads = absurd part
 part_alone patch image name (Some file) rings lawful is part reads = (part_laid patch file lawful part).reads rings (reads_here patch file patch.fresh image name rings refl is reads)
+
+-- and it reads under the patch again
+part_under : (patch : PatchValue) (image : Image) (name : List ℕ) (held : Option (List ℕ)) (rings : Rings) → image name ≡ held → IsSomeAnd held (IsPartWritten patch [])
+    → UnderPatch patch.fresh (Some image) name (λ file. ReadsAs patch file rings) → IsSomeAnd held (λ file. ReadsAs patch file rings)
+part_under patch image name None rings is part reads = absurd part
+part_under patch image name (Some file) rings is part reads = reads_here patch file patch.fresh image name rings refl is reads
 
 part_whole : (patch : PatchValue) (held : Option (List ℕ)) → IsSomeAnd held (IsPartWritten patch []) → IsSomeAnd held (IsRingFile patch.layout)
 part_whole patch None part = absurd part
@@ -97,6 +107,8 @@ laid_left patch a b left lawful so_far part rings =
       whole = subst (λ (held : Option (List ℕ)). IsSomeAnd held (IsRingFile patch.layout)) (sym same) (part_whole patch (b (file_name_of patch.path)) part);
       reads = λ each reads. subst (λ (held : Option (List ℕ)). IsSomeAnd held (λ file. ReadsAs (bare patch.path patch.layout) file each)) (sym same)
           (part_alone patch b (file_name_of patch.path) (b (file_name_of patch.path)) each lawful refl part (so_far.reads each reads));
+      again = λ each reads. subst (λ (held : Option (List ℕ)). IsSomeAnd held (λ file. ReadsAs patch file each)) (sym same)
+          (part_under patch b (file_name_of patch.path) (b (file_name_of patch.path)) each refl part (so_far.reads each reads));
     }
 
 -- a run may be half written
@@ -285,28 +297,30 @@ row_opens patch redo a b left gate holds laying so_far ready row =
     (subst (λ (r : RedoValue). IsReady r b → MayLeave (Some r) b left → StandsWithin (Some patch) a left) (sym laying.is) (row_plain patch laying.left laying.next a b left laying.late laying.cells holds so_far) ready row)
 
 -- what stands there is among it
-self_open : (patch : PatchValue) (b : Image) → b log_name ≡ Some (body_bytes patch) → IsOpen (b gate_name) → LeavesOpen patch (file_name_of patch.path) b b
-self_open patch b log gate = record {
+self_open : (patch : PatchValue) (b : Image) → IsSound patch → b log_name ≡ Some (body_bytes patch) → IsOpen (b gate_name) → LeavesOpen patch (file_name_of patch.path) b b
+self_open patch b sound log gate = record {
+  sound = sound;
+  named = refl;
   log = log;
   gate = gate;
   others = λ name no_log no_gate no_file. refl;
   ring = λ over whole. stays_same patch (file_name_of patch.path) b b refl whole;
 }
 
-self_plain : (patch : PatchValue) (runs : List ShelfRun) (now : NextStep) (b : Image) → IsLate now → IsReady (At patch runs now) b → MayLeave (Some (At patch runs now)) b b
-self_plain patch runs CreateLog b late ready = absurd late
-self_plain patch runs FirstPiece b late ready = absurd late
-self_plain patch runs (Piece written) b late ready = absurd late
-self_plain patch runs SyncBody b late ready = absurd late
-self_plain patch runs OpenGate b late ready = absurd late
-self_plain patch runs SyncOpen b late ready = absurd late
-self_plain patch runs Run b late ready = self_open patch b ready.log ready.gate
-self_plain patch runs SyncRuns b late ready = self_open patch b ready.log ready.gate
-self_plain patch runs CloseGate b late ready = record { log = ready.log; gate = ready.gate; rings = λ name no_log no_gate. refl }
-self_plain patch runs SyncClose b late ready = record { log = ready.log; gate = closed_is_gate (b gate_name) ready.gate; rings = λ name no_log no_gate. refl }
+self_plain : (patch : PatchValue) (runs : List ShelfRun) (now : NextStep) (b : Image) → IsSound patch → IsLate now → IsReady (At patch runs now) b → MayLeave (Some (At patch runs now)) b b
+self_plain patch runs CreateLog b sound late ready = absurd late
+self_plain patch runs FirstPiece b sound late ready = absurd late
+self_plain patch runs (Piece written) b sound late ready = absurd late
+self_plain patch runs SyncBody b sound late ready = absurd late
+self_plain patch runs OpenGate b sound late ready = absurd late
+self_plain patch runs SyncOpen b sound late ready = absurd late
+self_plain patch runs Run b sound late ready = self_open patch b sound ready.log ready.gate
+self_plain patch runs SyncRuns b sound late ready = self_open patch b sound ready.log ready.gate
+self_plain patch runs CloseGate b sound late ready = record { sound = sound; log = ready.log; gate = ready.gate; rings = λ name no_log no_gate. refl }
+self_plain patch runs SyncClose b sound late ready = record { sound = sound; log = ready.log; gate = closed_is_gate (b gate_name) ready.gate; rings = λ name no_log no_gate. refl }
 
-pub self_row : (patch : PatchValue) (redo : RedoValue) (b : Image) → IsLaying patch redo → IsReady redo b → MayLeave (Some redo) b b
-self_row patch redo b laying ready = subst (λ (r : RedoValue). IsReady r b → MayLeave (Some r) b b) (sym laying.is) (self_plain patch laying.left laying.next b laying.late) ready
+pub self_row : (patch : PatchValue) (redo : RedoValue) (b : Image) → IsSound patch → IsLaying patch redo → IsReady redo b → MayLeave (Some redo) b b
+self_row patch redo b sound laying ready = subst (λ (r : RedoValue). IsReady r b → MayLeave (Some r) b b) (sym laying.is) (self_plain patch laying.left laying.next b sound laying.late) ready
 
 -- behind the last step
 same_plain : (patch : PatchValue) (runs : List ShelfRun) (now : NextStep) (x y : Image) → IsLate now → Leads (record { patch = patch; left = runs }) now None → Calls (record { patch = patch; left = runs }) (file_name_of patch.path) now None x y → SameImage x y

@@ -73,6 +73,8 @@ open_left : (drain : DrainValue) (left : List ShelfRun) (name : List ℕ) (x y c
 open_left drain left name x y crashed now names ring comes run was =
     let only : ChangesOnly crashed now name = torn_only drain.patch (slice_get drain.left 0) name crashed now run.exact in
     record {
+      sound = was.sound;
+      named = was.named;
       log = only log_name names.log_other ∙ was.log;
       gate = subst IsOpen (sym (only gate_name names.gate_other)) was.gate;
       others = λ other no_log no_gate no_file. only other no_file ∙ was.others other no_log no_gate no_file ∙ sym (comes.others other no_file);

@@ -10,13 +10,14 @@ use Rattle.ring_writer.proofs.NextLemmas.{put_awaits}
 use Rattle.write_shelf.specs.Runs.{runs_of}
 use Rattle.write_shelf.specs.Shelf.{drain_with}
 use Rattle.write_shelf.specs.declared.run.Run.{Run as ShelfRun}
+use Rattle.redo_log.specs.Body.{IsSound}
 use Rattle.redo_log.specs.Ends.{RedoEnds, TakesLast, TakesNone, TakesStep}
 use Rattle.redo_log.specs.Frame.{InEither, StaysInRows}
 use Rattle.redo_log.specs.Recovery.{Holds, IsBehindGate, LaysAll, OpensAs, at_runs, is_open, resumed}
 use Rattle.redo_log.specs.Rows.{InRow, LeavesClosed, MayLeave}
 use Rattle.redo_log.specs.Steps.{Failed, IsClosed, IsOpen, IsReady, Leads, RedoValue, Taken, gate_name, log_name}
 use Rattle.redo_log.specs.declared.redo_step.RedoStep.TheVariants.{Run, Finished, DiskFault}
-use Rattle.redo_log.proofs.LayLemmas.{IsLaying, Onward, held_body, last_laid, last_opens, last_same, last_stands, laying_first, laying_next, onward_called, onward_failed, onward_none, onward_same, open_is, row_opens, self_row}
+use Rattle.redo_log.proofs.LayLemmas.{IsLaying, Onward, held_body, held_sound, last_laid, last_opens, last_same, last_stands, laying_first, laying_next, onward_called, onward_failed, onward_none, onward_same, open_is, row_opens, self_row}
 use Rattle.redo_log.proofs.MomentLemmas.{leaves_both, leaves_more}
 use Rattle.redo_log.proofs.RunRows.{stays_same}
 
@@ -66,7 +67,7 @@ self_known : (patch : PatchValue) (redo : RedoValue) (a b : Option Image) → If
 self_known patch redo None None gate holds laying so_far ready = tt
 self_known patch redo None (Some b) gate holds laying so_far ready = so_far
 self_known patch redo (Some a) None gate holds laying so_far ready = so_far
-self_known patch redo (Some a) (Some b) gate holds laying so_far ready = row_opens patch redo a b b gate holds laying so_far ready (self_row patch redo b laying ready)
+self_known patch redo (Some a) (Some b) gate holds laying so_far ready = row_opens patch redo a b b gate holds laying so_far ready (self_row patch redo b (held_sound patch (a log_name) holds.body) laying ready)
 
 -- before any call
 pub start_leaves : {D : Type 0} (d : DiskGhosts D) (start : D) → OnlyKnown (d.image start) (d.may_leave start) → LeavesOnly d.moment d.left_since start start (Opens (d.image start))
@@ -82,9 +83,11 @@ ready_plain : (patch : PatchValue) (runs : List ShelfRun) (a : Image) → is_ope
 ready_plain patch [] a gate holds awaits = tt
 ready_plain patch (run ∷ runs) a gate holds awaits = record { log = held_body patch (a log_name) holds.body; gate = open_is (a gate_name) gate; file = awaits }
 
-row_plain : (patch : PatchValue) (runs : List ShelfRun) (a left : Image) → SameImage a left → IfSome (at_runs patch (file_name_of patch.path) runs) (λ redo. IsReady redo a → MayLeave (Some redo) a left)
-row_plain patch [] a left same = tt
-row_plain patch (run ∷ runs) a left same = λ ready. record {
+row_plain : (patch : PatchValue) (runs : List ShelfRun) (a left : Image) → IsSound patch → SameImage a left → IfSome (at_runs patch (file_name_of patch.path) runs) (λ redo. IsReady redo a → MayLeave (Some redo) a left)
+row_plain patch [] a left sound same = tt
+row_plain patch (run ∷ runs) a left sound same = λ ready. record {
+  sound = sound;
+  named = refl;
   log = same log_name ∙ ready.log;
   gate = subst IsOpen (sym (same gate_name)) ready.gate;
   others = λ name no_log no_gate no_file. same name;
@@ -100,10 +103,10 @@ turned a None P both = tt
 turned None (Some redo) P both = tt
 turned (Some a) (Some redo) P both = both
 
-row_first : (patch : PatchValue) (runs : List ShelfRun) (a : Option Image) (may_leave : Image → Type 0) → OnlyKnown a may_leave → IfSome (at_runs patch (file_name_of patch.path) runs) (λ redo. IfSome a (IsReady redo) → InRow (Some redo) a may_leave)
-row_first patch [] a may_leave only = tt
-row_first patch (run ∷ runs) None may_leave only = λ ready. tt
-row_first patch (run ∷ runs) (Some a) may_leave only = λ ready left may. row_plain patch (run ∷ runs) a left (only left may) ready
+row_first : (patch : PatchValue) (runs : List ShelfRun) (a : Option Image) (may_leave : Image → Type 0) → IfSome a (Holds (Some patch)) → OnlyKnown a may_leave → IfSome (at_runs patch (file_name_of patch.path) runs) (λ redo. IfSome a (IsReady redo) → InRow (Some redo) a may_leave)
+row_first patch [] a may_leave holds only = tt
+row_first patch (run ∷ runs) None may_leave holds only = λ ready. tt
+row_first patch (run ∷ runs) (Some a) may_leave holds only = λ ready left may. row_plain patch (run ∷ runs) a left (held_sound patch (a log_name) holds.body) (only left may) ready
 
 start_of : {D : Type 0} (d : DiskGhosts D) (start : D) (patch : PatchValue) (redo : Option RedoValue) → IfSome redo (IsLaying patch) → IfSome (d.image start) (λ image. is_open (image gate_name) ≡ true) → IfSome (d.image start) (Holds (Some patch))
     → IfSome redo (λ r. IfSome (d.image start) (IsReady r)) → IfSome redo (λ r. IfSome (d.image start) (IsReady r) → InRow (Some r) (d.image start) (d.may_leave start)) → OnlyKnown (d.image start) (d.may_leave start) → IfSome redo (Underway d start start)
@@ -124,7 +127,7 @@ start_by : {D : Type 0} (d : DiskGhosts D) (start : D) (patch : Option PatchValu
 start_by d start None gate holds only = tt
 start_by d start (Some patch) gate holds only =
     start_of d start patch (resumed (Some patch)) (laying_first patch) gate holds (turned (d.image start) (resumed (Some patch)) IsReady (ready_first patch (d.image start) gate holds))
-    (row_first patch (runs_of patch) (d.image start) (d.may_leave start) only) only
+    (row_first patch (runs_of patch) (d.image start) (d.may_leave start) holds only) only
 
 pub underway_start : {D : Type 0} (d : DiskGhosts D) (start : D) (redo : Option RedoValue) → IsBehindGate (d.image start) redo → OnlyKnown (d.image start) (d.may_leave start) → IfSome redo (Underway d start start)
 underway_start d start redo behind only = subst (λ (r : Option RedoValue). IfSome r (Underway d start start)) (sym behind.held.is) (start_by d start behind.held.patch behind.gate behind.held.holds only)

@@ -46,12 +46,15 @@ pub record IsDamaged (image : Image) : Type 0 where
 
 -- ---- what stands behind it
 
--- the file of the patch alone reads as the file before did under the patch, and all other rings are as before
+-- the file of the patch reads, alone and under the patch, as the file before did under the patch, and all other rings are as
+-- before
 pub record IsLaid (patch : PatchValue) (before after : Image) : Type 0 where
   pub others : (name : List ℕ) → name ≢ log_name → name ≢ gate_name → name ≢ file_name_of patch.path → after name ≡ before name
   pub whole : IsSomeAnd (after (file_name_of patch.path)) (IsRingFile patch.layout)
   pub reads : (rings : Rings) → UnderPatch patch.fresh (Some before) (file_name_of patch.path) (λ file. ReadsAs patch file rings)
       → IsSomeAnd (after (file_name_of patch.path)) (λ file. ReadsAs (bare patch.path patch.layout) file rings)
+  pub again : (rings : Rings) → UnderPatch patch.fresh (Some before) (file_name_of patch.path) (λ file. ReadsAs patch file rings)
+      → IsSomeAnd (after (file_name_of patch.path)) (λ file. ReadsAs patch file rings)
 
 -- the rings with the patch laid over them, or with nothing
 abbrev pub Lays : Option PatchValue → Image → Image → Type 0

@@ -2,10 +2,11 @@
 use Rattle.std.specs.Prelude.{◌≡◌, ◌≢◌, ℕ, ⊤, false, List, Option, None, Some, IfSome, IsSomeAnd, Result, Ok, Err}
 use Rattle.outside_io.specs.Image.{Image}
 use Rattle.outside_io.specs.declared.disk.DiskFailed.{DiskFailed}
+use Rattle.metric_path.specs.FileName.{file_name_of}
 use Rattle.ring_format.specs.Patch.{PatchValue}
 use Rattle.ring_archive.specs.Ring.{IsRingFile}
 use Rattle.ring_writer.specs.PartWritten.{StaysRing}
-use Rattle.redo_log.specs.Body.{body_bytes}
+use Rattle.redo_log.specs.Body.{IsSound, body_bytes}
 use Rattle.redo_log.specs.Steps.{IsClosed, IsGate, IsOpen, RedoValue, gate_name, log_name, with_next}
 use Rattle.redo_log.specs.declared.next_step.NextStep.{NextStep}
 use Rattle.redo_log.specs.declared.redo_step.RedoStep.{RedoStep}
@@ -23,6 +24,7 @@ pub record LeavesClosed (now left : Image) : Type 0 where
 
 -- the body in the log, the gate open or closed, and the rings as they read
 pub record LeavesEither (patch : PatchValue) (now left : Image) : Type 0 where
+  pub sound : IsSound patch
   pub log : left log_name ≡ Some (body_bytes patch)
   pub gate : IsGate (left gate_name)
   pub rings : KeepsRings now left
@@ -30,6 +32,8 @@ pub record LeavesEither (patch : PatchValue) (now left : Image) : Type 0 where
 -- The body in the log, an open gate, and the rings as they read, but for the file of the patch: where the patch is fresh
 -- anything or nothing stands under its name, and else a ring file that reads under the patch as the file that reads now.
 pub record LeavesOpen (patch : PatchValue) (file : List ℕ) (now left : Image) : Type 0 where
+  pub sound : IsSound patch
+  pub named : file ≡ file_name_of patch.path
   pub log : left log_name ≡ Some (body_bytes patch)
   pub gate : IsOpen (left gate_name)
   pub others : (name : List ℕ) → name ≢ log_name → name ≢ gate_name → name ≢ file → left name ≡ now name

@@ -1,5 +1,6 @@
 //! The call of the disk that each step makes.
-ghost use Rattle.std.specs.Prelude.{◌≡◌, ◌≢◌, IfSome, IsErr, None};
+ghost use Rattle.std.specs.Prelude.{◌≡◌, ◌≢◌, All, IfSome, IsErr, None};
+ghost use Rattle.redo_log.specs.Body.{Fits, IsSound};
 ghost use Rattle.redo_log.specs.Rows.{KeepsRow};
 ghost use Rattle.redo_log.specs.Steps.{HasWritten, IsGateStep, IsNamed, IsReady, IsSyncStep, StepEnds, behind_cells, behind_run, on_way};
 ghost use Rattle.redo_log.specs.declared.next_step.NextStep.TheVariants.{CreateLog, FirstPiece, Piece, Run};
@@ -115,6 +116,17 @@ pub(crate) fn next_piece_step<D: Disk>(
     }
 }
 
+// A patch whose cells fit is one that a body may have. The function does nothing: what it ensures
+// is the law.
+fn is_sound(patch: &Patch)
+    requires { All Fits patch.now.cells }
+    ensures { IsSound patch.now }
+{
+    let _ = patch.cells();
+    let _ = patch.path().text();
+    let _ = patch.layout().archives();
+}
+
 // Brings to the device what a step before wrote.
 pub(crate) fn sync_step<D: Disk>(
     disk: &mut D,
@@ -124,6 +136,7 @@ pub(crate) fn sync_step<D: Disk>(
     behind: Option<NextStep>,
 ) -> Result<Option<NextStep>, DiskFailed>
     requires some { shelf.now ≢ None }
+    requires named { IsNamed shelf.now name.now }
     requires step { IsSyncStep now behind }
     requires written { IfSome shelf.now (λ drain. HasWritten drain.patch now) }
     requires ready { IfSome (D.image disk.old) (IsReady (on_way shelf.now name.now now)) }
@@ -133,9 +146,9 @@ pub(crate) fn sync_step<D: Disk>(
         (D.image disk.new) (D.may_leave disk.old) (D.may_leave disk.new) }
     ensures frame { GoesOn D.Disk disk.old disk.new (IsErr result) }
 {
-    let _ = shelf;
     let _ = name;
     let _ = now;
+    is_sound(patch_of(shelf));
     match sync_disk(disk) {
         Ok(()) => Ok(behind),
         Err(fault) => Err(fault),

@@ -27,14 +27,15 @@ use Rattle.write_shelf.specs.declared.run.Run.{Run}
 use Rattle.ring_writer.specs.PartWritten.{Awaits}
 use Rattle.ring_writer.proofs.NextLemmas.{new_awaits, ring_awaits}
 use Rattle.redo_log.specs.Ends.{redo_with}
-use Rattle.redo_log.specs.Steps.{IsClosed, RedoValue, gate_name}
+use Rattle.redo_log.specs.Steps.{IsClosed, RedoValue, gate_name, on_way}
+use Rattle.redo_log.specs.declared.next_step.NextStep.TheVariants.{CreateLog}
 use Rattle.carbon_model.specs.State.{Kept, Metrics, State, form_of, layout_or, points_in}
 use Rattle.carbon_model.specs.RingFiles.{IsOfClass, StandsUnder, is_patched}
 use Rattle.carbon_model.specs.Replay.{with_drained}
 use Rattle.shard_core.specs.Plans.{Begins, Drains, MakesBatch, NeedsNoWrite, PlansFor}
 use Rattle.shard_core.specs.Shard.{HasFiles, Holds, HoldsKept, HoldsShelf, Inside, IsLawfulRing, IsOfKept, IsUnderWay, KeepsLayouts, patch_on}
 use Rattle.shard_core.specs.Table.{IsEntry, Lists, Table, drains_in, kept_form, form_kept}
-use Rattle.shard_core.specs.Work.{HoldsLog, HoldsRedo}
+use Rattle.shard_core.specs.Work.{HoldsLog, HoldsRedo, first_step}
 use Rattle.shard_core.proofs.FileLemmas.{same_text}
 use Rattle.shard_core.proofs.KeptLemmas.{file_at, kept_as, no_layout, none_is, two_where_old, version_by}
 use Rattle.shard_core.proofs.PendingLemmas.{fewer_without}
@@ -182,9 +183,9 @@ none_needed shard path now patch makes needs =
 
 pub begins : (old : Inside) (cache : Cache) (picker : Picking) (table : Table) (shelf : Option DrainValue) (steps : ℕ) (log : Option (Option RedoValue)) (path : List ℕ) (now : ℕ) (patch : PatchValue) → old.shelf ≡ None → IsOfClass old.class path → Leaves old cache picker path
     → (makes : MakesBatch old path now patch) → Sets old.table table path (Some (once_more makes.known)) → shelf ≡ drain_with patch (runs_of patch) → length (runs_of patch) < 5000000 → steps < 5000000 → HasFiles old.class old.table None old.known
-    → Lists old.class old.rules old.cache.metrics old.table
+    → Lists old.class old.rules old.cache.metrics old.table → log ≡ option_map (λ (redo : Option RedoValue). first_step shelf) old.log
     → Begins old (record old { cache = cache; picker = picker; table = table; shelf = shelf; steps = steps; log = log }) path now
-begins old cache picker table shelf steps log path now patch empty one leaves makes sets put few low files lists = record {
+begins old cache picker table shelf steps log path now patch empty one leaves makes sets put few low files lists logged = record {
   empty = empty;
   here = one.here;
   drains = drains_picked old cache picker table shelf steps log path now patch empty one leaves makes sets put files lists;
@@ -192,6 +193,7 @@ begins old cache picker table shelf steps log path now patch empty one leaves ma
     | inl none ↦ rw (put, none.0) tt
     | inr some ↦ rw (put, some.0) (record { own = makes.plans.own; all = refl; few = few })
   ];
+  log = logged;
   few = low;
   nothing = elim (on_shelf patch) [
     | inl none ↦ (λ _. needs_none old path now patch makes none.1, λ _. put ∙ none.0)
@@ -259,6 +261,15 @@ named_begun shelf patch name put own = elim (on_shelf patch) [
   | inr some ↦ rw (put, some.0) (ap (λ (n : List ℕ). Some n) own)
 ]
 
+-- the patch stands at its first step in the log
+first_put : (patch : PatchValue) (name : List ℕ) (runs : List Run) → name ≡ file_name_of patch.path → redo_with patch name runs ≡ first_step (drain_with patch runs)
+first_put patch name [] named = refl
+first_put patch name (run ∷ runs) named = ap (λ (n : List ℕ). Some (on_way (drain_with patch (run ∷ runs)) n CreateLog)) named
+
+pub log_put : (log log' : Option (Option RedoValue)) (shelf : Option DrainValue) (patch : PatchValue) (name : List ℕ) → log' ≡ option_map (λ (redo : Option RedoValue). redo_with patch name (runs_of patch)) log → name ≡ file_name_of patch.path
+    → shelf ≡ drain_with patch (runs_of patch) → log' ≡ option_map (λ (redo : Option RedoValue). first_step shelf) log
+log_put log log' shelf patch name is named put = is ∙ ap (λ (first : Option RedoValue). option_map (λ (redo : Option RedoValue). first) log) (first_put patch name (runs_of patch) named ∙ ap first_step (sym put))
+
 -- the log has what the first step needs
 holds_put : (patch : PatchValue) (name : List ℕ) (runs : List Run) (image : Image) → IsClosed (image gate_name) → IfSome (drain_with patch runs) (λ drain. Awaits drain.patch drain.left (image name)) → HoldsRedo (redo_with patch name runs) image
 holds_put patch name [] image closed far = closed
@@ -310,6 +321,7 @@ begins_from old new picker path now queue strategy begun = record {
   here = begun.here;
   drains = λ told s holds. begun.drains told s (holds_picked told old picker s queue strategy holds);
   shelf = begun.shelf;
+  log = begun.log;
   few = begun.few;
   nothing = begun.nothing;
   fewer = begun.fewer;

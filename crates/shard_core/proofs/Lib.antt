@@ -9,6 +9,7 @@ pub mod WriteLemmas
 pub mod WorkLemmas
 pub mod LogLemmas
 pub mod OpenLemmas
+pub mod CrashLemmas
 pub mod GoesLemmas
 pub mod TableLemmas
 pub mod BeginLemmas

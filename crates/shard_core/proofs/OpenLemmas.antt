@@ -22,7 +22,7 @@ use Rattle.shard_core.proofs.LogLemmas.{files_keep, ring_same, rings_stand}
 
 -- ---- the gate behind a recovery
 
-closed_is_shut : (held : Option (List ℕ)) → IsClosed held → IsShut held
+pub closed_is_shut : (held : Option (List ℕ)) → IsClosed held → IsShut held
 closed_is_shut None closed = tt
 closed_is_shut (Some []) closed = tt
 closed_is_shut (Some (byte ∷ file)) closed = closed

@@ -336,7 +336,7 @@ under_written class table patch left left' (Some x) (Some y) on sound comes =
 
 -- ---- a patch that leaves
 
-alone_stands : (opening image : Image) (patch : PatchValue) (kept : List ℕ → Option Kept) (class : ℕ) → IsOfClass class patch.path → layout_fault patch.layout.archives patch.layout.factor ≡ None → Awaits patch [] (image (file_name_of patch.path))
+pub alone_stands : (opening image : Image) (patch : PatchValue) (kept : List ℕ → Option Kept) (class : ℕ) → IsOfClass class patch.path → layout_fault patch.layout.archives patch.layout.factor ≡ None → Awaits patch [] (image (file_name_of patch.path))
     → StandsUnder opening image (Some patch) kept class → StandsUnder opening image None kept class
 alone_stands opening image patch kept class one lawful far stands =
     by (kept patch.path) refl (subst (λ (b : Bool). SameKept (if b then Some (kept_through patch (image (file_name_of patch.path))) else kept_on image patch.path) (kept patch.path)) (itself patch.path) (stands.rings patch.path one))

@@ -12,6 +12,7 @@ pub mod Opened
 pub mod Started
 pub mod StartFaults
 pub mod Starting
+pub mod StartCrashes
 pub mod Opening
 pub mod View
 pub mod Props

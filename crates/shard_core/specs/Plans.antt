@@ -1,5 +1,5 @@
 -- What a plan makes of a shard.
-use Rattle.std.specs.Prelude.{◌≡◌, ◌≢◌, ◌↔◌, ◌<◌, ◌-◌, ◌^◌, ◌&&◌, true, false, ℕ, ℤ, List, [], All, length, not, slice_get, Option, None, Some, IfSome, IsSome, IsSomeAnd}
+use Rattle.std.specs.Prelude.{◌≡◌, ◌≢◌, ◌↔◌, ◌<◌, ◌-◌, ◌^◌, ◌&&◌, true, false, ℕ, ℤ, List, [], All, length, not, slice_get, Option, None, Some, IfSome, IsSome, IsSomeAnd, option_map}
 use Rattle.std.specs.Map.{remove_entry}
 use Rattle.std.specs.Str.{bytes_eq}
 use Rattle.outside_io.specs.Image.{Image}
@@ -19,11 +19,13 @@ use Rattle.drain_order.specs.Pick.{pick, queue_after}
 use Rattle.drain_order.specs.Picking.{Follows, Picking, settled_with}
 use Rattle.write_shelf.specs.Runs.{runs_of}
 use Rattle.write_shelf.specs.Shelf.{DrainValue}
+use Rattle.redo_log.specs.Steps.{RedoValue}
 use Rattle.carbon_model.specs.State.{State, picked}
 use Rattle.carbon_model.specs.Replay.{drained}
 use Rattle.shard_core.specs.Halves.{AreHalves, DeskInside, FilesInside, both}
 use Rattle.shard_core.specs.Shard.{Holds, Inside, Stays}
 use Rattle.shard_core.specs.Table.{Table, kept_form}
+use Rattle.shard_core.specs.Work.{first_step}
 use Rattle.shard_core.specs.declared.planned.Planned.{Planned}
 use Rattle.shard_core.specs.declared.planned.Planned.TheVariants.{Took, Busy, Idle, DiskFault, NoMemory}
 
@@ -48,12 +50,14 @@ pub record IsUnwritten (path : List ℕ) (drain : DrainValue) : Type 0 where
   pub few : length drain.left < 5000000
 
 -- A drain of the metric begins: it is drained for all that the shard says from now on, and its
--- patch is on the shelf, unless there is nothing to write.
+-- patch is on the shelf, unless there is nothing to write. Where drains go through the log it stands
+-- at its first step there.
 pub record Begins (old new : Inside) (path : List ℕ) (now : ℕ) : Type 0 where
   pub empty : old.shelf ≡ None
   pub here : class_of path ≡ old.class
   pub drains : Drains old new path now
   pub shelf : IfSome new.shelf (IsUnwritten path)
+  pub log : new.log ≡ option_map (λ (redo : Option RedoValue). first_step new.shelf) old.log
   pub few : new.steps < 5000000
   pub nothing : (new.shelf ≡ None) ↔ NeedsNoWrite old path now
   pub fewer : length new.cache.metrics < length old.cache.metrics

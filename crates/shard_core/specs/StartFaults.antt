@@ -1,11 +1,13 @@
 -- What the faults of a start tell.
 use Rattle.std.specs.Prelude.{◌≤◌, ℕ, Option, IfSome, string_bytes}
+use Rattle.outside_io.specs.Crash.{LeavesOnly, OnlyKnown}
 use Rattle.outside_io.specs.Image.{Image, WhereKnown}
 use Rattle.outside_io.specs.Faults.{Rose}
 use Rattle.outside_io.specs.declared.disk.Disk.{Ghosts}
 use Rattle.shard_core.specs.declared.fault.StartFault.{StartFault}
 use Rattle.shard_core.specs.declared.fault.StartFault.TheVariants.{Damaged, DiskFault, NoMemory}
 use Rattle.shard_core.specs.Opened.{FirstDamaged, IsDamagedBy, StillOpens}
+use Rattle.shard_core.specs.StartCrashes.{StartMayLeave}
 
 -- a file that is told as damaged is the first that is, where the disk tells its image
 abbrev pub IsDamagedFile : StartFault → Option Image → ℕ → Type 0
@@ -24,10 +26,12 @@ IsDamagedRing (Damaged name) known class = IfSome known (λ image. FirstDamaged 
 IsDamagedRing DiskFault known class = Unit {0}
 IsDamagedRing NoMemory known class = Unit {0}
 
--- a shard did not start: its disk is back and opens as it did, and its count of failed calls rose
--- where it failed
+-- a shard did not start: its disk is back and opens as it did, also after a crash, and its count of
+-- failed calls rose where it failed
 pub record NotStarted {D : Type 0} (d : Ghosts D) (class : ℕ) (disk back : D) (fault : StartFault) : Type 0 where
   pub opens : WhereKnown (d.image disk) (d.image back) StillOpens
   pub damaged : IsDamagedFile fault (d.image disk) class
   pub later : d.faults disk ≤ d.faults back
   pub cause : IsDiskFault fault → Rose (d.faults disk) (d.faults back)
+  pub crash : OnlyKnown (d.image disk) (d.may_leave disk)
+      → LeavesOnly d.moment d.left_since disk back (StartMayLeave (d.image disk))

@@ -1,5 +1,5 @@
 -- A shard that started.
-use Rattle.std.specs.Prelude.{◌≡◌, ◌≤◌, ℕ, Bool, [], List, Option, None, Some, option_map, slice_get}
+use Rattle.std.specs.Prelude.{◌≡◌, ◌≤◌, ℕ, Bool, true, [], List, Option, None, Some, option_map, slice_get}
 use Rattle.outside_io.specs.Image.{Image, WhereKnown}
 use Rattle.outside_io.specs.declared.disk.Disk.{Ghosts}
 use Rattle.schema_rules.specs.LayoutBy.{layout_by}
@@ -7,13 +7,14 @@ use Rattle.carbon_model.specs.RingFiles.{IsOfClass, Settings}
 use Rattle.carbon_model.specs.State.{Kept, State, form_of}
 use Rattle.shard_core.specs.Opened.{IsOpened, IsOpening, Opens}
 use Rattle.shard_core.specs.Shard.{Holds}
+use Rattle.shard_core.specs.StartCrashes.{StartCrashes}
 use Rattle.shard_core.specs.Table.{Table, kept_form}
 use Rattle.shard_core.specs.View.{inside_of}
 use Rattle.shard_core.specs.Work.{no_work}
 use Rattle.shard_core.specs.declared.shard.Shard.{Shard}
 
 -- the shard of a class started from this disk, with what is fixed for the run, and its drains go
--- through the log where that is said
+-- through the log where that is said; and what a crash then leaves
 pub record StartedFrom {D : Type 0} {d : Ghosts D} (class : ℕ) (settings : Settings) (redo : Bool) (disk : D)
     (shard : Shard D d) : Type 0 where
   pub here : shard.desk.class ≡ class
@@ -26,6 +27,7 @@ pub record StartedFrom {D : Type 0} {d : Ghosts D} (class : ℕ) (settings : Set
   pub opens : Opens class (d.image shard.files.disk) shard.desk.table
   pub opened : IsOpened class shard.desk.table
   pub later : d.faults disk ≤ d.faults shard.files.disk
+  pub crash : StartCrashes d redo disk shard.files.disk true
 
 -- Where a disk does not tell its image, what is kept of the paths of its class has the versions and
 -- the layouts that the shard read of their files. Where it does, this follows.

@@ -11,7 +11,7 @@ use Rattle.redo_log.specs.Count.{StepsFall, steps_left}
 use Rattle.redo_log.specs.Ends.{RedoEnds}
 use Rattle.redo_log.specs.Frame.{StaysInRows}
 use Rattle.redo_log.specs.Rows.{InRow}
-use Rattle.redo_log.specs.Steps.{IsClosed, IsGoing, IsReady, RedoValue, gate_name}
+use Rattle.redo_log.specs.Steps.{IsClosed, IsGoing, IsReady, RedoValue, gate_name, on_way}
 use Rattle.redo_log.specs.declared.next_step.NextStep.{NextStep}
 use Rattle.redo_log.specs.declared.next_step.NextStep.TheVariants.{CreateLog, FirstPiece, Piece, SyncBody, OpenGate, SyncOpen, Run as RunStep, SyncRuns, CloseGate, SyncClose}
 use Rattle.redo_log.specs.declared.redo_step.RedoStep.{RedoStep}
@@ -40,6 +40,11 @@ drain_at next (Some drain) = Some (record { patch = drain.patch; left = left_at 
 abbrev pub drain_of : Option RedoValue → Option DrainValue
 drain_of None = None
 drain_of (Some r) = drain_at r.next r.drain
+
+-- the redo of a drain that stands at its first step
+abbrev pub first_step : Option DrainValue → Option RedoValue
+first_step None = None
+first_step (Some drain) = Some (on_way (Some drain) (file_name_of drain.patch.path) CreateLog)
 
 -- What is being written: a patch with the runs that are left to its file, how many steps that takes at most, and, where drains go
 -- through the log, how far it came there.

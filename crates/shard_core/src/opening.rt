@@ -1,14 +1,14 @@
 //! Opening the disk of a class.
-ghost use Rattle.std.specs.Prelude.{◌≡◌, ◌≤◌, IfErr, IfOk, IfSome, IsErr, OnOk};
-ghost use Rattle.outside_io.specs.Faults.{Rose};
+ghost use Rattle.std.specs.Prelude.{◌≡◌, IfErr, IfOk, IfSome, IsErr, IsErrAnd, IsOk, OnOk, is_ok};
 ghost use Rattle.outside_io.specs.Frames.{CountsFaults};
 ghost use Rattle.outside_io.specs.Image.{WhereKnown};
-ghost use Rattle.redo_log.specs.Arm.{IsShut};
-ghost use Rattle.redo_log.specs.Recovery.{Recovers};
+ghost use Rattle.redo_log.specs.Arm.{IsShut, MayArm};
+ghost use Rattle.redo_log.specs.Recovery.{RecoverCrashes, Recovers};
 ghost use Rattle.redo_log.specs.Rows.{KeepsRings};
 ghost use Rattle.redo_log.specs.Steps.{gate_name, log_name};
 ghost use Rattle.shard_core.specs.Opened.{IsOpened};
 ghost use Rattle.shard_core.specs.Opening.{IsLogRefused, OpensDisk, RefusesDisk};
+ghost use Rattle.shard_core.specs.StartCrashes.{MakesLog, StartCrashes};
 ghost use Rattle.shard_core.specs.StartFaults.{IsDiskFault};
 ghost use Rattle.shard_core.specs.Starting.{OnDamaged};
 ghost use Rattle.shard_core.specs.Work.{HoldsLog, no_work};
@@ -33,9 +33,8 @@ pub(crate) fn open_disk<D: Disk>(
     ensures opened { IfOk result (IsOpened class) }
     ensures refused { IfErr result
         (λ fault. RefusesDisk fault class (D.image disk.old) (D.image disk.new)) }
-    ensures later { D.faults disk.old ≤ D.faults disk.new }
-    ensures cause { IfErr result
-        (λ fault. IsDiskFault fault → Rose (D.faults disk.old) (D.faults disk.new)) }
+    ensures crash { StartCrashes D.Disk is_logged disk.old disk.new (is_ok result) }
+    ensures frame { CountsFaults D.Disk disk.old disk.new (IsErrAnd result IsDiskFault) }
 {
     match lay_log(alloc, disk) {
         Ok(()) => {}
@@ -56,9 +55,8 @@ fn lay_log<D: Disk>(alloc: Global, disk: &mut D) -> Result<(), StartFault>
     ensures laid { OnOk result (WhereKnown (D.image disk.old) (D.image disk.new) Recovers) }
     ensures refused { IfErr result
         (λ fault. IsLogRefused fault (D.image disk.old) (D.image disk.new)) }
-    ensures later { D.faults disk.old ≤ D.faults disk.new }
-    ensures cause { IfErr result
-        (λ fault. IsDiskFault fault → Rose (D.faults disk.old) (D.faults disk.new)) }
+    ensures crash { RecoverCrashes D.Disk disk.old disk.new (IsOk result) }
+    ensures frame { CountsFaults D.Disk disk.old disk.new (IsErrAnd result IsDiskFault) }
 {
     match recover(alloc, disk) {
         Ok(()) => return Ok(()),
@@ -85,6 +83,8 @@ fn make_log<D: Disk>(disk: &mut D, is_logged: bool) -> Result<(), DiskFailed>
     requires shut { IfSome (D.image disk.old) (λ image. IsShut (image gate_name)) }
     ensures rings { WhereKnown (D.image disk.old) (D.image disk.new) KeepsRings }
     ensures log { OnOk result (HoldsLog (no_work is_logged).log (D.image disk.new)) }
+    ensures crash { MayArm (D.image disk.old) (D.may_leave disk.old)
+        → MakesLog D.Disk is_logged disk.old disk.new (is_ok result) }
     ensures frame { CountsFaults D.Disk disk.old disk.new (IsErr result) }
 {
     if !is_logged {

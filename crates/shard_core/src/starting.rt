@@ -1,7 +1,7 @@
 //! Starting a shard from the files of its disk.
-ghost use Rattle.std.specs.Prelude.{◌≡◌, ◌≤◌, ℕ, List, None, Some, Err, IfOk, IfErr, IfSome, OnOk, OnErr, length, map, min, take, string_bytes, string_cmp};
+ghost use Rattle.std.specs.Prelude.{◌≡◌, ℕ, List, None, Some, Err, IfOk, IfErr, IfSome, IsErr, IsErrAnd, OnOk, length, map, min, take, string_bytes, string_cmp};
 ghost use Rattle.std.specs.List.Sorted.{IsSorted};
-ghost use Rattle.outside_io.specs.Faults.{Rose};
+ghost use Rattle.outside_io.specs.Frames.{ReadsOnly};
 ghost use Rattle.carbon_model.specs.RingFiles.{is_sound_head};
 ghost use Rattle.shard_core.specs.Opened.{IsOpened, Opens};
 ghost use Rattle.shard_core.specs.Shard.{HasFiles};
@@ -37,10 +37,7 @@ pub(crate) fn read_table<D: Disk>(
     ensures opened { IfOk result (IsOpened class) }
     ensures files { IfOk result (λ table. HasFiles class table None (D.image disk.old)) }
     ensures damaged { IfErr result (λ fault. IsDamagedRing fault (D.image disk.old) class) }
-    ensures kept { D.image disk.new ≡ D.image disk.old }
-    ensures later { D.faults disk.old ≤ D.faults disk.new }
-    ensures cause { IfErr result
-        (λ fault. IsDiskFault fault → Rose (D.faults disk.old) (D.faults disk.new)) }
+    ensures frame { ReadsOnly D.Disk disk.old disk.new (IsErrAnd result IsDiskFault) }
 {
     let mut names = match disk.names() {
         Ok(names) => names,
@@ -72,10 +69,7 @@ fn table_of<D: Disk>(
     ensures damaged { IfErr result
         (λ fault. IfSome (D.image disk.old)
         (λ image. OnDamaged fault (FirstAmong class image (map string_bytes names.now)))) }
-    ensures kept { D.image disk.new ≡ D.image disk.old }
-    ensures later { D.faults disk.old ≤ D.faults disk.new }
-    ensures cause { IfErr result
-        (λ fault. IsDiskFault fault → Rose (D.faults disk.old) (D.faults disk.new)) }
+    ensures frame { ReadsOnly D.Disk disk.old disk.new (IsErrAnd result IsDiskFault) }
 {
     let mut table = MetricTable::new(alloc);
     for name in names {
@@ -104,10 +98,7 @@ fn note_file<D: Disk>(
         (λ fault. IfSome (D.image disk.old)
         (λ image. OnDamaged fault
         (λ told. (told ≡ name.now) × IsDamagedName class image name.now))) }
-    ensures kept { D.image disk.new ≡ D.image disk.old }
-    ensures later { D.faults disk.old ≤ D.faults disk.new }
-    ensures cause { IfErr result
-        (λ fault. IsDiskFault fault → Rose (D.faults disk.old) (D.faults disk.new)) }
+    ensures frame { ReadsOnly D.Disk disk.old disk.new (IsErrAnd result IsDiskFault) }
 {
     let path = match MetricPath::of_file_name(alloc, name) {
         Ok(Some(path)) => path,
@@ -134,7 +125,7 @@ fn note_head(
     ensures notes { OnOk result (NotesHead path head table.old table.new) }
     ensures damaged { IfErr result
         (λ fault. OnDamaged fault (λ told. (told ≡ name.now) × IsFaulty head)) }
-    ensures memory { IfErr result (λ fault. IsDiskFault fault → ⊥) }
+    ensures memory { IsErrAnd result IsDiskFault → ⊥ }
 {
     match head {
         FileHead::Ring(layout, version) => match table.insert(
@@ -158,9 +149,7 @@ fn note_head(
 fn read_file_head<D: Disk>(disk: &mut D, name: &str) -> Result<FileHead, DiskFailed>
     ensures head { IfOk result
         (λ head. IfSome (D.image disk.old) (λ image. TellsHead (image name.now) head)) }
-    ensures kept { D.image disk.new ≡ D.image disk.old }
-    ensures later { D.faults disk.old ≤ D.faults disk.new }
-    ensures cause { OnErr result (Rose (D.faults disk.old) (D.faults disk.new)) }
+    ensures frame { ReadsOnly D.Disk disk.old disk.new (IsErr result) }
 {
     let size = match disk.length(name) {
         Ok(Some(size)) => size,

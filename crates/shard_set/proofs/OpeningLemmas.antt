@@ -14,6 +14,7 @@ use Rattle.shard_core.specs.Table.{Table}
 use Rattle.shard_core.specs.declared.fault.StartFault.{StartFault}
 use Rattle.shard_core.specs.declared.fault.StartFault.TheVariants.{NoMemory}
 use Rattle.shard_core.specs.declared.shard.Shard.{Shard}
+use Rattle.shard_core.proofs.CrashLemmas.{none_starts}
 use Rattle.shard_core.proofs.OpenLemmas.{opening_opens}
 use Rattle.shard_set.specs.Disks.{told_at, told_of}
 use Rattle.shard_set.specs.Opening.{AreStarted, HandsBack, RefusesAll, RefusesNext, StartsAll, StartsNext}
@@ -143,7 +144,7 @@ refuses_all {d = d} disks back refusal all few hands = record {
 
 -- memory ran out before anything was done
 pub not_started : {D : Type 0} (d : Ghosts D) (class : ℕ) (disk : D) → NotStarted d class disk disk NoMemory
-not_started d class disk = record { opens = itself_known (d.image disk); damaged = tt; later = omega arith; cause = λ is. absurd is }
+not_started d class disk = record { opens = itself_known (d.image disk); damaged = tt; later = omega arith; cause = λ is. absurd is; crash = none_starts d disk }
 
 pub none_started : {D : Type 0} (d : Ghosts D) (disks : List D) → length disks ≡ 16 → RefusesAll d disks disks (record { class = 0; fault = NoMemory })
 none_started d disks all = record {

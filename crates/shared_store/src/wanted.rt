@@ -9,10 +9,6 @@ use shard_core::SearchedNames;
 use std::alloc::{AllocError, Global};
 use std::marker::Model;
 
-/// How much work the globs of one question may be, held against the names of all classes: under a second of a processor.
-/// A client that leaves meanwhile is computed for no longer.
-const MOST_WORK: u64 = 240_000_000;
-
 /// A need of a question, and of the names of each class those that its glob fits, where that was found out before the
 /// locks of all classes are taken.
 #[derive(Drop)]
@@ -105,7 +101,7 @@ pub(crate) fn want_all<'a>(
     ensures needs { IfOk result (λ all. needs_of all.items ≡ needs.now) }
     ensures names { IfOk result (λ all. All (λ w. w.names ≡ lists_of names.now) all.items) }
 {
-    let mut work = Work::new(MOST_WORK);
+    let mut work = Work::of_question();
     let mut all = Vec::with_capacity(alloc, needs.len())?;
     for need in needs {
         all.push(Wanted::new(alloc, need, names, &mut work)?)?;

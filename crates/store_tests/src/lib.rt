@@ -11,6 +11,10 @@ mod shared_store_files;
 #[cfg(test)]
 mod shared_store_kit;
 #[cfg(test)]
+mod shared_store_ninth_try_tests;
+#[cfg(test)]
+mod shared_store_order_tests;
+#[cfg(test)]
 mod shared_store_tests;
 #[cfg(test)]
 mod shared_store_third_try_tests;

@@ -7,7 +7,7 @@ use outside_io::Disk;
 use point_cache::Put;
 use series_set::{Reading, Series, SeriesRows, SeriesSet};
 use shard_core::{Planned, Wrote};
-use shared_store::{AskFault, Closed, DrainEnd, PutCounts, Tally};
+use shared_store::{AskFault, Closed, DrainEnd, PutCounts, Step, Tally};
 use std::alloc::{AllocError, Global};
 use std::process::Abort;
 use std::test::Fail;
@@ -36,6 +36,7 @@ pub(crate) enum End {
     // The path of the metric of which a drain was begun, or how else the plan ends.
     Planned(&'static str),
     Wrote(Wrote),
+    Stepped(Step),
     // Whether the next drain makes a ring file.
     MakesFile(bool),
     Drained(DrainEnd),
@@ -129,6 +130,13 @@ fn is_written(reply: &Reply, want: Wrote) -> bool {
     }
 }
 
+fn is_step(reply: &Reply, want: Step) -> bool {
+    match reply {
+        Reply::Stepped(step) => *step == want,
+        _ => false,
+    }
+}
+
 fn is_making(reply: &Reply, want: bool) -> bool {
     match reply {
         Reply::MakesFile(makes) => *makes == want,
@@ -200,6 +208,7 @@ fn ends_so(reply: &Reply, end: End) -> bool {
         End::PutMany(stored) => is_put_many(reply, stored),
         End::Planned(path) => is_planned(reply, path),
         End::Wrote(wrote) => is_written(reply, wrote),
+        End::Stepped(step) => is_step(reply, step),
         End::MakesFile(makes) => is_making(reply, makes),
         End::Drained(end) => is_drained(reply, end),
         End::Shown(shown, entries) => is_answered(reply, shown, entries),

@@ -68,8 +68,10 @@ pub(crate) enum Deed {
     Names,
     // All entries so far are counted.
     Count,
-    // The caller waits until the flag with this number is up.
+    // The caller waits until the flag with this number is up. Where that does not come it does no more.
     Await(usize),
+    // The caller looks for five seconds at most whether the flag with this number comes up.
+    Expect(usize),
     // The flag with this number is put up.
     Raise(usize),
     // The caller looks for a fifth of a second whether the flag with this number comes up.
@@ -192,8 +194,11 @@ fn is_stored(reply: &Reply) -> bool {
     }
 }
 
-// For how many milliseconds a flag is waited for that comes up, and for one that does not.
+// For how many milliseconds a flag is waited for that comes up, for one that comes up but where something stands
+// still, and for one that does not.
 const WAIT: u32 = 20_000;
+
+const EXPECT: u32 = 5_000;
 
 const WATCH: u32 = 200;
 
@@ -225,6 +230,14 @@ impl Job {
     fn waits(&self, clock: &impl Clock, number: usize, most: u32) -> Option<Reply> {
         let flag = self.flags.get(number)?;
         Some(Reply::Up(comes_up(clock, flag, most)))
+    }
+
+    fn comes(&self, clock: &impl Clock, number: usize) -> Option<Reply> {
+        let flag = self.flags.get(number)?;
+        if !comes_up(clock, flag, WAIT) {
+            return None;
+        }
+        Some(Reply::Up(true))
     }
 
     fn raises(&self, number: usize) -> Option<Reply> {
@@ -396,7 +409,8 @@ impl<N: Named> Worker<N> {
             Deed::Ask(globs) => self.ask(rt, alloc, store, globs),
             Deed::Names => self.names(rt, alloc, store),
             Deed::Count => self.count(rt, store),
-            Deed::Await(flag) => self.job.waits(rt, flag, WAIT),
+            Deed::Await(flag) => self.job.comes(rt, flag),
+            Deed::Expect(flag) => self.job.waits(rt, flag, EXPECT),
             Deed::Raise(flag) => self.job.raises(flag),
             Deed::Watch(flag) => self.job.waits(rt, flag, WATCH),
         }
@@ -415,8 +429,8 @@ impl<N: Named> Worker<N> {
         self.job.replies.push(reply).ok()
     }
 
-    // Does all that is to be done, up to the first of it for which there is no room, no memory or no flag:
-    // that has no reply.
+    // Does all that is to be done, up to the first of it for which there is no room, no memory or no flag that comes
+    // up: that has no reply.
     fn work<D: Disk, R: Wait + Clock>(&mut self, rt: &R, alloc: Global, store: &Store<D, N>) {
         for n in 0..self.job.deeds.len() {
             if self.obey_next(rt, alloc, store, n).is_none() {

@@ -1,7 +1,7 @@
 // Callers of a store, of which one waits in a disk while the others go on, and the files that they leave.
 ghost use Rattle.std.specs.Prelude.{◌≡◌, IfOk, vec_len};
 
-use crate::shared_store_ends::{Row, assert_both, assert_counts, jobs_of};
+use crate::shared_store_ends::{Row, assert_both, assert_counts, assert_replies, job_of, jobs_of};
 use crate::shared_store_files::{are_minutes, bytes_in};
 use crate::shared_store_kit::{Job, RULES, Ran, Scene, Turns, run};
 use gate_io::{Flag, Gate, GateDisk};
@@ -15,18 +15,19 @@ use std::test::Fail;
 use std::thread::Threads;
 use std::time::Clock;
 
-// A call of the disk of a class that waits: its first create or write, or the read that has so many
-// before it. The first of a list puts up the flag 0 and waits for the flag 1, the next has the flags 2 and
-// 3.
+// A call of the disk of a class that waits: its first create or write, the read that has so many
+// before it, or the read that comes behind the last one that waits. The first of a list puts up the flag 0 and
+// waits for the flag 1, the next has the flags 2 and 3.
 #[derive(Clone, Copy)]
 pub(crate) enum Stop {
     Create(u32),
     Write(u32),
     Read(u32, u64),
+    Next(u32),
 }
 
 // Which calls wait, what the first caller does before, what both do then, how many entries the
-// history has, and how many of each kind.
+// history has, and how many of each kind. There may be other callers.
 #[derive(Clone, Copy)]
 pub(crate) struct Case<'a> {
     pub(crate) stops: &'a [Stop],
@@ -39,7 +40,7 @@ pub(crate) struct Case<'a> {
 
 // ---- the disks
 
-pub(crate) fn flags_of(alloc: Global, pairs: usize) -> Result<Vec<Flag>, AllocError> {
+fn flags_of(alloc: Global, pairs: usize) -> Result<Vec<Flag>, AllocError> {
     let mut flags = Vec::new(alloc);
     for _pair in 0..pairs {
         flags.push(Flag::new(alloc)?)?;
@@ -48,7 +49,7 @@ pub(crate) fn flags_of(alloc: Global, pairs: usize) -> Result<Vec<Flag>, AllocEr
     Ok(flags)
 }
 
-pub(crate) fn gate_of<R: Clock + Drop>(rt: R, pair: &[Flag]) -> Result<Gate<R>, Fail> {
+fn gate_of<R: Clock + Drop>(rt: R, pair: &[Flag]) -> Result<Gate<R>, Fail> {
     let [begun, opens] = pair else {
         return Err(Fail::new("a gate has two flags"));
     };
@@ -57,7 +58,15 @@ pub(crate) fn gate_of<R: Clock + Drop>(rt: R, pair: &[Flag]) -> Result<Gate<R>, 
 
 fn class_of(stop: Stop) -> u32 {
     match stop {
-        Stop::Create(class) | Stop::Write(class) | Stop::Read(class, _) => class,
+        Stop::Create(class) | Stop::Write(class) | Stop::Read(class, _) | Stop::Next(class) =>
+            class,
+    }
+}
+
+fn is_next(stop: Stop) -> bool {
+    match stop {
+        Stop::Next(_) => true,
+        _ => false,
     }
 }
 
@@ -66,7 +75,25 @@ fn stopping<R: Clock + Drop>(disk: GateDisk<R>, stop: Stop, gate: Gate<R>) -> Ga
         Stop::Create(_) => disk.creating_at(gate),
         Stop::Write(_) => disk.writing_at(gate),
         Stop::Read(_, before) => disk.reading_at(before, gate),
+        Stop::Next(_) => disk,
     }
+}
+
+// Where the reads of a class wait that come one behind the other.
+fn next_gates<R: Clock + Copy + Drop>(
+    rt: R,
+    alloc: Global,
+    class: u32,
+    stops: &[Stop],
+    flags: &[Flag],
+) -> Result<Vec<Gate<R>>, Fail> {
+    let mut gates = Vec::new(alloc);
+    for (stop, pair) in stops.iter().zip(flags.chunks(2)) {
+        if is_next(*stop) && class_of(*stop) == class {
+            gates.push(gate_of(rt, pair)?)?;
+        }
+    }
+    Ok(gates)
 }
 
 // The disk of a class, without files.
@@ -77,7 +104,8 @@ fn disk_of<R: Clock + Copy + Drop>(
     stops: &[Stop],
     flags: &[Flag],
 ) -> Result<GateDisk<R>, Fail> {
-    let mut disk = GateDisk::new(MemDisk::new(alloc, 10_000_000));
+    let gates = next_gates(rt, alloc, class, stops, flags)?;
+    let mut disk = GateDisk::new(MemDisk::new(alloc, 10_000_000)).reading_on(gates);
     for (stop, pair) in stops.iter().zip(flags.chunks(2)) {
         if class_of(*stop) == class {
             disk = stopping(disk, *stop, gate_of(rt, pair)?);
@@ -104,19 +132,37 @@ fn disks_of<R: Clock + Copy + Drop>(
 // ---- a case
 
 // All callers work at once.
-pub(crate) const SCENE: Scene = Scene {
+const SCENE: Scene = Scene {
     schemas: RULES,
     limit: 10,
     turns: Turns::AtOnce,
 };
 
+// How many pairs of flags there are that no call of a disk has.
+const PAIRS: usize = 4;
+
+// The jobs of both callers, and of the others.
+fn jobs_in(
+    alloc: Global,
+    case: &Case<'_>,
+    others: &[&[Row]],
+    flags: &[Flag],
+) -> Result<Vec<Job>, AllocError> {
+    let mut jobs = jobs_of(alloc, case.before, case.first, case.second, flags)?;
+    for rows in others {
+        jobs.push(job_of(alloc, &[], rows, flags)?)?;
+    }
+    Ok(jobs)
+}
+
 fn run_case<R: Threads + Wait + Clock + Copy + Send + Sync + Drop>(
     rt: &R,
     alloc: Global,
     case: &Case<'_>,
+    others: &[&[Row]],
 ) -> Result<Ran<GateDisk<R>>, Fail> {
-    let flags = flags_of(alloc, case.stops.len())?;
-    let jobs = jobs_of(alloc, case.before, case.first, case.second, &flags)?;
+    let flags = flags_of(alloc, case.stops.len().saturating_add(PAIRS))?;
+    let jobs = jobs_in(alloc, case, others, &flags)?;
     run(
         rt,
         alloc,
@@ -126,12 +172,29 @@ fn run_case<R: Threads + Wait + Clock + Copy + Send + Sync + Drop>(
     )
 }
 
-pub(crate) fn count_faults<D: Disk>(disks: &[D]) -> u64 {
+fn count_faults<D: Disk>(disks: &[D]) -> u64 {
     let mut faults = 0u64;
     for disk in disks {
         faults = faults.saturating_add(disk.faults());
     }
     faults
+}
+
+// The first two callers and the others have their replies.
+fn assert_jobs(
+    rt: &impl Abort,
+    jobs: &[Job],
+    case: &Case<'_>,
+    others: &[&[Row]],
+) -> Result<(), Fail> {
+    let Some((both, rest)) = jobs.split_at_checked(2) else {
+        return Err(Fail::new("there are two callers"));
+    };
+    for (job, rows) in rest.iter().zip(others.iter()) {
+        assert_replies(rt, job, &[], rows);
+    }
+    assert!(rt; rest.len() == others.len());
+    assert_both(rt, both, case.before, case.first, case.second)
 }
 
 // No call of a disk has failed, which would have waited in vain.
@@ -140,11 +203,23 @@ fn assert_ran<D: Disk>(
     jobs: &[Job],
     closed: &Closed<D>,
     case: &Case<'_>,
+    others: &[&[Row]],
 ) -> Result<(), Fail> {
-    assert_both(rt, jobs, case.before, case.first, case.second)?;
+    assert_jobs(rt, jobs, case, others)?;
     assert_counts(rt, closed, case.entries, case.tally);
     assert!(rt; count_faults(closed.disks.as_slice()) == 0);
     Ok(())
+}
+
+// A case with callers beside the two.
+pub(crate) fn assert_among<R: Threads + Wait + Abort + Clock + Copy + Send + Sync + Drop>(
+    rt: &R,
+    alloc: Global,
+    case: &Case<'_>,
+    others: &[&[Row]],
+) -> Result<(), Fail> {
+    let Ran { jobs, closed } = run_case(rt, alloc, case, others)?;
+    assert_ran(rt, jobs.as_slice(), &closed, case, others)
 }
 
 pub(crate) fn assert_case<R: Threads + Wait + Abort + Clock + Copy + Send + Sync + Drop>(
@@ -152,8 +227,7 @@ pub(crate) fn assert_case<R: Threads + Wait + Abort + Clock + Copy + Send + Sync
     alloc: Global,
     case: &Case<'_>,
 ) -> Result<(), Fail> {
-    let Ran { jobs, closed } = run_case(rt, alloc, case)?;
-    assert_ran(rt, jobs.as_slice(), &closed, case)
+    assert_among(rt, alloc, case, &[])
 }
 
 // ---- the files that a case leaves
@@ -199,7 +273,7 @@ fn count_names<D: Disk>(disk: &mut D) -> Result<usize, Fail> {
 }
 
 // The disks have these files and no others.
-pub(crate) fn assert_files<D: Disk>(
+fn assert_files<D: Disk>(
     rt: &impl Abort,
     alloc: Global,
     disks: &mut [D],
@@ -219,9 +293,10 @@ pub(crate) fn assert_kept<R: Threads + Wait + Abort + Clock + Copy + Send + Sync
     rt: &R,
     alloc: Global,
     case: &Case<'_>,
+    others: &[&[Row]],
     files: &[Kept],
 ) -> Result<(), Fail> {
-    let Ran { jobs, mut closed } = run_case(rt, alloc, case)?;
-    assert_ran(rt, jobs.as_slice(), &closed, case)?;
+    let Ran { jobs, mut closed } = run_case(rt, alloc, case, others)?;
+    assert_ran(rt, jobs.as_slice(), &closed, case, others)?;
     assert_files(rt, alloc, closed.disks.as_mut_slice(), files)
 }

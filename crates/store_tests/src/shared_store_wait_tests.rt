@@ -515,7 +515,7 @@ fn points_of_a_class_are_put_shown_and_counted_whatever_its_disk_waits_for(
                 drains: 5,
             },
         };
-        assert_kept(&rt, rt.alloc(), &case, &ALL_KEPT)?;
+        assert_kept(&rt, rt.alloc(), &case, &[], &ALL_KEPT)?;
     }
     Ok(())
 }
@@ -645,7 +645,7 @@ fn points_are_stored_up_to_the_limit_while_a_disk_waits(rt: HostRuntime) -> Resu
                 drains: 7,
             },
         };
-        assert_kept(&rt, rt.alloc(), &case, &FULL_KEPT)?;
+        assert_kept(&rt, rt.alloc(), &case, &[], &FULL_KEPT)?;
     }
     Ok(())
 }

@@ -516,7 +516,7 @@ const LINKED: [Story; 1] = [Story {
 }];
 
 // What a sync that fails tells, and one that succeeds; that a device then has the bytes, no test sees.
-const SYNCED: [Story; 10] = [
+const SYNCED: [Story; 11] = [
     Story {
         title: "where there is no folder and nothing was written, nothing awaits a sync",
         steps: &[Step::Sync, Step::Names, Step::Sync],
@@ -615,6 +615,22 @@ const SYNCED: [Story; 10] = [
             Step::Read("c", 0),
         ],
         told: "ok ok failed ok te ",
+    },
+    Story {
+        title: "one that another call closed and that was replaced then fails once too",
+        steps: &[
+            Step::Folder(""),
+            Step::Put("c", "text"),
+            Step::Put("d", "text"),
+            Step::Put("e", "other"),
+            Step::Write("c", 0, "xy"),
+            Step::Read("d", 0),
+            Step::Rename("e", "c"),
+            Step::Sync,
+            Step::Sync,
+            Step::Read("c", 0),
+        ],
+        told: "ok te failed ok ot ",
     },
     Story {
         title: "a file that was only read awaits no sync",

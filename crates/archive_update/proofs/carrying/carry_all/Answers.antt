@@ -10,6 +10,7 @@ loop-archive-init g c = record {
   carries = under_map false (g.D.Disk.image c.args.disk.now) c.args.view.now.name.now _ _ c.requires.file.1 (λ file room. carries_none c.args.patch.now file c.requires.patch.empty);
   alike = alike_same c.args.patch.now;
   kept = refl;
+  changes = refl;
   later = omega arith;
 }
 
@@ -20,6 +21,7 @@ loop-archive-preserved g c =
       carries = under_both false (g.D.Disk.image c.args.disk.now) c.args.view.now.name.now _ _ _ c.loop-archive.invariant.carries here (λ file before next. next before);
       alike = alike_more c.args.patch.now c.loop-archive.patch c.carry_archive.new.patch c.loop-archive.invariant.alike c.in_ok-carry_archive.ensures.alike;
       kept = c.in_ok-carry_archive.ensures.frame.kept ∙ c.loop-archive.invariant.kept;
+      changes = c.in_ok-carry_archive.ensures.frame.changes ∙ c.loop-archive.invariant.changes;
       later = omega (arith, c.loop-archive.invariant.later, c.in_ok-carry_archive.ensures.frame.later);
     }
 

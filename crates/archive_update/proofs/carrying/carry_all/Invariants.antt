@@ -10,5 +10,6 @@ invariant-loop-archive g l = record {
   carries : OnFile (g.D.Disk.image l.fn.disk) l.view.name.now (λ file. CarriesTo l.patch file l.archive 0);
   alike : IsAlike l.fn.patch l.patch;
   kept : g.D.Disk.image l.disk ≡ g.D.Disk.image l.fn.disk;
+  changes : g.D.Disk.changes l.disk ≡ g.D.Disk.changes l.fn.disk;
   later : g.D.Disk.faults l.fn.disk ≤ g.D.Disk.faults l.disk;
 }

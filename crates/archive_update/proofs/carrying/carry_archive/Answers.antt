@@ -20,6 +20,7 @@ loop-slot-init g c = record {
   carries = under_map false (g.D.Disk.image c.args.disk.now) c.args.view.now.name.now _ _ c.requires.file.1 (λ file room based so_far. so_far);
   alike = alike_same c.args.patch.now;
   kept = c.in_ok-first.ensures.frame.kept;
+  changes = c.in_ok-first.ensures.frame.changes;
   later = c.in_ok-first.ensures.frame.later;
 }
 
@@ -31,6 +32,7 @@ loop-slot-preserved g c =
       carries = under_both false (g.D.Disk.image c.args.disk.now) c.args.view.now.name.now _ _ _ c.loop-slot.invariant.carries here (λ file before next based so_far. next based (before based so_far));
       alike = alike_more c.args.patch.now c.loop-slot.patch c.carry_stretch.new.patch c.loop-slot.invariant.alike c.in_ok-carry_stretch.ensures.alike;
       kept = c.in_ok-carry_stretch.ensures.frame.kept ∙ c.loop-slot.invariant.kept;
+      changes = c.in_ok-carry_stretch.ensures.frame.changes ∙ c.loop-slot.invariant.changes;
       later = omega (arith, c.loop-slot.invariant.later, c.in_ok-carry_stretch.ensures.frame.later);
     }
 

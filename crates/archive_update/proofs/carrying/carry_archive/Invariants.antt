@@ -12,6 +12,7 @@ invariant-loop-slot g l = record {
       (λ file. has_base l.view.layout.archives file l.archive ≡ true → CarriesTo l.fn.patch file l.archive 0 → CarriesTo l.patch file l.archive l.slot);
   alike : IsAlike l.fn.patch l.patch;
   kept : g.D.Disk.image l.disk ≡ g.D.Disk.image l.fn.disk;
+  changes : g.D.Disk.changes l.disk ≡ g.D.Disk.changes l.fn.disk;
   later : g.D.Disk.faults l.fn.disk ≤ g.D.Disk.faults l.disk;
 }
 

@@ -14,6 +14,7 @@ loop-archive-init g c = record {
   untouched = λ none. refl;
   alike = alike_same c.args.patch.now;
   kept = refl;
+  changes = refl;
   later = omega arith;
 }
 
@@ -28,6 +29,7 @@ loop-archive-preserved g c =
       untouched = λ none. c.in_ok-plan_archive.ensures.cells.untouched (none c.loop-archive.archive (omega arith)) ∙ c.loop-archive.invariant.untouched (λ i lt. none i (omega arith));
       alike = alike_more c.args.patch.now c.loop-archive.patch c.plan_archive.new.patch c.loop-archive.invariant.alike c.in_ok-plan_archive.ensures.alike;
       kept = c.in_ok-plan_archive.ensures.frame.kept ∙ c.loop-archive.invariant.kept;
+      changes = c.in_ok-plan_archive.ensures.frame.changes ∙ c.loop-archive.invariant.changes;
       later = omega (arith, c.loop-archive.invariant.later, c.in_ok-plan_archive.ensures.frame.later);
     }
 

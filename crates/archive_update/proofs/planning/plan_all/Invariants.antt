@@ -13,5 +13,6 @@ invariant-loop-archive g l = record {
   untouched : HasNoOwn l.view.layout l.now l.points l.archive → l.patch ≡ l.fn.patch;
   alike : IsAlike l.fn.patch l.patch;
   kept : g.D.Disk.image l.disk ≡ g.D.Disk.image l.fn.disk;
+  changes : g.D.Disk.changes l.disk ≡ g.D.Disk.changes l.fn.disk;
   later : g.D.Disk.faults l.fn.disk ≤ g.D.Disk.faults l.disk;
 }

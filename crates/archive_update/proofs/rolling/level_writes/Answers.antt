@@ -19,6 +19,7 @@ loop-k-init g c =
         held = under_all c.args.patch.now.fresh (g.D.Disk.image c.args.disk.now) c.args.view.now.name.now c.args.view.now.version c.args.view.now.layout.archives _ c.requires.file.1 (λ file. c.new.ensures.items ∙ nothing_held c.args.patch.now file c.args.finer.archive 0 (places_in c.args.view.now.layout c.args.finer.archive));
       };
       kept = refl;
+      changes = refl;
       later = omega arith;
     }
 
@@ -38,6 +39,7 @@ loop-k-preserved g c =
       shown = rw c.in_ok-push_rolled.ensures (write_shown (step_of c.args.view.now.layout.archives (c.args.finer.archive + 1)) (get_or c.args.buckets.now c.loop-k.k 0) c.in_ok-value.value c.loop-k.writes.items c.loop-k.invariant.shown shown);
       held = record { exact = c.in_ok-window.ensures.held.exact; held = held };
       kept = c.in_ok-window.ensures.frame.kept ∙ c.loop-k.invariant.kept;
+      changes = c.in_ok-window.ensures.frame.changes ∙ c.loop-k.invariant.changes;
       later = omega (arith, c.loop-k.invariant.later, c.in_ok-window.ensures.frame.later);
     }
 

@@ -13,5 +13,6 @@ invariant-loop-k g l = record {
   shown : All (λ write. IsShown (step_of l.view.layout.archives (l.finer.archive + 1)) write.0) l.writes.items;
   held : IsRead l.view l.patch (g.D.Disk.image l.fn.disk) l.finer.archive l.window.first l.window.count l.window.values.items;
   kept : g.D.Disk.image l.disk ≡ g.D.Disk.image l.fn.disk;
+  changes : g.D.Disk.changes l.disk ≡ g.D.Disk.changes l.fn.disk;
   later : g.D.Disk.faults l.fn.disk ≤ g.D.Disk.faults l.disk;
 }

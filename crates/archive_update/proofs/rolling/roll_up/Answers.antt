@@ -12,6 +12,7 @@ loop-archive-init g c = record {
   based = c.requires.based;
   alike = alike_same c.args.patch.now;
   kept = refl;
+  changes = refl;
   later = omega arith;
 }
 
@@ -36,6 +37,7 @@ loop-archive-preserved g c =
       based = rw c.in_ok-coarser.ensures.frame.kept (rw c.in-Some.is at c.in_ok-coarser.ensures.based);
       alike = alike_more c.args.patch.now c.loop-archive.patch c.roll_level.new.patch c.loop-archive.invariant.alike c.in_ok-coarser.ensures.alike;
       kept = c.in_ok-coarser.ensures.frame.kept ∙ c.loop-archive.invariant.kept;
+      changes = c.in_ok-coarser.ensures.frame.changes ∙ c.loop-archive.invariant.changes;
       later = omega (arith, c.loop-archive.invariant.later, c.in_ok-coarser.ensures.frame.later);
     }
 

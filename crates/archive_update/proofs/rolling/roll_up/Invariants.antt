@@ -12,5 +12,6 @@ invariant-loop-archive g l = record {
   based : IsBased l.view l.patch (g.D.Disk.image l.disk) l.archive l.base;
   alike : IsAlike l.fn.patch l.patch;
   kept : g.D.Disk.image l.disk ≡ g.D.Disk.image l.fn.disk;
+  changes : g.D.Disk.changes l.disk ≡ g.D.Disk.changes l.fn.disk;
   later : g.D.Disk.faults l.fn.disk ≤ g.D.Disk.faults l.disk;
 }

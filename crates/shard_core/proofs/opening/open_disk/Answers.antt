@@ -1,21 +1,50 @@
+use Rattle.std.proofs.Common.{refl, sym}
+use Rattle.std.proofs.lemmas.Bool.{true≢false}
 use Rattle.shard_core.proofs.OpenLemmas.{all_opened, heads_refused, log_refused, log_refuses, recovered_shut}
+use Rattle.shard_core.proofs.CrashLemmas.{all_starts, may_arm, may_arm_read, reading_starts, recovery_starts}
 use Rattle.shard_core.proofs.opening.open_disk.Goals as goal
 
 pub make_log-requires : goal.make_log-requires
-make_log-requires g c = record { shut = recovered_shut (g.D.Disk.image c.args.disk.now) (g.D.Disk.image c.lay_log.new.disk) (g.D.Disk.image c.read_table.new.disk) c.in-Ok.ensures.laid c.read_table.ensures.kept }
+make_log-requires g c = record { shut = recovered_shut (g.D.Disk.image c.args.disk.now) (g.D.Disk.image c.lay_log.new.disk) (g.D.Disk.image c.read_table.new.disk) c.in-Ok.ensures.laid c.read_table.ensures.frame.kept }
 
 pub returns-in-Err-clause-refused : goal.returns-in-Err-clause-refused
 returns-in-Err-clause-refused g c = log_refuses c.in-Err.fault (g.D.Disk.image c.args.disk.now) (g.D.Disk.image c.lay_log.new.disk) c.args.class c.in-Err.ensures.refused
 
 pub returns-in-Err-read_table-clause-refused : goal.returns-in-Err-read_table-clause-refused
 returns-in-Err-read_table-clause-refused g c =
-    heads_refused c.in-Err-read_table.fault c.args.class (g.D.Disk.image c.args.disk.now) (g.D.Disk.image c.lay_log.new.disk) (g.D.Disk.image c.read_table.new.disk) c.in-Ok.ensures.laid c.read_table.ensures.kept c.in-Err-read_table.ensures.damaged
+    heads_refused c.in-Err-read_table.fault c.args.class (g.D.Disk.image c.args.disk.now) (g.D.Disk.image c.lay_log.new.disk) (g.D.Disk.image c.read_table.new.disk) c.in-Ok.ensures.laid c.read_table.ensures.frame.kept c.in-Err-read_table.ensures.damaged
 
 pub returns-in-Ok-make_log-clause-opens : goal.returns-in-Ok-make_log-clause-opens
 returns-in-Ok-make_log-clause-opens g c =
     all_opened c.args.class c.args.is_logged c.in-Ok-read_table.table (g.D.Disk.image c.args.disk.now) (g.D.Disk.image c.lay_log.new.disk) (g.D.Disk.image c.read_table.new.disk) (g.D.Disk.image c.make_log.new.disk) c.in-Ok.ensures.laid
-    c.read_table.ensures.kept c.make_log.ensures.rings c.in-Ok-read_table.ensures.opens c.in-Ok-read_table.ensures.files c.in-Ok-make_log.ensures.log
+    c.read_table.ensures.frame.kept c.make_log.ensures.rings c.in-Ok-read_table.ensures.opens c.in-Ok-read_table.ensures.files c.in-Ok-make_log.ensures.log
 
 pub returns-in-Err-make_log-clause-refused : goal.returns-in-Err-make_log-clause-refused
 returns-in-Err-make_log-clause-refused g c =
-    log_refused c.args.class (g.D.Disk.image c.args.disk.now) (g.D.Disk.image c.lay_log.new.disk) (g.D.Disk.image c.read_table.new.disk) (g.D.Disk.image c.make_log.new.disk) c.in-Ok.ensures.laid c.read_table.ensures.kept c.make_log.ensures.rings
+    log_refused c.args.class (g.D.Disk.image c.args.disk.now) (g.D.Disk.image c.lay_log.new.disk) (g.D.Disk.image c.read_table.new.disk) (g.D.Disk.image c.make_log.new.disk) c.in-Ok.ensures.laid c.read_table.ensures.frame.kept c.make_log.ensures.rings
+
+pub returns-in-Err-clause-crash : goal.returns-in-Err-clause-crash
+returns-in-Err-clause-crash g c = record {
+  leaves = recovery_starts g.D.Disk c.args.disk.now c.lay_log.new.disk c.lay_log.ensures.crash;
+  behind = λ only ended. absurd (true≢false (sym ended));
+}
+
+pub returns-in-Err-read_table-clause-crash : goal.returns-in-Err-read_table-clause-crash
+returns-in-Err-read_table-clause-crash g c = record {
+  leaves = reading_starts g.D.Disk c.args.disk.now c.lay_log.new.disk c.read_table.new.disk c.in-Ok.ensures.crash c.read_table.ensures.frame;
+  behind = λ only ended. absurd (true≢false (sym ended));
+}
+
+pub returns-in-Ok-make_log-clause-crash : goal.returns-in-Ok-make_log-clause-crash
+returns-in-Ok-make_log-clause-crash g c = record {
+  leaves = all_starts g.D.Disk c.args.is_logged c.args.disk.now c.lay_log.new.disk c.read_table.new.disk c.make_log.new.disk c.in-Ok.ensures.crash c.read_table.ensures.frame c.in-Ok.ensures.laid refl c.make_log.ensures.crash;
+  behind = λ only ended logged.
+      (c.in-Ok-make_log.ensures.crash (may_arm_read g.D.Disk c.lay_log.new.disk c.read_table.new.disk c.read_table.ensures.frame
+      (may_arm g.D.Disk c.args.disk.now c.lay_log.new.disk only c.in-Ok.ensures.laid refl c.in-Ok.ensures.crash))).behind refl logged;
+}
+
+pub returns-in-Err-make_log-clause-crash : goal.returns-in-Err-make_log-clause-crash
+returns-in-Err-make_log-clause-crash g c = record {
+  leaves = all_starts g.D.Disk c.args.is_logged c.args.disk.now c.lay_log.new.disk c.read_table.new.disk c.make_log.new.disk c.in-Ok.ensures.crash c.read_table.ensures.frame c.in-Ok.ensures.laid refl c.make_log.ensures.crash;
+  behind = λ only ended. absurd (true≢false (sym ended));
+}

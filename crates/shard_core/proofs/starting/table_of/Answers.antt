@@ -19,8 +19,9 @@ loop-name-preserved g c =
       opened = c.in-Ok.ensures.opened c.loop-name.invariant.opened;
       noted = noted_known c.args.class (g.D.Disk.image c.args.disk.now) (g.D.Disk.image c.loop-name.disk) (map string_bytes c.args.names.now) c.loop-name.name-index c.as_str.result.now c.loop-name.table c.note_file.new.table
           c.loop-name.invariant.kept there c.in-Ok.ensures.notes c.loop-name.invariant.noted;
-      kept = c.note_file.ensures.kept ∙ c.loop-name.invariant.kept;
-      later = omega (arith, c.note_file.ensures.later, c.loop-name.invariant.later);
+      kept = c.note_file.ensures.frame.kept ∙ c.loop-name.invariant.kept;
+      changes = c.note_file.ensures.frame.changes ∙ c.loop-name.invariant.changes;
+      later = omega (arith, c.note_file.ensures.frame.later, c.loop-name.invariant.later);
     }
 
 pub returns-clause-noted : goal.returns-clause-noted

@@ -10,7 +10,7 @@ use Rattle.carbon_model.specs.RingFiles.{IsOfClass}
 use Rattle.shard_core.specs.Halves.{held_by}
 use Rattle.shard_core.specs.Shard.{AreOfClass, HasFiles, HoldsShelf, patch_on}
 use Rattle.shard_core.specs.Table.{Lists}
-use Rattle.shard_core.proofs.BeginLemmas.{begins, files_begun, kept_begun, layouts_drained, log_begun, shelf_begun}
+use Rattle.shard_core.proofs.BeginLemmas.{begins, files_begun, kept_begun, layouts_drained, log_begun, log_put, shelf_begun}
 use Rattle.shard_core.proofs.PendingLemmas.{of_class_without}
 use Rattle.shard_core.proofs.PickLemmas.{of_class_at}
 use Rattle.shard_core.proofs.TableLemmas.{lists_drained}
@@ -61,6 +61,7 @@ returns-clause-begins g c =
       some = subst (λ (points : List (ℕ × ℤ)). 0 < length points) c.take-path.ensures.points c.take-path.ensures.some;
     })
     makes sets c.put.ensures.shelf c.put.ensures.runs c.put.ensures.steps files old.listed
+    (log_put c.args.self.now.work.log c.put.new.self.log c.put.new.self.shelf c.args.next.patch _ c.put.ensures.log c.args.next.named c.put.ensures.shelf)
 
 pub returns-clause-keeps : goal.returns-clause-keeps
 returns-clause-keeps g c =

@@ -1,0 +1,3 @@
+pub mod StartsAs
+pub mod Calls
+pub mod Fronts

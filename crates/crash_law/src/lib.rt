@@ -1,0 +1,11 @@
+//! What a class is after a crash, as laws of the definitions of what a crash may leave. Of a class
+//! whose drains go through the log, an image that a crash leaves at any moment starts as the replay
+//! of a front of its entries, and that holds each drain whose writing had ended.
+#![tactic(auto)]
+
+mod laws;
+
+pub use laws::{
+    a_crash_leaves_a_front_of_the_drains, a_crash_of_a_start_starts_as_before,
+    a_start_over_what_a_crash_left,
+};

@@ -1,0 +1,4 @@
+mod ReadingLemmas
+mod HalfLemmas
+mod PlacedLemmas
+mod NearestLemmas

@@ -1,0 +1,4 @@
+pub mod Value
+pub mod Pickle
+pub mod Reading
+pub mod Double

@@ -1,0 +1,157 @@
+// A plan for whose metric a point comes at each of its first eight tries: at the ninth it keeps the desk of its class
+// while it reads.
+use crate::shared_store_ends::{End, Row, Shown};
+use crate::shared_store_kit::Deed;
+use crate::shared_store_wait_kit::{Case, Stop, assert_among};
+use point_cache::Put;
+use shard_core::Wrote;
+use shared_store::{DrainEnd, PutCounts, Tally};
+use std::alloc::{AllocError, Global};
+use std::test::Fail;
+
+// Each try reads the first cell of the file of `b`, which is of class 5. At its n-th read, from 0 on, the disk puts up
+// the flag 2n, and waits for the next one.
+const STOPS: [Stop; 9] = [
+    Stop::Read(5, 0),
+    Stop::Next(5),
+    Stop::Next(5),
+    Stop::Next(5),
+    Stop::Next(5),
+    Stop::Next(5),
+    Stop::Next(5),
+    Stop::Next(5),
+    Stop::Next(5),
+];
+
+// ---- the caller that plans
+
+// `b` is drained, and put anew.
+const BEFORE: [Row; 6] = [
+    (Deed::Put("b", 0, 1), End::Put(Put::Stored)),
+    (Deed::Plan(5), End::Planned("b")),
+    (Deed::Write(5), End::Wrote(Wrote::Run)),
+    (Deed::Write(5), End::Wrote(Wrote::Run)),
+    (Deed::Write(5), End::Wrote(Wrote::Finished)),
+    (Deed::Put("b", 1, 2), End::Put(Put::Stored)),
+];
+
+const B: Shown = Shown {
+    path: "b",
+    values: &[Some(1_000), Some(10_000), Some(20_000), None, None],
+};
+
+// The plan takes the points of its last try. The point that waited for it is drained then, after the drains of the
+// other classes were written.
+const PLANS: [Row; 5] = [
+    (Deed::Plan(5), End::Planned("b")),
+    (Deed::Write(5), End::Wrote(Wrote::Finished)),
+    (Deed::Await(18), End::Up),
+    (Deed::DrainAll, End::Drained(DrainEnd::Done(1))),
+    (Deed::Ask(&[b"b"]), End::Shown(&[&[B]], 1)),
+];
+
+// ---- what others do meanwhile
+
+// A metric of each other class.
+const OTHERS: [(u32, &str); 15] = [
+    (0, "e"),
+    (1, "n"),
+    (2, "c"),
+    (3, "d"),
+    (4, "i"),
+    (6, "g"),
+    (7, "h"),
+    (8, "m"),
+    (9, "f"),
+    (10, "k"),
+    (11, "l"),
+    (12, "a"),
+    (13, "j"),
+    (14, "o"),
+    (15, "p"),
+];
+
+const PIECE: &[(&str, u32, u32)] = &[
+    ("e", 0, 2),
+    ("n", 0, 2),
+    ("c", 0, 2),
+    ("d", 0, 2),
+    ("i", 0, 2),
+    ("g", 0, 2),
+    ("h", 0, 2),
+    ("m", 0, 2),
+    ("f", 0, 2),
+    ("k", 0, 2),
+    ("l", 0, 2),
+    ("a", 0, 2),
+    ("j", 0, 2),
+    ("o", 0, 2),
+    ("p", 0, 2),
+];
+
+const ALL_STORED: PutCounts = PutCounts {
+    done: 15,
+    stored: 15,
+    replaced: 0,
+    full: 0,
+};
+
+// A point of `b` is put at each of eight tries.
+fn push_tries(rows: &mut Vec<Row>) -> Result<(), AllocError> {
+    for n in 0..8u32 {
+        let flag = (n as usize).saturating_mul(2);
+        rows.push((Deed::Await(flag), End::Up))?;
+        rows.push((
+            Deed::Put("b", 1, n.saturating_add(3)),
+            End::Put(Put::Replaced),
+        ))?;
+        rows.push((Deed::Raise(flag.saturating_add(1)), End::Up))?;
+    }
+    Ok(())
+}
+
+// At the ninth a piece of all other classes is put, and a drain of each is begun, while a point of `b` waits.
+fn push_ninth(rows: &mut Vec<Row>) -> Result<(), AllocError> {
+    rows.push((Deed::Await(16), End::Up))?;
+    rows.push((Deed::PutAll(PIECE), End::PutAll(ALL_STORED)))?;
+    for (class, path) in &OTHERS {
+        rows.push((Deed::Plan(*class), End::Planned(*path)))?;
+    }
+    rows.push((Deed::Watch(18), End::Down))?;
+    rows.push((Deed::Raise(17), End::Up))?;
+    Ok(())
+}
+
+fn meanwhile(alloc: Global) -> Result<Vec<Row>, AllocError> {
+    let mut rows = Vec::new(alloc);
+    push_tries(&mut rows)?;
+    push_ninth(&mut rows)?;
+    Ok(rows)
+}
+
+// A point of the class whose desk is kept.
+const WAITS: [Row; 3] = [
+    (Deed::Await(16), End::Up),
+    (Deed::Put("b", 2, 20), End::Put(Put::Stored)),
+    (Deed::Raise(18), End::Up),
+];
+
+// Of the 45 entries 44 are puts and drains, and one is of the question.
+#[test]
+fn a_ninth_try_keeps_the_desk_of_its_class_and_no_other(rt: HostRuntime) -> Result<(), Fail> {
+    let second = meanwhile(rt.alloc())?;
+    let case = Case {
+        stops: &STOPS,
+        before: &BEFORE,
+        first: &PLANS,
+        second: second.as_slice(),
+        entries: 45,
+        tally: Tally {
+            stored: 18,
+            replaced: 8,
+            full: 0,
+            drains: 18,
+        },
+    };
+    assert_among(&rt, rt.alloc(), &case, &[&WAITS])
+}
