@@ -1104,9 +1104,37 @@ def a_reply_that_nobody_takes_does_not_keep_its_renderer():
         want(daemon.ask("a.b", 300)[0], 200, "a question behind it")
         took = time.time() - begun
         print("    (%.1f s)" % took)
-        # 20 seconds and one for each KiB that the system's buffers took: 165 were measured
-        want(18 < took < 200, True, "in %.1f seconds" % took)
+        # writes may wait for 20 seconds at first and never for more than 75, whatever the system's buffers took
+        want(18 < took < 85, True, "in %.1f seconds" % took)
         link.close()
+
+
+@case
+def a_reply_that_is_sipped_does_not_keep_its_renderer():
+    with serving("--renderers", "1") as daemon:
+        daemon.send("".join(point("long.n%06d" % k) for k in range(20_000)))
+        link = stalled(daemon)
+        ended = threading.Event()
+        threading.Thread(target=sip_behind_a_gulp, args=(link, ended), daemon=True).start()
+        time.sleep(0.5)
+        begun = time.time()
+        want(daemon.ask("a.b", 300)[0], 200, "a question behind it")
+        took = time.time() - begun
+        ended.set()
+        print("    (%.1f s)" % took)
+        # 75 seconds, and one for each KiB that it took: a fifth of the time
+        want(18 < took < 110, True, "in %.1f seconds" % took)
+        link.close()
+
+
+def sip_behind_a_gulp(link, ended):
+    """Takes a megabyte at once, and then 4,096 bytes each 20 seconds."""
+    with contextlib.suppress(OSError):
+        taken = 0
+        while taken < 1_000_000 and (piece := link.recv(65536)):
+            taken += len(piece)
+        while not ended.wait(20) and link.recv(4096):
+            pass
 
 
 @case

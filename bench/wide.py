@@ -12,14 +12,20 @@ once all of one node. Then each of these is asked, alone and while another clien
   a form     128 targets of such globs, which differ, in a form of half a megabyte
   names      the same globs as queries of `/metrics/expand`
   expand     one short glob that finds all names, 128 times as a query of it, by a GET of some two kilobytes
+  stars      128 targets of a short glob that is held against all names and fits none
+  narrow     one such glob, and two thousand with which no name begins, in one target of 16 KB
   functions  `integral` thirty times in itself over 300 series of a week, three million values
+  wide       `scale` 29 times in itself over as many values of 5 * 10^26, whose products do not fit 128 bits
+  buckets    `sumSeries` of 300 series that are summarized by steps that have a common multiple of half a day and differ in their ends
   patterns   16 targets, each with `grep` thirty times in itself over these series, of a pattern whose states take more than half of what they may
-  left       the last five again, whose client leaves at once: how long the daemon goes on computing
+  texts      32 targets, each with `grep` of a pattern of 16 KB, and each of another: a form of a megabyte
+  replaced   `aliasSub` of each character, 29 times in itself, over names of a thousand bytes
+  left       the last eleven again, whose client leaves at once: how long the daemon goes on computing
 
 Printed are the status, the seconds until the answer and those of the processor, with no other client; and the longest time that another client waits
 for one of its answers while the question is asked once more: it takes the same locks as a line's point, and more. That a form over 100,000 names or
-more is refused, and that a head over as many or fewer is answered within two seconds, is all that is checked; nothing else timed here is a test. Run
-./carbon build first.
+more is refused, that a head over as many or fewer is answered within two seconds, and that all others are, or are refused by then, is checked; nothing
+else timed here is a test. Run ./carbon build first.
 """
 import http.client
 import re
@@ -34,6 +40,9 @@ from live import PROGRAM, folder, need_program
 
 PORTS = re.compile(r"carbon: lines on (\d+), HTTP on (\d+)")
 NOW = int(time.time()) // 60 * 60
+
+# what has a bound
+WORK = ("names", "expand", "stars", "narrow", "functions", "wide", "buckets", "patterns", "texts", "replaced")
 
 
 def branches(count):
@@ -56,6 +65,23 @@ def integrals(some):
 def greps(some):
     """One that keeps all series, each of which has an `e` in its name."""
     return "grep(" * 30 + some + r",'[a-z]\w{40}|e')" * 30
+
+
+def scales(some):
+    """Values of 5 * 10^26, whose products with 10^9 do not fit 128 bits."""
+    return "scale(" * 29 + "offset(isNonNull(" + some + "),5" + "0" * 26 + ")" + ",1)" * 29
+
+
+def sums(some):
+    return "sumSeries(" + ",".join("summarize(%s,'%ds')" % (some, 60 * step) for step in (1, 2, 3, 4, 5, 6, 8, 9, 10)) + ")"
+
+
+def texts(some, salt):
+    return "grep(%s,'%s')" % (some, r"\w" * 8000 + "%d" % salt)
+
+
+def long_names(some):
+    return "aliasSub(" * 29 + "alias(%s,'%s')" % (some, "ab" * 500) + r",'([ab]*a[ab]{400}c)|([ab])','\2')" * 29
 
 
 def query_of(targets, way, since):
@@ -150,6 +176,8 @@ def check(what, count, status, seconds):
         sys.exit("a form was answered by %d" % status)
     if what in ("usual", "braces", "a head") and count <= 100_000 and (status != 200 or seconds > 2):
         sys.exit("%s: %d after %.1f seconds" % (what, status, seconds))
+    if what in WORK and (status not in (200, 503) or seconds > 2):
+        sys.exit("%s: %d after %.1f seconds" % (what, status, seconds))
 
 
 def measure(shape, names, usual, front, back, every, some):
@@ -161,8 +189,14 @@ def measure(shape, names, usual, front, back, every, some):
         ("a form", hostile, "POST", "/render", "-5min"),
         ("names", hostile, "POST", "/metrics/expand", "-5min"),
         ("expand", [every] * 128, "GET", "/metrics/expand", "-5min"),
+        ("stars", [front + "*" + back + "x%02d" % salt for salt in range(128)], "POST", "/render", "-5min"),
+        ("narrow", ["group(%sx,%s)" % (every, ",".join("x%03d.*" % k for k in range(2000)))], "POST", "/render", "-5min"),
         ("functions", [integrals(some)], "POST", "/render", "-7d"),
+        ("wide", [scales(some)], "POST", "/render", "-7d"),
+        ("buckets", [sums(some)], "POST", "/render", "-7d"),
         ("patterns", [greps(some)] * 16, "POST", "/render", "-5min"),
+        ("texts", [texts(some, salt) for salt in range(32)], "POST", "/render", "-5min"),
+        ("replaced", [long_names(some)], "POST", "/render", "-5min"),
     ]
     with folder() as place:
         daemon = Daemon(place)

@@ -1,7 +1,9 @@
 -- The outputs of the paths that are known.
-use Rattle.std.proofs.Common.{◌≡◌, ◌∙◌, ◌⊎◌, inl, inr, ◌+◌, ◌<◌, ℕ, zero, suc, Bool, true, false, cond, if◌then◌else◌, not, List, [], ◌∷◌, ◌++◌, Option, None, Some, drop, get_or, length, option_map, position, slice_get, refl, sym, ap, subst, arith}
+use Rattle.std.proofs.Common.{◌≡◌, ◌∙◌, inl, inr, ◌+◌, ◌-◌, ◌<◌, ℕ, zero, suc, Bool, true, false, cond, if◌then◌else◌, not, List, [], ◌∷◌, ◌++◌, Option, None, Some, drop, get_or, length, nat_le, option_map, position, slice_get, refl, sym, ap, subst, arith}
 use Rattle.std.proofs.Math.Seq.{drop-nil}
+use Rattle.std.proofs.lemmas.Bool.{leb-false, leb-true}
 use Rattle.std.proofs.lemmas.List.Elements.{All-head, All-nil, All-push, All-tail}
+use Rattle.std.proofs.lemmas.List.Sums.{sum_by_push}
 use Rattle.std.proofs.lemmas.Option.{slice_get_read}
 use Rattle.std.proofs.lemmas.Slice.Eq.{bytes_eq-Decides}
 use Rattle.std.specs.List.{position_or_len}
@@ -15,7 +17,7 @@ use Rattle.aggregate_rules.specs.Readings.{output_path}
 use Rattle.aggregate_rules.specs.RulePlaces.{class_of_path, may_fit, places_for, places_from}
 use Rattle.aggregate_rules.proofs.ClassLemmas.{no_output}
 use Rattle.aggregate_front.specs.Fitting.{HitValue, hit_of, hits_from, hits_of}
-use Rattle.aggregate_front.specs.Emitting.{Knows}
+use Rattle.aggregate_front.specs.Emitting.{Knows, KnowsFew, MakesRoom, known_size, most_known}
 
 -- the output of the rule at a place, where there is one
 abbrev pub hit_at : List RuleValue → List ℕ → ℕ → List HitValue
@@ -91,24 +93,40 @@ pub get_last : {X : Type 0} (xs : List X) (x : X) → slice_get (xs ++ x ∷ [])
 get_last [] x = refl
 get_last (y ∷ xs) x = get_last xs x
 
--- a path that is learnt, where all are kept or all forgotten
-pub record Learns (rules : List RuleValue) (room : Paths) (path : List ℕ) : Type 0 where
+-- a path that is learnt, with so much room behind it
+pub record Learns (rules : List RuleValue) (room : Paths) (path : List ℕ) (left : ℕ) : Type 0 where
   pub knows : Knows rules (insert_entry bytes_eq room path (hits_of rules path))
   pub place : slice_get (insert_entry bytes_eq room path (hits_of rules path)) (length room) ≡ Some (path, hits_of rules path)
+  pub few : KnowsFew (insert_entry bytes_eq room path (hits_of rules path)) left
 
-learns_in : (rules : List RuleValue) (room : Paths) (path : List ℕ) → Knows rules room → lookup (bytes_eq path) room ≡ None → Learns rules room path
-learns_in rules room path knows absent =
+learns_in : (rules : List RuleValue) (room : Paths) (path : List ℕ) (left : ℕ) → Knows rules room → lookup (bytes_eq path) room ≡ None
+    → KnowsFew (room ++ (path, hits_of rules path) ∷ []) left → Learns rules room path left
+learns_in rules room path left knows absent few =
     let last : insert_entry bytes_eq room path (hits_of rules path) ≡ room ++ (path, hits_of rules path) ∷ [] =
     insert_entry-absent bytes_eq path (hits_of rules path) room (absent_from_lookup (bytes_eq path) room absent) in
     record {
       knows = rw last (All-push (λ known. known.1 ≡ hits_of rules known.0) room (path, hits_of rules path) knows (refl {a = hits_of rules path}));
       place = rw last (get_last room (path, hits_of rules path));
+      few = rw last few;
     }
 
-pub knows_room : (rules : List RuleValue) (old room : Paths) → Knows rules old → (room ≡ old) ⊎ (room ≡ []) → Knows rules room
-knows_room rules old room knows (inl same) = rw same knows
-knows_room rules old room knows (inr none) = rw none (All-nil (λ known. known.1 ≡ hits_of rules known.0))
+size_more : (paths : Paths) (known : List ℕ × List HitValue) → known_size (paths ++ known ∷ []) ≡ known_size paths + (1 + length known.1)
+size_more paths known = sum_by_push (λ (known : List ℕ × List HitValue). 1 + length known.1) paths known
 
-pub learns : (rules : List RuleValue) (old room : Paths) (path : List ℕ) → Knows rules old → lookup (bytes_eq path) old ≡ None → (room ≡ old) ⊎ (room ≡ []) → Learns rules room path
-learns rules old room path knows absent (inl same) = learns_in rules room path (rw same knows) (rw same absent)
-learns rules old room path knows absent (inr none) = learns_in rules room path (rw none (All-nil (λ known. known.1 ≡ hits_of rules known.0))) (rw none refl)
+few_more : (paths : Paths) (known : List ℕ × List HitValue) (room left : ℕ) → KnowsFew paths room → left + (1 + length known.1) ≡ room → KnowsFew (paths ++ known ∷ []) left
+few_more paths known room left (inl few) is = inl (omega (arith, size_more paths known, few, is))
+few_more paths known room left (inr one) is = absurd (omega (arith, one.1, is))
+
+few_one : (known : List ℕ × List HitValue) (left : ℕ) → left ≡ most_known - (1 + length known.1) → KnowsFew (known ∷ []) left
+few_one known left is = by (nat_le (1 + length known.1) most_known) refl
+  where
+    by : (b : Bool) → nat_le (1 + length known.1) most_known ≡ b → KnowsFew (known ∷ []) left
+    by true fits = inl (omega (arith, size_more [] known, leb-true _ _ fits, is))
+    by false large = inr (omega arith, omega (arith, leb-false _ _ large, is))
+
+pub learns : (rules : List RuleValue) (old new : Paths) (path : List ℕ) (room left : ℕ) → Knows rules old → KnowsFew old room → lookup (bytes_eq path) old ≡ None
+    → MakesRoom old new (length (hits_of rules path)) room left → Learns rules new path left
+learns rules old new path room left knows few absent (inl kept) =
+    learns_in rules new path left (rw kept.0 knows) (rw kept.0 absent) (rw kept.0 (few_more old (path, hits_of rules path) room left few kept.1))
+learns rules old new path room left knows few absent (inr none) =
+    learns_in rules new path left (rw none.0 (All-nil (λ known. known.1 ≡ hits_of rules known.0))) (rw none.0 refl) (rw none.0 (few_one (path, hits_of rules path) left none.1))

@@ -1,5 +1,5 @@
 -- What an aggregator has open, what a point of a link does to it, and which points it emits.
-use Rattle.std.specs.Prelude.{◌≡◌, ℕ, ◌+◌, ◌-◌, ◌<◌, ◌≤◌, MatchOption, option_and_then, option_map, ◌==◌, Bool, true, false, ◌&&◌, ◌||◌, not, nat_le, nat_lt, List, [], ◌∷◌, ◌++◌, fold, length, take, slice_get, is_some, Option, Some, None, if◌then◌else◌}
+use Rattle.std.specs.Prelude.{◌≡◌, ◌⊎◌, ℕ, ◌+◌, ◌-◌, ◌<◌, ◌≤◌, MatchOption, option_and_then, option_map, ◌==◌, Bool, true, false, ◌&&◌, ◌||◌, not, nat_le, nat_lt, List, [], ◌∷◌, ◌++◌, fold, length, take, slice_get, is_some, Option, Some, None, if◌then◌else◌}
 use Rattle.std.specs.List.{All, AllByRecursion, flat_map, sum_by}
 use Rattle.std.specs.Map.{lookup, values_of as gathered_in}
 use Rattle.std.specs.Option.{option_map_or, option_to_list}
@@ -210,6 +210,22 @@ pub record Feeds (old new : AggregatorValue) (point : Point) (emitted : List Poi
 -- the paths that are known have the outputs that the rules give them
 abbrev pub Knows : List RuleValue → List (List ℕ × List HitValue) → Type 0
 Knows rules paths = All (λ known. known.1 ≡ hits_of rules known.0) paths
+
+-- how many paths and outputs of paths are known
+abbrev pub known_size : List (List ℕ × List HitValue) → ℕ
+known_size paths = sum_by (λ known. 1 + length known.1) paths
+
+-- the most paths and outputs of paths that are known, but for those of one path alone
+abbrev pub most_known : ℕ
+most_known = 40000
+
+-- What is known leaves room for so many paths and outputs more, or is one path alone, and leaves none.
+abbrev pub KnowsFew : List (List ℕ × List HitValue) → ℕ → Type 0
+KnowsFew paths room = (known_size paths + room ≤ most_known) ⊎ ((length paths ≤ 1) × (room ≡ 0))
+
+-- Before one path more with so many outputs all that is known is kept, where there is room for it, or all is forgotten; and the room behind it.
+abbrev pub MakesRoom : List (List ℕ × List HitValue) → List (List ℕ × List HitValue) → ℕ → ℕ → ℕ → Type 0
+MakesRoom old new outputs room left = ((new ≡ old) × (left + (1 + outputs) ≡ room)) ⊎ ((new ≡ []) × (left ≡ most_known - (1 + outputs)))
 
 -- ---- a link
 

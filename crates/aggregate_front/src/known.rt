@@ -1,11 +1,11 @@
 //! The outputs of the paths that were seen.
-ghost use Rattle.std.specs.Prelude.{◌≡◌, ◌⊎◌, ◌<◌, ◌++◌, [], IfOk, None, OnOk, Some, length, option_map, slice_get};
+ghost use Rattle.std.specs.Prelude.{◌≡◌, ◌<◌, ◌++◌, [], IfOk, None, OnOk, Some, length, option_map, slice_get};
 ghost use Rattle.std.specs.Map.{lookup};
 ghost use Rattle.std.specs.Option.{option_to_list};
 ghost use Rattle.std.specs.Str.{bytes_eq};
 ghost use Rattle.aggregate_front.specs.Fitting.{hit_of, hits_of};
 ghost use Rattle.aggregate_rules.specs.Readings.{output_path};
-ghost use Rattle.aggregate_front.specs.Emitting.{Knows};
+ghost use Rattle.aggregate_front.specs.Emitting.{Knows, MakesRoom};
 
 use crate::hit::{Hit, OutputKey};
 use crate::outputs::Outputs;
@@ -15,7 +15,7 @@ use metric_path::MetricPath;
 use std::alloc::{AllocError, Global};
 use std::marker::Model;
 
-/// The most paths and outputs of paths that are known.
+/// The most paths and outputs of paths that are known, but for those of one path alone.
 const MOST_KNOWN: usize = 40_000;
 
 /// The outputs of a path in the order of their rules. Contracts see the list of them.
@@ -52,6 +52,13 @@ impl Hits {
             push_hit(&mut items, hit)?;
         }
         Ok(Hits { items })
+    }
+
+    // How many there are.
+    fn len(&self) -> usize
+        ensures { result ≡ length self.now }
+    {
+        self.items.len()
     }
 }
 
@@ -98,20 +105,23 @@ fn guess_of(outputs: &Outputs, key: &OutputKey, next: &mut usize) -> usize {
 }
 
 /// The outputs of paths, each of which was looked at by all rules once. All are forgotten where
-/// they become too many.
+/// one more would be too many.
 #[derive(Drop)]
 pub(crate) struct Known {
     paths: IndexMap<MetricPath, Hits>,
-    size: usize,
+    room: usize,
 }
 
 impl Model for Known {
     ghost use Rattle.std.specs.Prelude.{List, ℕ};
     ghost use Rattle.aggregate_front.specs.Fitting.{HitValue};
+    ghost use Rattle.aggregate_front.specs.Emitting.{KnowsFew};
 
     ghost Value = { List (List ℕ × List HitValue) };
 
     ghost view = { λ k. k.paths.entries };
+
+    ghost invariant = { λ k. KnowsFew k.paths.entries k.room };
 }
 
 impl Known {
@@ -121,7 +131,7 @@ impl Known {
     {
         Known {
             paths: IndexMap::new(alloc),
-            size: 0,
+            room: MOST_KNOWN,
         }
     }
 
@@ -160,21 +170,11 @@ impl Known {
     {
         let hits = Hits::of(alloc, rules, path, outputs)?;
         let path = path.copy()?;
-        self.make_room(hits.items.len());
+        let room = make_room(&mut self.paths, self.room, hits.len());
         let place = self.paths.len();
         self.paths.insert(path, hits)?;
+        self.room = room;
         Ok(place)
-    }
-
-    // Forgets all where one more path with so many outputs is too much.
-    fn make_room(&mut self, outputs: usize)
-        ensures { (self.new ≡ self.old) ⊎ (self.new ≡ []) }
-    {
-        if self.size >= MOST_KNOWN {
-            self.paths.clear();
-            self.size = 0;
-        }
-        self.size = self.size.saturating_add(outputs).saturating_add(1);
     }
 
     /// The outputs of the path at a place.
@@ -187,4 +187,15 @@ impl Known {
         };
         hits.items.as_slice()
     }
+}
+
+// Forgets all where one more path with so many outputs is too much. The room behind that path.
+fn make_room(paths: &mut IndexMap<MetricPath, Hits>, room: usize, outputs: usize) -> usize
+    ensures { MakesRoom paths.old.entries paths.new.entries outputs room result }
+{
+    if outputs < room {
+        return room - outputs - 1;
+    }
+    paths.clear();
+    MOST_KNOWN.saturating_sub(outputs).saturating_sub(1)
 }

@@ -89,7 +89,7 @@ pub enum Question {
 // A word and its command.
 struct Row(&'static str, Command);
 
-const ROWS: [Row; 30] = [
+static ROWS: [Row; 30] = [
     Row("#", Command::Title),
     Row("same", Command::Same),
     Row("keep", Command::Keep),

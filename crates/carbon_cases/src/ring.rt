@@ -15,7 +15,7 @@ struct MethodName {
     name: &'static str,
 }
 
-const METHODS: [MethodName; 8] = [
+static METHODS: [MethodName; 8] = [
     MethodName {
         method: Method::Average,
         name: "average",

@@ -1,6 +1,7 @@
 mod CommandLemmas
 pub mod ConfLemmas
 pub mod FrontLemmas
+mod HeadlineLemmas
 pub mod RunLemmas
 mod SampleLemmas
 mod ServingLemmas

@@ -296,7 +296,7 @@ back_opens {d = d} given back shards is opening k = opens_known (told_of d.image
 
 -- shards of these disks started: memory runs out for their history, or the script runs
 pub started : {D : Type 0} {d : Ghosts D} (settings : Settings) (redo : Bool) (given : List D) (shards : List (Shard D d)) (streams : Streams) (answer : Answer D) → StartsAll settings redo given shards
-    → RunsShards (told_at shards) (opening_of shards) (faults_at shards) shards streams answer → NoStart d streams given answer ⊎ Scripted d settings streams given answer
+    → RunsShards (told_at shards) (opening_of shards) (faults_at shards) shards streams answer → NoStart d streams given answer ⊎ Scripted d settings redo streams given answer
 started {d = d} settings redo given shards streams answer starts (inl lacks) = inl (record {
   refusal = record { class = 0; fault = NoMemory };
   refuses = record {
@@ -312,7 +312,10 @@ started {d = d} settings redo given shards streams answer starts (inl lacks) = i
   input = lacks.input;
 })
 started {d = d} settings redo given shards streams answer starts (inr came) = inr (record {
+  shards = shards;
+  starts = starts;
   told = told_at shards;
+  told_is = λ k. refl;
   opening = starts.opening;
   sound = starts.sound;
   start = opening_of shards;

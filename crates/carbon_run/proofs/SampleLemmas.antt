@@ -1,5 +1,5 @@
 -- The script of a sample.
-use Rattle.std.proofs.Common.{◌≡◌, ◌⊎◌, inl, inr, ℕ, List, Option, Some, None, refl, subst, arith}
+use Rattle.std.proofs.Common.{◌≡◌, ◌⊎◌, inl, inr, ℕ, Bool, List, Option, Some, None, refl, subst, arith}
 use Rattle.outside_io.specs.Faults.{Rose}
 use Rattle.outside_io.specs.declared.disk.Disk.{Ghosts}
 use Rattle.carbon_model.specs.RingFiles.{Settings}
@@ -31,16 +31,16 @@ abbrev over : (front left rest before after : Option (List ℕ)) → Streams
 over front left rest before after = record { front = front; left = left; left' = rest; written = before; written' = after }
 
 -- what a script over the text of a sample comes to is what the run of the sample comes to, whatever stands on the input
-pub sample_runs : {D : Type 0} (d : Ghosts D) (settings : Settings) (said : SampleOptions) (left front question before after rest : Option (List ℕ)) (given : List D) (answer : Answer D)
+pub sample_runs : {D : Type 0} (d : Ghosts D) (settings : Settings) (redo : Bool) (said : SampleOptions) (left front question before after rest : Option (List ℕ)) (given : List D) (answer : Answer D)
     → front ≡ Some (sample_front said.start said.count) → question ≡ Some question_text
-    → NoStart d (over front question rest before after) given answer ⊎ Scripted d settings (over front question rest before after) given answer
-    → SampleRuns d settings said (untouched left before after) given answer
-sample_runs d settings said left front question before after rest given answer text asked (inl none) =
+    → NoStart d (over front question rest before after) given answer ⊎ Scripted d settings redo (over front question rest before after) given answer
+    → SampleRuns d settings redo said (untouched left before after) given answer
+sample_runs d settings redo said left front question before after rest given answer text asked (inl none) =
     inl (record { refusal = none.refusal; refuses = none.refuses; tells = none.tells; history = none.history; input = refl })
-sample_runs d settings said left front question before after rest given answer text asked (inr runs) =
+sample_runs d settings redo said left front question before after rest given answer text asked (inr runs) =
     inr (record {
       input = refl;
       rest = rest;
-      runs = subst (λ (q : Option (List ℕ)). Scripted d settings (over (Some (sample_front said.start said.count)) q rest before after) given answer) asked
-          (subst (λ (f : Option (List ℕ)). Scripted d settings (over f question rest before after) given answer) text runs);
+      runs = subst (λ (q : Option (List ℕ)). Scripted d settings redo (over (Some (sample_front said.start said.count)) q rest before after) given answer) asked
+          (subst (λ (f : Option (List ℕ)). Scripted d settings redo (over f question rest before after) given answer) text runs);
     })

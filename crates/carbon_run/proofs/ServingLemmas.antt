@@ -79,7 +79,7 @@ serves_earlier {D} d staff told start earlier earlier' streams answer later all 
 pub served_over : {D E L : Type 0} {d : Ghosts D} (net_faults : E → ℕ) (net net' : E) (settings : Settings) (redo : Bool) (given : List D) (shards : List (Shard D d)) (staff : Staff L) (streams : Streams) (answer : Answer D)
     → StartsAll settings redo given shards
     → LacksPort net_faults net net' shards streams answer ⊎ ServesShards staff (told_at shards) (opening_of shards) (faults_at shards) shards streams answer
-    → ServeRuns d net_faults net net' settings staff streams given answer
+    → ServeRuns d net_faults net net' settings redo staff streams given answer
 served_over {d = d} net_faults net net' settings redo given shards staff streams answer starts (inl lacks) = inr (inl (record {
   cause = lacks.cause;
   tells = lacks.tells;
@@ -104,7 +104,10 @@ served_over {d = d} net_faults net net' settings redo given shards staff streams
   input = lacks.input;
 })
 served_over {d = d} net_faults net net' settings redo given shards staff streams answer starts (inr (inr serves)) = inr (inr (record {
+  shards = shards;
+  starts = starts;
   told = told_at shards;
+  told_is = λ k. refl;
   opening = starts.opening;
   sound = starts.sound;
   start = opening_of shards;
@@ -115,16 +118,19 @@ served_over {d = d} net_faults net net' settings redo given shards staff streams
 -- ---- streams
 
 -- a server is told of no input, so whatever is left of one stays
-pub beside_input : {D E L : Type 0} (d : Ghosts D) (net_faults : E → ℕ) (net net' : E) (settings : Settings) (staff : Staff L) (left : Option (List ℕ)) (before after : Option (List ℕ)) (given : List D) (answer : Answer D)
-    → ServeRuns d net_faults net net' settings staff (unread before after) given answer
-    → ServeRuns d net_faults net net' settings staff (record { front = None; left = left; left' = left; written = before; written' = after }) given answer
-beside_input d net_faults net net' settings staff left before after given answer (inl none) =
+pub beside_input : {D E L : Type 0} (d : Ghosts D) (net_faults : E → ℕ) (net net' : E) (settings : Settings) (redo : Bool) (staff : Staff L) (left : Option (List ℕ)) (before after : Option (List ℕ)) (given : List D) (answer : Answer D)
+    → ServeRuns d net_faults net net' settings redo staff (unread before after) given answer
+    → ServeRuns d net_faults net net' settings redo staff (record { front = None; left = left; left' = left; written = before; written' = after }) given answer
+beside_input d net_faults net net' settings redo staff left before after given answer (inl none) =
     inl (record { refusal = none.refusal; refuses = none.refuses; tells = none.tells; history = none.history; input = refl })
-beside_input d net_faults net net' settings staff left before after given answer (inr (inl none)) =
+beside_input d net_faults net net' settings redo staff left before after given answer (inr (inl none)) =
     inr (inl (record { cause = none.cause; tells = none.tells; sound = none.sound; sixteen = none.sixteen; still = none.still; history = none.history; input = refl }))
-beside_input d net_faults net net' settings staff left before after given answer (inr (inr served)) =
+beside_input d net_faults net net' settings redo staff left before after given answer (inr (inr served)) =
     inr (inr (record {
+      shards = served.shards;
+      starts = served.starts;
       told = served.told;
+      told_is = served.told_is;
       opening = served.opening;
       sound = served.sound;
       start = served.start;

@@ -40,11 +40,11 @@ staff_by b agg options = record { moments = b.moments; links = b.links agg; duti
 -- rules too.
 abbrev pub Does : {D E L : Type 0} → Ghosts D → Beside E L → RulesValue → List RuleValue → Command → Streams → List D → Answer D → Type 0
 Does d b rules agg (Script said) streams disks answer =
-    (b.net' ≡ b.net) × (NoStart d streams disks answer ⊎ Scripted d (settings_by rules said) streams disks answer)
+    (b.net' ≡ b.net) × (NoStart d streams disks answer ⊎ Scripted d (settings_by rules said) said.redo streams disks answer)
 Does d b rules agg (Sample said more) streams disks answer =
-    (b.net' ≡ b.net) × SampleRuns d (settings_by rules said) more streams disks answer
+    (b.net' ≡ b.net) × SampleRuns d (settings_by rules said) said.redo more streams disks answer
 Does d b rules agg (Serve said more) streams disks answer =
-    ServeRuns d b.faults b.net b.net' (settings_by rules said) (staff_by b agg more) streams disks answer
+    ServeRuns d b.faults b.net b.net' (settings_by rules said) said.redo (staff_by b agg more) streams disks answer
 
 -- both rule files are read, and these are the rules that they give; a server has read its aggregation rules too
 pub record HasRules {D E L : Type 0} (d : Ghosts D) (b : Beside E L) (command : Command) (folder : D) (streams : Streams) (disks : List D) (answer : Answer D) : Type 0 where

@@ -5,3 +5,4 @@ pub mod Stores
 pub mod Serves
 pub mod Samples
 pub mod Commands
+pub mod Headline

@@ -1,5 +1,5 @@
 -- What a run of carbon comes to.
-use Rattle.std.specs.Prelude.{◌≡◌, ◌<◌, ◌⊎◌, ℕ, List, [], ◌∷◌, ◌++◌, Option, Some, None, IfSome, Ok, slice_get, string_bytes}
+use Rattle.std.specs.Prelude.{◌≡◌, ◌<◌, ◌⊎◌, ℕ, Bool, List, [], ◌∷◌, ◌++◌, Option, Some, None, IfSome, Ok, slice_get, string_bytes}
 use Rattle.std.specs.Io.KnownBytes.{Appends}
 use Rattle.outside_io.specs.Image.{Image, WhereKnown}
 use Rattle.outside_io.specs.Faults.{Rose}
@@ -15,8 +15,9 @@ use Rattle.carbon_model.specs.Replay.{IsLegalHistory, replay}
 use Rattle.shard_core.specs.declared.fault.StartFault.{StartFault}
 use Rattle.shard_core.specs.declared.fault.StartFault.TheVariants.{Damaged, DiskFault, NoMemory}
 use Rattle.shard_core.specs.Opened.{IsOpening}
-use Rattle.shard_set.specs.Disks.{disk_faults, told_of}
-use Rattle.shard_set.specs.Opening.{AreSound, RefusesAll}
+use Rattle.shard_core.specs.declared.shard.Shard.{Shard}
+use Rattle.shard_set.specs.Disks.{disk_faults, told_at, told_of}
+use Rattle.shard_set.specs.Opening.{AreSound, RefusesAll, StartsAll}
 use Rattle.shard_set.specs.declared.refused.Refusal.{Refusal}
 use Rattle.shared_store.specs.Closes.{EndsAs}
 pub use Rattle.carbon_serve.specs.Serves.{IsDrained}
@@ -196,10 +197,13 @@ pub record CameTo {D : Type 0} (d : Ghosts D) (told : ℕ → Option Image) (sta
   pub done : reason ≡ end.Done → IsDrained d.image told answer.disks (replay start answer.history)
   pub fault : (class : ℕ) → reason ≡ end.DiskFault class → EndsByDisk d earlier class answer
 
--- The script ran over the shards of all classes: what an open gate held is laid on their disks, none of which then has a damaged file. It ran from a
--- state in which a run may begin over these disks.
-pub record Scripted {D : Type 0} (d : Ghosts D) (settings : Settings) (streams : Streams) (given : List D) (answer : Answer D) : Type 0 where
+-- The script ran over the shards of all classes, whose drains go through the log where the words say so: what an open gate held is laid on their
+-- disks, none of which then has a damaged file. It ran from a state in which a run may begin over these disks.
+pub record Scripted {D : Type 0} (d : Ghosts D) (settings : Settings) (redo : Bool) (streams : Streams) (given : List D) (answer : Answer D) : Type 0 where
+  pub shards : List (Shard D d)
+  pub starts : StartsAll settings redo given shards
   pub told : ℕ → Option Image
+  pub told_is : (k : ℕ) → told k ≡ told_at shards k
   pub opening : (k : ℕ) → WhereKnown (told_of d.image given k) (told k) IsOpening
   pub sound : AreSound told 16
   pub start : State

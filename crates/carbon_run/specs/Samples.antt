@@ -1,5 +1,5 @@
 -- What a run of `sample` comes to.
-use Rattle.std.specs.Prelude.{◌≡◌, ◌⊎◌, ℕ, List, Option, Some, None}
+use Rattle.std.specs.Prelude.{◌≡◌, ◌⊎◌, ℕ, Bool, List, Option, Some, None}
 use Rattle.outside_io.specs.declared.disk.Disk.{Ghosts}
 use Rattle.carbon_model.specs.RingFiles.{Settings}
 use Rattle.carbon_words.specs.declared.command.SampleOptions.{SampleOptions}
@@ -18,14 +18,14 @@ sample_streams said rest streams = record {
 }
 
 -- The script of the sample ran, and the input is as it was.
-pub record Sampled {D : Type 0} (d : Ghosts D) (settings : Settings) (said : SampleOptions) (streams : Streams) (given : List D) (answer : Answer D) : Type 0 where
+pub record Sampled {D : Type 0} (d : Ghosts D) (settings : Settings) (redo : Bool) (said : SampleOptions) (streams : Streams) (given : List D) (answer : Answer D) : Type 0 where
   pub input : streams.left' ≡ streams.left
   pub rest : Option (List ℕ)
-  pub runs : Scripted d settings (sample_streams said rest streams) given answer
+  pub runs : Scripted d settings redo (sample_streams said rest streams) given answer
 
 -- A shard does not start, or the script of the sample runs.
-abbrev pub SampleRuns : {D : Type 0} → Ghosts D → Settings → SampleOptions → Streams → List D → Answer D → Type 0
-SampleRuns d settings said streams given answer = NoStart d streams given answer ⊎ Sampled d settings said streams given answer
+abbrev pub SampleRuns : {D : Type 0} → Ghosts D → Settings → Bool → SampleOptions → Streams → List D → Answer D → Type 0
+SampleRuns d settings redo said streams given answer = NoStart d streams given answer ⊎ Sampled d settings redo said streams given answer
 
 -- the streams of what leaves its input alone
 abbrev pub untouched : Option (List ℕ) → Option (List ℕ) → Option (List ℕ) → Streams

@@ -1,5 +1,5 @@
 -- What a run of `serve` comes to.
-use Rattle.std.specs.Prelude.{◌≡◌, ◌⊎◌, ◌+◌, ℕ, List, [], length, map, Option, None}
+use Rattle.std.specs.Prelude.{◌≡◌, ◌⊎◌, ◌+◌, ℕ, Bool, List, [], length, map, Option, None}
 use Rattle.outside_io.specs.Image.{Image, WhereKnown}
 use Rattle.outside_io.specs.Faults.{Rose}
 use Rattle.outside_io.specs.declared.disk.Disk.{Ghosts}
@@ -7,8 +7,8 @@ use Rattle.carbon_model.specs.State.{State}
 use Rattle.carbon_model.specs.RingFiles.{Opens, Settings}
 use Rattle.shard_core.specs.declared.shard.Shard.{Shard}
 use Rattle.shard_core.specs.Opened.{IsOpening, StillOpens}
-use Rattle.shard_set.specs.Disks.{disk_faults, told_of}
-use Rattle.shard_set.specs.Opening.{AreSound}
+use Rattle.shard_set.specs.Disks.{disk_faults, told_at, told_of}
+use Rattle.shard_set.specs.Opening.{AreSound, StartsAll}
 use Rattle.shared_store.specs.Tallies.{tally_of}
 use Rattle.shared_store.specs.declared.tally.Tally.{Tally}
 use Rattle.shared_store.specs.declared.drain_end.DrainEnd.{DrainEnd}
@@ -66,10 +66,13 @@ pub record NoPort {D : Type 0} {E : Type 0} (d : Ghosts D) (net_faults : E → �
   pub history : answer.history ≡ []
   pub input : streams.left' ≡ streams.left
 
--- The shards of all classes started: what an open gate held is laid on their disks. The store served what the net brought, from a state in which a
--- run may begin over these disks.
-pub record Served {D L : Type 0} (d : Ghosts D) (settings : Settings) (staff : Staff L) (streams : Streams) (given : List D) (answer : Answer D) : Type 0 where
+-- The shards of all classes started, whose drains go through the log where the words say so: what an open gate held is laid on their disks. The store
+-- served what the net brought, from a state in which a run may begin over these disks.
+pub record Served {D L : Type 0} (d : Ghosts D) (settings : Settings) (redo : Bool) (staff : Staff L) (streams : Streams) (given : List D) (answer : Answer D) : Type 0 where
+  pub shards : List (Shard D d)
+  pub starts : StartsAll settings redo given shards
   pub told : ℕ → Option Image
+  pub told_is : (k : ℕ) → told k ≡ told_at shards k
   pub opening : (k : ℕ) → WhereKnown (told_of d.image given k) (told k) IsOpening
   pub sound : AreSound told 16
   pub start : State
@@ -77,9 +80,9 @@ pub record Served {D L : Type 0} (d : Ghosts D) (settings : Settings) (staff : S
   pub serves : ServesAll d staff told start (disk_faults d.faults given) streams answer
 
 -- A server over these disks: a shard does not start, or there is no port, or it serves.
-abbrev pub ServeRuns : {D E L : Type 0} → Ghosts D → (E → ℕ) → E → E → Settings → Staff L → Streams → List D → Answer D → Type 0
-ServeRuns d net_faults net net' settings staff streams given answer =
-    NoStart d streams given answer ⊎ (NoPort d net_faults net net' streams given answer ⊎ Served d settings staff streams given answer)
+abbrev pub ServeRuns : {D E L : Type 0} → Ghosts D → (E → ℕ) → E → E → Settings → Bool → Staff L → Streams → List D → Answer D → Type 0
+ServeRuns d net_faults net net' settings redo staff streams given answer =
+    NoStart d streams given answer ⊎ (NoPort d net_faults net net' streams given answer ⊎ Served d settings redo staff streams given answer)
 
 -- ---- over shards that have started
 

@@ -24,8 +24,8 @@ pub(crate) fn run_sample<R: Wait, D: Disk + Drop, K: Sink>(
     out: &mut K,
 ) -> Report<D>
     requires { vec_len disks ≡ 16 }
-    ensures runs { (left : Option (List ℕ)) → SampleRuns D.Disk (settings_of setup.now) said
-        (untouched left (K.written out.old) (K.written out.new)) disks.items
+    ensures runs { (left : Option (List ℕ)) → SampleRuns D.Disk (settings_of setup.now)
+        setup.now.redo said (untouched left (K.written out.old) (K.written out.new)) disks.items
         (answer_of result.status result.history result.disks.items) }
     ensures unread { result.status ≡ 6 → ⊥ }
     ensures writes { CountsWrites K.Sink out.old out.new (result.status ≡ 7) }

@@ -44,7 +44,7 @@ pub(crate) fn run_script<R: Wait, D: Disk + Drop, S: Source, K: Sink>(
         (behind (option_map left_of front)
         (streams_of S.Source K.Sink input.old input.new out.old out.new)) disks.items
         (answer_of result.status result.history result.disks.items)
-        ⊎ Scripted D.Disk (settings_of setup.now)
+        ⊎ Scripted D.Disk (settings_of setup.now) setup.now.redo
         (behind (option_map left_of front)
         (streams_of S.Source K.Sink input.old input.new out.old out.new)) disks.items
         (answer_of result.status result.history result.disks.items) }

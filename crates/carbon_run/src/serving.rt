@@ -53,6 +53,7 @@ where
     requires disks { vec_len disks ≡ 16 }
     requires workers { HasWorkers options }
     ensures runs { ServeRuns D.Disk E.faults net.old net.new (settings_of setup.now)
+        setup.now.redo
         (staff_of C.Clock E.L.Source E.L.Sink clock.now agg_rules.now (duties_of options)
         (passes_for options))
         (unread (K.written out.old) (K.written out.new)) disks.items

@@ -181,7 +181,8 @@ where
 // What is fixed for a run.
 fn setup(rules: Rules, options: Options) -> Setup
     requires { HasLimit options }
-    ensures { settings_of result ≡ settings_by rules options }
+    ensures settings { settings_of result ≡ settings_by rules options }
+    ensures redo { result.redo ≡ options.redo }
 {
     Setup {
         rules,

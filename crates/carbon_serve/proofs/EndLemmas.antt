@@ -34,7 +34,7 @@ use Rattle.http_front.specs.Origin.{Origin}
 use Rattle.carbon_serve.specs.Crews.{AllDid, AllWent, Finishes, HasLearned, OnlySaw, lacks_room}
 use Rattle.carbon_serve.specs.Courses.{LastCourse, TellsSpent, WorkersHaveRoom}
 use Rattle.carbon_serve.specs.Deeds.{Telling}
-use Rattle.carbon_serve.specs.Serves.{AllHaveRoom, EndsByFault, EndsServed, EndsShort, IsDrained, Serves, SomeSpent}
+use Rattle.carbon_serve.specs.Serves.{AllHaveRoom, EndsByFault, EndsServed, EndsShort, EndsUndrained, IsDrained, LastSpent, Serves}
 use Rattle.carbon_serve.specs.declared.crew.Duties.{Duties}
 use Rattle.carbon_serve.proofs.CourseLemmas.{courses}
 use Rattle.carbon_serve.proofs.EntryLemmas.{same_number}
@@ -236,14 +236,20 @@ module _ {D : Type 0} (d : Ghosts D) (table : TableId) (moments : ℕ → Type 0
       place : (k : ℕ) (p : PassValue) → slice_get served k ≡ Some p → p.number ≡ k
       place k p at = (returned table moments start before (own0 ∷ []) served new went k p at).place
 
-  spent_worker : TellsSpent passes history true → SomeSpent passes history
-  spent_worker told = record { pass = told.0; made = omega (arith, told.1.0); spent = told.1.1 }
+  -- the crew's own pass made nothing
+  undrained : (number : own2.number ≡ own1.number) → IsPrefix own1.seen own2.seen → own2 ≡ own1 → EndsUndrained passes history
+  undrained number begins same = record {
+    pass = last;
+    is = passes_are table moments start passes before served own0 own1 own2 history new all went saw learned names seen number begins;
+    none = last_own table moments start passes before served own0 own1 own2 history new all went saw learned names seen number begins
+        ∙ (ap own_entries same ∙ own_none table moments start passes before served own0 own1 own2 history new all went saw learned names seen number begins);
+  }
 
-  -- the crew's own pass does
-  spent_own : (number : own2.number ≡ own1.number) → IsPrefix own1.seen own2.seen → 2 ^ 48 < length (own_entries own2) + 4 → SomeSpent passes history
+  -- or it lacks room
+  spent_own : (number : own2.number ≡ own1.number) → IsPrefix own1.seen own2.seen → 2 ^ 48 < length (own_entries own2) + 4 → LastSpent passes history
   spent_own number begins lacking = record {
     pass = last;
-    made = omega (arith, passes_are table moments start passes before served own0 own1 own2 history new all went saw learned names seen number begins);
+    is = passes_are table moments start passes before served own0 own1 own2 history new all went saw learned names seen number begins;
     spent = rw (last_own table moments start passes before served own0 own1 own2 history new all went saw learned names seen number begins) lacking;
   }
 
@@ -342,14 +348,16 @@ module _ {D : Type 0} (d : Ghosts D) (table : TableId) (moments : ℕ → Type 0
       let e = drains.0.enters in (drained_whole now count drains.0, room_left e.number e.begins none drains.1)
   ends_drained now (DiskFault class) none drains =
       let e = drains.enters in (fault_last now class drains, workers_room e.number e.begins none)
-  ends_drained now Spent none drains = let e = drains.0.enters in spent_own e.number e.begins drains.1
+  ends_drained now Spent none drains =
+      let e = drains.0.enters in inr (workers_room e.number e.begins none, (short_last now drains.0, spent_own e.number e.begins drains.1))
   ends_drained now NoMemory none drains =
       let e = drains.0.enters in (short_last now drains.0, room_left e.number e.begins none drains.1)
 
   pub ends_served : (spent : Bool) (end : DrainEnd) → spent ≡ list_any lacks_room served → Finishes moments start passes spent end own1 own2 → EndsServed d told start earlier passes end history disks
   ends_served true end is finishes =
       let done = finished moments start passes true end own1 own2 finishes in
-      subst (λ (e : DrainEnd). EndsServed d told start earlier passes e history disks) (sym finishes.0) (spent_worker (worker_spent done.number done.begins (sym is)))
+      subst (λ (e : DrainEnd). EndsServed d told start earlier passes e history disks) (sym finishes.0)
+      (inl (worker_spent done.number done.begins (sym is), undrained done.number done.begins finishes.1))
   ends_served false end is finishes = ends_drained finishes.0 end (sym is) finishes.1.1
 
   -- whether a worker's pass lacks room

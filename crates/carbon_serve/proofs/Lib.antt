@@ -13,3 +13,4 @@ mod OrderLemmas
 mod MusterLemmas
 mod CrewLemmas
 mod EndLemmas
+pub mod HeadlineLemmas

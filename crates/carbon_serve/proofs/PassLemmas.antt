@@ -30,7 +30,7 @@ slice_last (x ∷ xs) y = slice_last xs y
 some_same : {X : Type 0} (x y : X) → Some x ≡ Some y → x ≡ y
 some_same x y same = cc same
 
-same_behind : {X : Type 0} (xs ys zs : List X) → xs ++ ys ≡ xs ++ zs → ys ≡ zs
+pub same_behind : {X : Type 0} (xs ys zs : List X) → xs ++ ys ≡ xs ++ zs → ys ≡ zs
 same_behind [] ys zs same = same
 same_behind (x ∷ xs) ys zs same = same_behind xs ys zs (ap (λ (ws : List _). drop 1 ws) same)
 

@@ -6,4 +6,5 @@ pub mod Deeds
 pub mod Crews
 pub mod Courses
 pub mod OneHistory
+pub mod Headline
 pub mod Serves

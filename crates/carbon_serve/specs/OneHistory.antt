@@ -1,14 +1,16 @@
 -- What of a server's links is of its one history.
-use Rattle.std.specs.Prelude.{◌≡◌, ◌⊎◌, ℕ, List, [], ◌∷◌, ◌++◌, Option, Result, Ok, Err}
+use Rattle.std.specs.Prelude.{◌≡◌, ◌⊎◌, ℕ, suc, ◌<◌, ◌+◌, All, List, [], ◌∷◌, ◌++◌, Option, Result, Ok, Err}
 use Rattle.std.specs.Io.KnownBytes.{Appends, Consumes, IsAtEnd}
-use Rattle.std.specs.List.{AllZip}
 use mathlib.Core.List.{IsPrefix}
 use Rattle.outside_io.specs.Sink.{AppendsFront}
 use Rattle.aggregate_rules.specs.RuleTexts.{RuleValue}
 use Rattle.carbon_history.specs.declared.entry.Entry.{Entry}
 use Rattle.carbon_history.specs.declared.entry.Entry.TheVariants.{Ask, Fault}
+use Rattle.carbon_history.specs.Entries.{of_pass}
 use Rattle.carbon_model.specs.Found.{Finds}
 use Rattle.carbon_model.specs.Replay.{replay}
+use Rattle.shared_history.specs.Parts.{greatest_ask}
+use Rattle.shared_store.specs.Asks.{tries_of}
 use Rattle.shared_store.specs.Naming.{IsPath}
 use Rattle.path_glob.specs.Faults.{Said}
 use Rattle.find_api.specs.Queries.{read_queries}
@@ -33,97 +35,174 @@ use Rattle.http_wire.specs.declared.reply.MediaType.TheVariants as media
 use Rattle.http_wire.specs.declared.routing.Endpoint.{Endpoint}
 use Rattle.http_wire.specs.declared.routing.Endpoint.TheVariants.{Render, Find, Expand, Index}
 use Rattle.http_front.specs.Browses.{IsIndexText, Tells, fault_text}
+use Rattle.http_front.specs.Entries.{IsEntryOf}
+use Rattle.http_front.specs.Links.{AreAllOf, AreWholeIn, BeginWith}
 use Rattle.http_front.specs.Origin.{Origin}
 use Rattle.http_front.specs.Outcomes.{outcome_of, replies_to, reply_to, unavailable_reply}
 use Rattle.http_front.specs.Requests.{form_of}
+use Rattle.http_front.specs.declared.ends.HttpEnd.{HttpEnd}
+use Rattle.http_front.specs.declared.ends.HttpEnd.TheVariants as end
 use Rattle.http_front.specs.declared.outcome.Outcome.{Outcome}
 use Rattle.http_front.specs.declared.outcome.Outcome.TheVariants as outcome
 use Rattle.carbon_serve.specs.Deeds.{HttpLink, LineLink, Telling}
 
+-- ---- passages
+
+-- What a pass had seen of the history, what it entered then, and what it has seen since.
+pub record Passage : Type 0 where
+  pub before : List Entry
+  pub own : List Entry
+  pub after : List Entry
+
+-- It stands in the history: what was seen before begins what is seen after it, which begins the history; and meanwhile the pass entered these.
+pub record StandsIn (number : ℕ) (history : List Entry) (p : Passage) : Type 0 where
+  pub goes_on : IsPrefix p.before p.after
+  pub begins : IsPrefix p.after history
+  pub once : of_pass number p.after ≡ of_pass number p.before ++ p.own
+
+-- nothing was entered, and nothing more was seen
+abbrev pub EntersNothing : Passage → Type 0
+EntersNothing p = (p.own ≡ []) × (p.after ≡ p.before)
+
+-- one passage, and another one behind it
+pub record Joins (first behind whole : Passage) : Type 0 where
+  pub from : first.before ≡ whole.before
+  pub mid : behind.before ≡ first.after
+  pub to : behind.after ≡ whole.after
+  pub own : whole.own ≡ first.own ++ behind.own
+
 -- ---- replies
 
--- A front of the history that ends with a question of a pass, at a moment.
-pub record EndsAsked (number now : ℕ) (history front : List Entry) : Type 0 where
-  pub begins : IsPrefix front history
-  pub earlier : List Entry
-  pub question : ℕ
-  pub count : ℕ
-  pub last : front ≡ earlier ++ Ask number question count now ∷ []
+-- the number of the next question of a pass that has seen this
+abbrev pub next_question : ℕ → List Entry → ℕ
+next_question number before = greatest_ask (of_pass number before) + 1
 
--- a plan is answered by the state after such a front
-pub record IsAnswered (w : Origin) (number now : ℕ) (history : List Entry) (plan : Plan) (given : Outcome) : Type 0 where
-  pub front : List Entry
-  pub asked : EndsAsked number now history front
+-- A plan was asked by a question of the pass, in one to three tries, and is answered by the state behind the last of them, which is the last entry that the
+-- pass has seen then.
+pub record IsAnswered (w : Origin) (number now : ℕ) (p : Passage) (plan : Plan) (given : Outcome) : Type 0 where
+  pub again : ℕ
+  pub few : again < 3
+  pub tries : p.own ≡ tries_of number (next_question number p.before) now (suc again)
+  pub earlier : List Entry
+  pub last : p.after ≡ earlier ++ Ask number (next_question number p.before) (suc again) now ∷ []
   pub answer : QueryAnswer
   pub is : given ≡ outcome_of answer
-  pub answers : AnswersPlan w.told (replay w.start front) now plan answer
+  pub answers : AnswersPlan w.told (replay w.start p.after) now plan answer
 
--- or a disk failed, and a fault of the pass stands in the history
-pub record IsFailed (number : ℕ) (history : List Entry) (given : Outcome) : Type 0 where
+-- Or a disk failed behind the last try, and that was entered.
+pub record IsFailed (number now : ℕ) (p : Passage) (given : Outcome) : Type 0 where
   pub class : ℕ
-  pub earlier : List Entry
-  pub stands : IsPrefix (earlier ++ Fault number class ∷ []) history
+  pub again : ℕ
+  pub few : again < 3
+  pub tries : p.own ≡ tries_of number (next_question number p.before) now (suc again) ++ Fault number class ∷ []
   pub is : given ≡ outcome.DiskFault
 
 -- a query that was read so
-abbrev pub IsOfPlan : Origin → ℕ → ℕ → List Entry → Result Plan QueryFault → Outcome → Type 0
-IsOfPlan w number now history (Ok plan) given = IsAnswered w number now history plan given ⊎ IsFailed number history given
-IsOfPlan w number now history (Err fault) given = given ≡ outcome_of (answered.Refused (Query fault))
+abbrev pub IsOfPlan : Origin → ℕ → ℕ → Passage → Result Plan QueryFault → Outcome → Type 0
+IsOfPlan w number now p (Ok plan) given = IsAnswered w number now p plan given ⊎ IsFailed number now p given
+IsOfPlan w number now p (Err fault) given = (given ≡ outcome_of (answered.Refused (Query fault))) × EntersNothing p
 
--- A query is read and answered at one moment of the clock.
-pub record IsOfQuery (w : Origin) (number : ℕ) (history : List Entry) (query form : List ℕ) (given : Outcome) : Type 0 where
+-- A query is read, asked and answered at one moment of the clock.
+pub record IsOfQuery (w : Origin) (number : ℕ) (p : Passage) (query form : List ℕ) (given : Outcome) : Type 0 where
   pub now : ℕ
   pub told : w.moments now
-  pub comes : IsOfPlan w number now history (read_plan query form now) given
+  pub comes : IsOfPlan w number now p (read_plan query form now) given
 
--- Names are those of all metrics in the state after a front that ends with a question of the pass.
-pub record IsOfNames (w : Origin) (number : ℕ) (history : List Entry) (tells : List (List ℕ) → List ℕ → Type 0) (given : Outcome) : Type 0 where
+-- Names are those of all metrics in the state behind a question of the pass, the last entry that it has seen then.
+pub record IsOfNames (w : Origin) (number : ℕ) (p : Passage) (tells : List (List ℕ) → List ℕ → Type 0) (given : Outcome) : Type 0 where
   pub now : ℕ
   pub told : w.moments now
-  pub front : List Entry
-  pub asked : EndsAsked number now history front
+  pub question : p.own ≡ Ask number (next_question number p.before) 1 now ∷ []
+  pub earlier : List Entry
+  pub last : p.after ≡ earlier ++ Ask number (next_question number p.before) 1 now ∷ []
   pub names : List (List ℕ)
-  pub all : Finds (replay w.start front) IsPath names
+  pub all : Finds (replay w.start p.after) IsPath names
   pub text : List ℕ
   pub is : given ≡ outcome.Found media.Json text
   pub so : tells names text
 
 -- those that globs find
-abbrev pub IsOfGlobs : Origin → ℕ → List Entry → Tells → Result (List Said) FindFault → Outcome → Type 0
-IsOfGlobs w number history tells (Ok globs) given = IsOfNames w number history (tells globs) given
-IsOfGlobs w number history tells (Err why) given = given ≡ outcome.Unanswerable (fault_text why)
+abbrev pub IsOfGlobs : Origin → ℕ → Passage → Tells → Result (List Said) FindFault → Outcome → Type 0
+IsOfGlobs w number p tells (Ok globs) given = IsOfNames w number p (tells globs) given
+IsOfGlobs w number p tells (Err why) given = (given ≡ outcome.Unanswerable (fault_text why)) × EntersNothing p
 
 -- a request that goes there
-abbrev pub IsOfRoute : Origin → ℕ → List Entry → Asked → Result Endpoint Refusal → Outcome → Type 0
-IsOfRoute w number history asked (Ok Render) given = IsOfQuery w number history (query_of asked.target) (form_of asked) given
-IsOfRoute w number history asked (Ok Find) given =
-    IsOfGlobs w number history IsFindText (read_queries (query_of asked.target) (form_of asked)) given
-IsOfRoute w number history asked (Ok Expand) given =
-    IsOfGlobs w number history IsExpandText (read_queries (query_of asked.target) (form_of asked)) given
-IsOfRoute w number history asked (Ok Index) given = IsOfNames w number history IsIndexText given
-IsOfRoute w number history asked (Err why) given = given ≡ outcome.Refused why
+abbrev pub IsOfRoute : Origin → ℕ → Passage → Asked → Result Endpoint Refusal → Outcome → Type 0
+IsOfRoute w number p asked (Ok Render) given = IsOfQuery w number p (query_of asked.target) (form_of asked) given
+IsOfRoute w number p asked (Ok Find) given = IsOfGlobs w number p IsFindText (read_queries (query_of asked.target) (form_of asked)) given
+IsOfRoute w number p asked (Ok Expand) given = IsOfGlobs w number p IsExpandText (read_queries (query_of asked.target) (form_of asked)) given
+IsOfRoute w number p asked (Ok Index) given = IsOfNames w number p IsIndexText given
+IsOfRoute w number p asked (Err why) given = (given ≡ outcome.Refused why) × EntersNothing p
 
--- What an item of a link is given is of the history, by questions of a pass. What is refused has no need of it.
-abbrev pub IsOfHistory : Origin → ℕ → List Entry → Item → Outcome → Type 0
-IsOfHistory w number history (Request asked) given = IsOfRoute w number history asked (route asked.method asked.target) given
-IsOfHistory w number history (Refused why) given = given ≡ outcome.Refused why
+-- What an item of a link is given, by what the pass enters for it. What is refused enters nothing.
+abbrev pub IsOfItem : Origin → ℕ → Passage → Item → Outcome → Type 0
+IsOfItem w number p (Request asked) given = IsOfRoute w number p asked (route asked.method asked.target) given
+IsOfItem w number p (Refused why) given = (given ≡ outcome.Refused why) × EntersNothing p
 
--- what may stand behind whole replies where a write failed, or memory ran out
-abbrev pub IsLastReply : Origin → ℕ → List Entry → List ℕ → Type 0
-IsLastReply w number history text =
-    ((item : Item) × (given : Outcome) × (IsOfHistory w number history item given × (text ≡ reply_to item given)))
-    ⊎ ((text ≡ []) ⊎ (text ≡ unavailable_reply))
+-- and what it enters stands in the history
+abbrev pub IsOfHistory : Origin → ℕ → List Entry → Item → Outcome → Passage → Type 0
+IsOfHistory w number history item given p = StandsIn number history p × IsOfItem w number p item given
 
--- What was written to a link of requests: whole replies, which are of the history, and perhaps a front of another such text.
-pub record RepliesAreOf {L : Type 0} (links : Telling L) (w : Origin) (number : ℕ) (history : List Entry) (link : HttpLink L) : Type 0 where
+-- The same of items one behind the other: each has entries of its own, and has seen all that those before it have.
+abbrev pub AreOfHistory : Origin → ℕ → List Entry → List Item → List Outcome → Passage → Type 0
+AreOfHistory w number history [] [] p = EntersNothing p
+AreOfHistory w number history (item ∷ items) (given ∷ outcomes) p =
+    (first : Passage) × (behind : Passage) × (Joins first behind p × (IsOfHistory w number history item given first × AreOfHistory w number history items outcomes behind))
+AreOfHistory w number history items outcomes p = ⊥
+
+-- ---- the replies on a link
+
+-- the first items of a link, of which these bytes were taken
+abbrev pub AreFirstItems : List ℕ → Option (List ℕ) → List Item → Type 0
+AreFirstItems taken left items = (items ≡ []) ⊎ ((more : List Item) × BeginWith taken left (items ++ more))
+
+-- Which items had their replies, by the end of the link: where it is closed or refused all that its bytes come to; at a failed read and at the limit all that
+-- are whole in what was taken; else the first ones.
+abbrev pub AreReplied : HttpEnd → List ℕ → Option (List ℕ) → List Item → Type 0
+AreReplied end.Closed taken left items = AreAllOf taken left items
+AreReplied (end.Refused code) taken left items = AreAllOf taken left items
+AreReplied end.ReadFault taken left items = AreWholeIn taken items
+AreReplied end.LinkLimit taken left items = AreWholeIn taken items
+AreReplied end.WriteFault taken left items = AreFirstItems taken left items
+AreReplied end.Spent taken left items = AreFirstItems taken left items
+AreReplied end.NoMemory taken left items = AreFirstItems taken left items
+
+-- What may stand behind whole replies: nothing; where a write failed, a front of one more reply; where memory ran out, a front of the text that says so, behind
+-- a question perhaps that was given up.
+abbrev pub IsLastReply : Origin → ℕ → List Entry → List ℕ → Passage → Type 0
+IsLastReply w number history text p =
+    ((text ≡ []) × EntersNothing p)
+    ⊎ (((item : Item) × (given : Outcome) × (IsOfHistory w number history item given p × (text ≡ reply_to item given)))
+    ⊎ ((text ≡ unavailable_reply) × StandsIn number history p))
+
+-- What was written to a link of requests that ended so, of which so much was left and written before and after: whole replies, and perhaps a front of another
+-- text.
+pub record RepliesAreOf (w : Origin) (number : ℕ) (history : List Entry) (reason : HttpEnd) (left left' written written' : Option (List ℕ)) (p : Passage) : Type 0 where
+  pub taken : List ℕ
+  pub consumed : Consumes left left' taken
   pub items : List Item
+  pub are : AreReplied reason taken left' items
   pub outcomes : List Outcome
-  pub each : AllZip (IsOfHistory w number history) items outcomes
+  pub first : Passage
+  pub each : AreOfHistory w number history items outcomes first
   pub mid : Option (List ℕ)
-  pub wrote : Appends (links.written link.before) mid (replies_to items outcomes)
+  pub wrote : Appends written mid (replies_to items outcomes)
+  pub behind : Passage
+  pub joins : Joins first behind p
   pub last : List ℕ
-  pub is : IsLastReply w number history last
-  pub front : AppendsFront mid (links.written link.after) last
+  pub is : IsLastReply w number history last behind
+  pub front : AppendsFront mid written' last
+
+-- A link's replies are of the history, and what was entered for them are tries of questions, and faults.
+pub record RepliesOfLink {L : Type 0} (links : Telling L) (w : Origin) (number : ℕ) (history : List Entry) (link : HttpLink L) (p : Passage) : Type 0 where
+  pub kinds : All (IsEntryOf w number) p.own
+  pub replies : RepliesAreOf w number history link.end (links.left link.before) (links.left link.after) (links.written link.before) (links.written link.after) p
+
+-- the same of links one behind the other
+abbrev pub RepliesOfAll : {L : Type 0} → Telling L → Origin → ℕ → List Entry → List (HttpLink L) → Passage → Type 0
+RepliesOfAll links w number history [] p = EntersNothing p
+RepliesOfAll links w number history (link ∷ served) p =
+    (first : Passage) × (behind : Passage) × (Joins first behind p × (RepliesOfLink links w number history link first × RepliesOfAll links w number history served behind))
 
 -- ---- lines
 

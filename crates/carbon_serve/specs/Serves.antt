@@ -1,5 +1,5 @@
 -- What the service of a net comes to.
-use Rattle.std.specs.Prelude.{◌≡◌, ◌<◌, ◌≤◌, ◌+◌, ◌^◌, ℕ, true, All, List, [], ◌∷◌, ◌++◌, length, Option, Some, IfSome, slice_get}
+use Rattle.std.specs.Prelude.{◌≡◌, ◌⊎◌, ◌<◌, ◌≤◌, ◌+◌, ◌^◌, ℕ, true, All, List, [], ◌∷◌, ◌++◌, length, Option, Some, IfSome, slice_get}
 use Rattle.outside_io.specs.Image.{Image, WhereKnown}
 use Rattle.outside_io.specs.Faults.{Rose}
 use Rattle.outside_io.specs.declared.disk.Disk.{Ghosts}
@@ -13,7 +13,7 @@ use Rattle.shard_set.specs.Disks.{disk_faults}
 use Rattle.shared_store.specs.Closes.{EndsAs}
 use Rattle.shared_store.specs.declared.drain_end.DrainEnd.{DrainEnd}
 use Rattle.shared_store.specs.declared.drain_end.DrainEnd.TheVariants.{Done, DiskFault, Spent, NoMemory}
-use Rattle.carbon_serve.specs.Courses.{CourseOf, LastCourse, Staff, WorkersHaveRoom, origin_by}
+use Rattle.carbon_serve.specs.Courses.{CourseOf, LastCourse, Staff, TellsSpent, WorkersHaveRoom, origin_by}
 use Rattle.carbon_serve.specs.Workers.{HasMoment}
 
 -- ---- what is drained
@@ -33,11 +33,17 @@ pub record IsDrained {D : Type 0} (image : D → Option Image) (told : ℕ → O
 abbrev pub AllHaveRoom : ℕ → List Entry → Type 0
 AllHaveRoom passes history = (pass : ℕ) → pass < passes → length (of_pass pass history) + 4 ≤ 2 ^ 48
 
--- one of the passes has not
-pub record SomeSpent (passes : ℕ) (history : List Entry) : Type 0 where
+-- the last one has not
+pub record LastSpent (passes : ℕ) (history : List Entry) : Type 0 where
   pub pass : ℕ
-  pub made : pass < passes
+  pub is : pass + 1 ≡ passes
   pub spent : 2 ^ 48 < length (of_pass pass history) + 4
+
+-- the last pass made nothing: there was no drain at the end
+pub record EndsUndrained (passes : ℕ) (history : List Entry) : Type 0 where
+  pub pass : ℕ
+  pub is : pass + 1 ≡ passes
+  pub none : of_pass pass history ≡ []
 
 -- the last entry is that the disk of a class failed, told by the last pass; the disk's count of
 -- failed calls rose
@@ -54,16 +60,23 @@ pub record EndsShort (passes : ℕ) (history : List Entry) : Type 0 where
   pub is : pass + 1 ≡ passes
   pub drains : All (λ entry. is_drain entry ≡ true) (of_pass pass history)
 
+-- A pass was spent: that of a worker, and then there was no drain at the end; or the last one in
+-- that drain, in which no disk failed, where every worker has room left.
+abbrev pub EndsSpent : ℕ → List Entry → Type 0
+EndsSpent passes history =
+    (TellsSpent passes history true × EndsUndrained passes history)
+    ⊎ (WorkersHaveRoom passes history × (EndsShort passes history × LastSpent passes history))
+
 -- What stands at each end. All is drained, and every pass has room left; or the disk of a class
 -- failed in the drain at the end, which the last pass made where every worker has room left; or a
--- pass was spent, in its work or in that drain; or memory ran out in that drain, while no disk
--- failed in it and every pass has room left.
+-- pass was spent; or memory ran out in that drain, while no disk failed in it and every pass has
+-- room left.
 abbrev pub EndsServed : {D : Type 0} → Ghosts D → (ℕ → Option Image) → State → (ℕ → ℕ) → ℕ → DrainEnd → List Entry → List D → Type 0
 EndsServed d told start earlier passes (Done count) history disks =
     IsDrained d.image told disks (replay start history) × AllHaveRoom passes history
 EndsServed d told start earlier passes (DiskFault class) history disks =
     EndsByFault d earlier passes class history disks × WorkersHaveRoom passes history
-EndsServed d told start earlier passes Spent history disks = SomeSpent passes history
+EndsServed d told start earlier passes Spent history disks = EndsSpent passes history
 EndsServed d told start earlier passes NoMemory history disks =
     EndsShort passes history × AllHaveRoom passes history
 

@@ -1,20 +1,41 @@
 //! Laws of what a server's history tells of its links.
-ghost use Rattle.std.specs.Prelude.{◌≡◌, ℕ, All, List};
+ghost use Rattle.std.specs.Prelude.{ℕ, List, Option};
 ghost use Rattle.aggregate_rules.specs.RuleTexts.{RuleValue};
 ghost use Rattle.carbon_history.specs.declared.entry.Entry.{Entry};
 ghost use Rattle.carbon_history.specs.Entries.{of_pass};
+ghost use Rattle.carbon_model.specs.State.{State};
+ghost use Rattle.outside_io.specs.Image.{Image};
 ghost use Rattle.http_front.specs.Origin.{origin_of};
-ghost use Rattle.carbon_serve.specs.Courses.{CourseOf};
+ghost use Rattle.shared_store.specs.declared.drain_end.DrainEnd.{DrainEnd};
+ghost use Rattle.carbon_serve.specs.Courses.{CourseOf, staff_of};
 ghost use Rattle.carbon_serve.specs.Deeds.{HttpLink, InTurn, LineLink, ServesHttpLink, ServesLineLink, telling};
-ghost use Rattle.carbon_serve.specs.OneHistory.{PutsOfAll, RepliesAreOf};
+ghost use Rattle.carbon_serve.specs.Headline.{IsOneHistory, from_nothing};
+ghost use Rattle.carbon_serve.specs.OneHistory.{PutsOfAll, RepliesOfAll};
+ghost use Rattle.carbon_serve.specs.Serves.{Serves};
 ghost use Rattle.carbon_serve.specs.declared.crew.Duties.{Duties};
 
-use outside_io::{Clock, Net};
+use outside_io::{Clock, Disk, Net};
 use shared_store::Named;
 
-/// All that a renderer wrote to its links is of the one history: each answer is that of the state
-/// after a front which ends with a question of its pass. The function does nothing: what it ensures
-/// is the law.
+/// The headline. All puts, drains and questions of a server stand in one order, which is legal. Each
+/// entry is of one of its passes, and what is of each is just what its links, or its drains, made:
+/// one put for each accepted line, and the questions of the replies, each of which is the one that
+/// carbon gives where one thread does all that stands before the question, in which is all that the
+/// worker had seen. The function does nothing: what it ensures is the law.
+pub fn a_server_has_one_history<C: Clock, D: Disk, E: Net>()
+    ensures { (clock : C) (rules : List RuleValue) (duties : Duties) (passes : ℕ)
+        (told : ℕ → Option Image) (start : State) (earlier : ℕ → ℕ) (end : DrainEnd)
+        (history : List Entry) (disks : List D)
+        → Serves D.Disk (staff_of C.Clock E.L.Source E.L.Sink clock rules duties passes)
+        told start earlier end history disks
+        → IsOneHistory (staff_of C.Clock E.L.Source E.L.Sink clock rules duties passes)
+        told start history }
+{}
+
+/// All that a renderer wrote to its links is of the one history: each request has questions of its
+/// own in it, in the order of the requests, and is answered by the state behind the last of them,
+/// before which stands all that the renderer had seen. The function does nothing: what it ensures is
+/// the law.
 pub fn every_reply_is_of_the_one_history<C: Clock, N: Named, E: Net>()
     ensures { (clock : C) (rules : List RuleValue) (duties : Duties) (number : ℕ)
         (history : List Entry)
@@ -22,8 +43,8 @@ pub fn every_reply_is_of_the_one_history<C: Clock, N: Named, E: Net>()
         duties number history) (served : List (HttpLink E.L))
         → InTurn (ServesHttpLink (telling E.L.Source E.L.Sink rules)
         (origin_of C.Clock N.Named clock)) served course.fresh course.pass
-        → All (RepliesAreOf (telling E.L.Source E.L.Sink rules) (origin_of C.Clock N.Named clock)
-        number history) served }
+        → RepliesOfAll (telling E.L.Source E.L.Sink rules) (origin_of C.Clock N.Named clock)
+        number history served (from_nothing (of_pass number history) course.pass.seen) }
 {}
 
 /// What the history has of a receiver are the puts of its links, link by link and line by line, and

@@ -12,6 +12,8 @@ mod serving;
 mod workers;
 
 pub use crew::{Crew, Duties};
-pub use laws::{every_point_is_put_once, every_reply_is_of_the_one_history};
+pub use laws::{
+    a_server_has_one_history, every_point_is_put_once, every_reply_is_of_the_one_history,
+};
 pub use pace::Pace;
 pub use serving::{Served, serve};

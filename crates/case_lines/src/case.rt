@@ -2,7 +2,8 @@
 
 use crate::escapes::unescaped;
 use crate::fault::CaseFault;
-use crate::readings::{number_in, signed_in, small_in, text_in};
+use crate::readings::{read_number, read_small, read_text};
+use crate::told::Told;
 use std::alloc::Global;
 
 /// One case.
@@ -58,36 +59,32 @@ impl Case {
         self.words.len()
     }
 
-    /// The bytes of the word at a place, from 0 on.
-    pub fn bytes(&self, at: usize) -> Result<&[u8], CaseFault> {
-        match self.words.get(at) {
-            Some(word) => Ok(word.as_slice()),
-            None => Err(CaseFault::Malformed),
-        }
-    }
-
     /// The words from a place on.
     pub fn rest(&self, at: usize) -> &[Vec<u8>] {
         self.words.get(at..).unwrap_or(&[])
     }
 
+    /// The bytes of the word at a place, from 0 on; none where there is no such word.
+    pub fn bytes_at(&self, at: usize, told: &mut Told) -> &[u8] {
+        let Some(word) = self.words.get(at) else {
+            told.malformed();
+            return b"";
+        };
+        word.as_slice()
+    }
+
     /// That word as UTF-8.
-    pub fn text(&self, at: usize) -> Result<&str, CaseFault> {
-        text_in(self.bytes(at)?)
+    pub fn text_at(&self, at: usize, told: &mut Told) -> &str {
+        read_text(self.bytes_at(at, told), told)
     }
 
     /// That word as a number.
-    pub fn number(&self, at: usize) -> Result<u64, CaseFault> {
-        number_in(self.text(at)?)
+    pub fn number_at(&self, at: usize, told: &mut Told) -> u64 {
+        read_number(self.text_at(at, told), told)
     }
 
     /// That word as a number of 32 bits.
-    pub fn small(&self, at: usize) -> Result<u32, CaseFault> {
-        small_in(self.text(at)?)
-    }
-
-    /// That word as a number with a sign or none.
-    pub fn signed(&self, at: usize) -> Result<i64, CaseFault> {
-        signed_in(self.text(at)?)
+    pub fn small_at(&self, at: usize, told: &mut Told) -> u32 {
+        read_small(self.text_at(at, told), told)
     }
 }

@@ -19,10 +19,15 @@ mod escapes;
 mod fault;
 mod readings;
 mod session;
+mod told;
 
 pub use case::{Case, read_case};
 pub use cases::Cases;
 pub use escapes::{escaped, unescaped};
 pub use fault::CaseFault;
-pub use readings::{number_in, signed_in, small_in, text_in};
+pub use readings::{
+    halves, number_in, read_number, read_signed, read_small, read_small_signed, read_text,
+    small_in, string_of,
+};
 pub use session::{Calls, run_cases};
+pub use told::{Told, made, push_item};

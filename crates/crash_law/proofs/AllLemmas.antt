@@ -165,7 +165,7 @@ on_start {D} {d} class settings told opening s disk start is = record {
   here = is.started.here;
   holds = subst (λ (o : Option Image). Holds o (inside_of start) s) is.told_here
       (started_holds class settings true told s disk start is.started is.opens (is.known ∙ sym is.told_here) (laid_out class (told class) opening start.desk.table s.kept is.told_here));
-  row = is.started.crash.behind is.settled refl refl;
+  row = is.started.crash.behind refl refl;
   early = λ early. absurd cc;
 }
 

@@ -16,9 +16,9 @@ use Rattle.redo_log.specs.Steps.{IsClosed, IsOpen, gate_name, log_name}
 use Rattle.redo_log.proofs.BodyLaws.{one_patch}
 use Rattle.redo_log.proofs.RunRows.{over_under}
 use Rattle.redo_log.proofs.StepLemmas.{file_is_no_gate, file_is_no_log}
-use Rattle.carbon_model.specs.RingFiles.{IsOfClass, Stands, StandsUnder, is_sound}
+use Rattle.carbon_model.specs.RingFiles.{IsOfClass, SameKept, Stands, StandsUnder, is_sound, kept_on}
 use Rattle.carbon_model.specs.State.{Kept}
-use Rattle.shard_core.specs.Opened.{FirstDamaged, IsOpening}
+use Rattle.shard_core.specs.Opened.{FirstDamaged, IsOpening, IsSoundDisk}
 use Rattle.shard_core.specs.StartCrashes.{StartLeaves}
 use Rattle.shard_core.proofs.FileLemmas.{itself, same_text}
 use Rattle.shard_core.proofs.LogLemmas.{rings_stand}
@@ -94,6 +94,19 @@ starts_shut told left kept class shut stands =
     starts_by told left kept class
     (λ laid recovers. ⊎_elim (λ same. rings_stand told left laid None kept class (same_rings left laid same.1) stands) (λ all. absurd (not_open (left gate_name) shut all.gate)) recovers)
     (λ damaged. not_open (left gate_name) shut damaged.gate)
+
+-- without damage
+kept_itself : (kept : Option Kept) → SameKept kept kept
+kept_itself None = tt
+kept_itself (Some kept) = (refl, refl, λ i bucket. refl)
+
+pub starts_itself : (class : ℕ) (image : Image) → is_open (image gate_name) ≡ false → IsSoundDisk class image → StartsAs class image (kept_on image) image
+starts_itself class image shut sound = starts_shut image image (kept_on image) class shut (record {
+  rings = λ path one. kept_itself (kept_on image path);
+  sound = λ path one apart. sound path one;
+  patched = tt;
+  others = λ name no_log no_gate far. refl;
+})
 
 -- the log holds one patch at most
 bodies_same : (held : Option (List ℕ)) (p q : Option PatchValue) → IsSomeAnd held (λ bytes. IsBody bytes p) → IsSomeAnd held (λ bytes. IsBody bytes q) → p ≡ q

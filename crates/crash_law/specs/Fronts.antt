@@ -1,6 +1,5 @@
 -- Fronts of the entries of a class.
 use Rattle.std.specs.Prelude.{◌≡◌, ℕ, ◌+◌, ◌≤◌, true, List, ◌++◌, Option, None, Some}
-use Rattle.outside_io.specs.Crash.{OnlyKnown}
 use Rattle.outside_io.specs.Image.{Image}
 use Rattle.outside_io.specs.declared.disk.Disk.{Ghosts}
 use Rattle.write_shelf.specs.Shelf.{DrainValue}
@@ -28,12 +27,11 @@ pub record StartsAsFront (class : ℕ) (told : Image) (s : State) (earlier entri
   pub settled : drains earlier ≤ drains front + unsettled shelf
   pub starts : StartsAs class told (replay s front).kept left
 
--- A shard started over a disk on whose device all was that had been written, with its drains through the log, in a state in which a
--- run may begin. This is what its disk told at the opening.
+-- A shard started with its drains through the log, in a state in which a run may begin, whatever a crash of its disk might have left
+-- before. This is what its disk told at the opening.
 pub record StartsLogged {D : Type 0} {d : Ghosts D} (class : ℕ) (settings : Settings) (told : ℕ → Option Image) (opening : Image)
     (s : State) (disk : D) (start : Shard D d) : Type 0 where
   pub started : StartedFrom class settings true disk start
-  pub settled : OnlyKnown (d.image disk) (d.may_leave disk)
   pub opens : Opens settings told s
   pub told_here : told class ≡ Some opening
   pub known : d.image start.files.disk ≡ Some opening

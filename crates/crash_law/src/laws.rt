@@ -1,8 +1,11 @@
 //! What holds after a crash. The functions do nothing: what they ensure is the law.
-ghost use Rattle.std.specs.Prelude.{◌≡◌, ◌++◌, ℕ, Bool, List, Option, Some};
+ghost use Rattle.std.specs.Prelude.{◌≡◌, ◌++◌, ℕ, Bool, false, List, Option, Some};
 ghost use Rattle.outside_io.specs.Image.{Image};
+ghost use Rattle.redo_log.specs.Recovery.{is_open};
+ghost use Rattle.redo_log.specs.Steps.{gate_name};
 ghost use Rattle.carbon_model.specs.RingFiles.{IsOfClass, SameKept, Settings, kept_on};
 ghost use Rattle.carbon_model.specs.State.{Kept, State};
+ghost use Rattle.shard_core.specs.Opened.{IsSoundDisk};
 ghost use Rattle.shard_core.specs.StartCrashes.{StartLeaves};
 ghost use Rattle.shard_core.specs.StartFaults.{NotStarted};
 ghost use Rattle.shard_core.specs.Started.{StartedFrom};
@@ -15,10 +18,11 @@ ghost use Rattle.crash_law.specs.StartsAs.{StartsAs};
 
 use outside_io::Disk;
 
-/// A shard of a class started, with its drains through the log, over a disk on whose device all was
-/// that had been written, and calls of it were made. Whatever a crash leaves at a moment from one of
-/// these calls on, within a call or between two, starts as the replay of a front of the entries that
-/// the answers give. The front holds each drain that was settled before that call.
+/// A shard of a class started, with its drains through the log, and calls of it were made. Not all
+/// that had been written before need have been on the device, as after a kill. Whatever a crash leaves
+/// at a moment from one of these calls on, within a call or between two, starts as the replay of a
+/// front of the entries that the answers give. The front holds each drain that was settled before that
+/// call.
 pub fn a_crash_leaves_a_front_of_the_drains<D: Disk>()
     ensures { (class pass : ℕ) (settings : Settings) (told : ℕ → Option Image) (opening : Image)
         (s : State) (disk : D) (start mid now : Shard D D.Disk) (before after : List Call)
@@ -35,6 +39,12 @@ pub fn a_crash_of_a_start_starts_as_before()
     ensures { (class : ℕ) (told : Image) (kept : List ℕ → Option Kept) (before left : Image)
         → StartsAs class told kept before → StartLeaves before left
         → StartsAs class told kept left }
+{}
+
+/// An image on which no file of the class is damaged, and no gate is open, starts as what it keeps.
+pub fn an_image_without_damage_starts_as_it_reads()
+    ensures { (class : ℕ) (image : Image) → is_open (image gate_name) ≡ false
+        → IsSoundDisk class image → StartsAs class image (kept_on image) image }
 {}
 
 /// A shard that starts over an image has on its disk what that starts as, and no start over it tells

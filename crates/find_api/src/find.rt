@@ -12,6 +12,12 @@ use metric_path::MetricPath;
 use path_glob::{Glob, GlobSearch, Work, texts_with_one_front_stand_together};
 use std::alloc::{AllocError, Global};
 
+// What it takes to tell the node of a name, and to pass over the names behind it that tell the same.
+const TOLD_WORK: u64 = 32;
+
+// What it takes to put a node or a path in order among others.
+const ORDER_WORK: u64 = 32;
+
 /// The nodes that a glob finds, in order and each once. More work than may be done ends it as want of memory
 /// does.
 pub(crate) fn find_nodes(
@@ -25,6 +31,7 @@ pub(crate) fn find_nodes(
 {
     let mut nodes = Vec::new(alloc);
     push_nodes(alloc, glob, names, work, &mut nodes)?;
+    work.spend(order_work(nodes.len()))?;
     nodes.sort()?;
     nodes.dedup();
     Ok(nodes)
@@ -44,16 +51,16 @@ pub(crate) fn expand_paths(
     for glob in globs {
         let nodes = find_nodes(alloc, glob, names, &mut work)?;
         push_paths(nodes, &mut paths)?;
-        work.spend(sorting_work(paths.len()))?;
+        work.spend(order_work(paths.len()))?;
         paths.sort()?;
         paths.dedup();
     }
     Ok(paths)
 }
 
-// About how much work it is to sort so many paths.
-fn sorting_work(count: usize) -> u64 {
-    (count as u64).saturating_mul(20)
+// What it takes to put so many nodes or paths in order.
+fn order_work(count: usize) -> u64 {
+    ORDER_WORK.saturating_mul(count as u64)
 }
 
 // The paths of nodes behind others.
@@ -84,7 +91,7 @@ fn push_nodes(
     let mut rest = run_of(names, glob.literal_front());
     while let Some((name, others)) = rest.split_first() {
         rest = others;
-        if let Some(node) = told_node(alloc, name, count)? {
+        if let Some(node) = told_node(alloc, name, count, work)? {
             rest = behind_node(&node, name, others);
             let fits = search.matches(work, &node.path)?;
             if fits {
@@ -104,10 +111,16 @@ fn node_count(glob: &Glob) -> usize
 }
 
 // The node of so many nodes that a name tells, if it has as many.
-fn told_node(alloc: Global, name: &MetricPath, count: usize) -> Result<Option<Node>, AllocError>
+fn told_node(
+    alloc: Global,
+    name: &MetricPath,
+    count: usize,
+    work: &mut Work,
+) -> Result<Option<Node>, AllocError>
     requires { 0 < count }
     ensures { IfOk result (TellsAt count name.now) }
 {
+    work.spend(TOLD_WORK)?;
     let text = name.text();
     let Some(at) = end_of_nodes(text, count) else {
         return Ok(None);

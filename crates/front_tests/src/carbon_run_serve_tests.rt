@@ -232,6 +232,36 @@ fn open_link<R: Wait + Clock + Drop>(
     Ok(GateLink::new(rt, source, sent.share()?))
 }
 
+fn reading<R: Wait + Clock + Copy + Drop>(
+    rt: R,
+    link: GateLink<R>,
+    flags: &Flags,
+    meeting: Meeting,
+) -> Result<GateLink<R>, AllocError> {
+    let gate = flags.gate(rt, meeting)?;
+    Ok(link.reading_at(gate))
+}
+
+fn writing<R: Wait + Clock + Copy + Drop>(
+    rt: R,
+    link: GateLink<R>,
+    flags: &Flags,
+    meeting: Meeting,
+) -> Result<GateLink<R>, AllocError> {
+    let gate = flags.gate(rt, meeting)?;
+    Ok(link.writing_at(gate))
+}
+
+fn marking<R: Wait + Clock + Copy + Drop>(
+    link: GateLink<R>,
+    flags: &Flags,
+    length: usize,
+    sign: Sign,
+) -> Result<GateLink<R>, AllocError> {
+    let flag = flags.share(sign)?;
+    Ok(link.marking(length, flag))
+}
+
 fn link_of<R: Wait + Clock + Copy + Drop>(
     rt: R,
     alloc: Global,
@@ -242,12 +272,12 @@ fn link_of<R: Wait + Clock + Copy + Drop>(
     let link = open_link(rt, alloc, case.brings, sent)?;
     match case.waits {
         LinkWaits::Never => Ok(link),
-        LinkWaits::Read(meeting) => Ok(link.reading_at(flags.gate(rt, meeting)?)),
-        LinkWaits::Behind(sign) => Ok(link.reading_at(flags.gate(rt, behind(sign))?)),
-        LinkWaits::Write(meeting) => Ok(link.writing_at(flags.gate(rt, meeting)?)),
+        LinkWaits::Read(meeting) => reading(rt, link, flags, meeting),
+        LinkWaits::Behind(sign) => reading(rt, link, flags, behind(sign)),
+        LinkWaits::Write(meeting) => writing(rt, link, flags, meeting),
         LinkWaits::Replying(meeting, sign) => {
-            let link = link.marking(case.reply.len(), flags.share(sign)?);
-            Ok(link.writing_at(flags.gate(rt, meeting)?))
+            let link = marking(link, flags, case.reply.len(), sign)?;
+            writing(rt, link, flags, meeting)
         }
     }
 }
@@ -525,7 +555,7 @@ fn assert_served<R: Threads + Wait + Abort + Clock + Copy + Send + Sync + Drop>(
 
 // ---- the tests
 
-const ONE_LINE: ServerCase = ServerCase {
+static ONE_LINE: ServerCase = ServerCase {
     words: "serve",
     disk: DiskWaits::Writes(&[]),
     lines: &[LINE],
@@ -539,7 +569,7 @@ fn one_line_is_served_and_drained(rt: HostRuntime) -> Result<(), Fail> {
     assert_served(&rt, rt.alloc(), &ONE_LINE)
 }
 
-const NO_PORTS: ServerCase = ServerCase {
+static NO_PORTS: ServerCase = ServerCase {
     words: "serve --receivers=1",
     disk: DiskWaits::Writes(&[]),
     lines: &[],
@@ -553,7 +583,7 @@ fn a_server_without_ports_tells_so(rt: HostRuntime) -> Result<(), Fail> {
     assert_served(&rt, rt.alloc(), &NO_PORTS)
 }
 
-const NO_LINKS: [ServerCase; 2] = [
+static NO_LINKS: [ServerCase; 2] = [
     ServerCase {
         words: "serve",
         disk: DiskWaits::Writes(&[]),
@@ -586,7 +616,7 @@ fn the_words_say_which_ports_are_opened_and_for_how_many_links(
     Ok(())
 }
 
-const ONE_WORKER: ServerCase = ServerCase {
+static ONE_WORKER: ServerCase = ServerCase {
     words: "serve --receivers 1 --renderers 1",
     disk: DiskWaits::Writes(&[]),
     lines: &[
@@ -616,7 +646,7 @@ fn one_worker_of_each_kind_serves_all_links(rt: HostRuntime) -> Result<(), Fail>
     assert_served(&rt, rt.alloc(), &ONE_WORKER)
 }
 
-const TWO_RECEIVERS: ServerCase = ServerCase {
+static TWO_RECEIVERS: ServerCase = ServerCase {
     words: "serve --receivers 2 --renderers 1",
     disk: DiskWaits::Writes(&[]),
     lines: &[
@@ -641,7 +671,7 @@ fn two_receivers_read_at_once(rt: HostRuntime) -> Result<(), Fail> {
     assert_served(&rt, rt.alloc(), &TWO_RECEIVERS)
 }
 
-const TWO_RENDERERS: ServerCase = ServerCase {
+static TWO_RENDERERS: ServerCase = ServerCase {
     words: "serve --receivers 1 --renderers 2",
     disk: DiskWaits::Writes(&[]),
     lines: &[],
@@ -667,7 +697,7 @@ fn two_renderers_write_at_once(rt: HostRuntime) -> Result<(), Fail> {
 }
 
 // The disk's first write goes on once the reply is written, which is written once that write has begun.
-const DRAINED_MEANWHILE: ServerCase = ServerCase {
+static DRAINED_MEANWHILE: ServerCase = ServerCase {
     words: "serve",
     disk: DiskWaits::Writes(&[(12, LEFT_MEETS)]),
     lines: &[LINE],
@@ -696,7 +726,7 @@ const OPEN_UNTIL_RIGHT: LinkCase = LinkCase {
 
 // The first write of class 12 goes on once that of class 3 has begun. That is the third step of a drain that begins once the write of class 12 waits:
 // between two of them a drainer comes to class 12.
-const PASSED_OVER: ServerCase = ServerCase {
+static PASSED_OVER: ServerCase = ServerCase {
     words: "serve --receivers 1 --drainers 2",
     disk: DiskWaits::Writes(&[(12, LEFT_MEETS), (3, TELLS_RIGHT)]),
     lines: &[LINE, LATE_LINE, OPEN_UNTIL_RIGHT],
@@ -798,7 +828,7 @@ const LINES_IN_TURN: [LinkCase; 17] = [
 
 // The first write of class 12 goes on once that of class 15 has begun; by then the drains of the other classes have ended. Each link has a receiver:
 // where a drainer stands still all of them wait at once.
-const OTHERS_DRAINED: ServerCase = ServerCase {
+static OTHERS_DRAINED: ServerCase = ServerCase {
     words: "serve --receivers 17 --drainers 2",
     disk: DiskWaits::WritesInTurn,
     lines: &LINES_IN_TURN,
@@ -816,7 +846,7 @@ fn one_drainer_drains_all_other_classes_while_another_waits_for_a_disk(
 
 // ---- puts beside a disk that waits
 
-const PUT_BESIDE_A_WRITE: ServerCase = ServerCase {
+static PUT_BESIDE_A_WRITE: ServerCase = ServerCase {
     words: "serve --receivers 1",
     disk: DiskWaits::Writes(&[(12, LEFT_MEETS)]),
     lines: &[LINE, LATE_LINE, BEHIND_LATE],
@@ -830,7 +860,7 @@ fn a_point_is_put_while_the_disk_of_another_class_writes(rt: HostRuntime) -> Res
     assert_served(&rt, rt.alloc(), &PUT_BESIDE_A_WRITE)
 }
 
-const PUT_BESIDE_A_READ: ServerCase = ServerCase {
+static PUT_BESIDE_A_READ: ServerCase = ServerCase {
     words: "serve --receivers 1",
     disk: DiskWaits::Read(LEFT_MEETS),
     lines: &[LATE_LINE, BEHIND_LATE],
@@ -856,7 +886,7 @@ const BROWSED_REPLIES: &[u8] =
     b"HTTP/1.1 200 OK\r\nContent-Type: application/json\r\nContent-Length: 89\r\n\r\n[{\"allowChildren\": 1, \"expandable\": 1, \"leaf\": 0, \"id\": \"a\", \"text\": \"a\", \"context\": {}}]HTTP/1.1 200 OK\r\nContent-Type: application/json\r\nContent-Length: 18\r\n\r\n{\"results\": [\"a\"]}HTTP/1.1 200 OK\r\nContent-Type: application/json\r\nContent-Length: 7\r\n\r\n[\"a.b\"]HTTP/1.1 400 Bad Request\r\nContent-Type: text/plain\r\nContent-Length: 9\r\n\r\nno query\nHTTP/1.1 200 OK\r\nContent-Type: text/csv\r\nContent-Length: 29\r\n\r\na.b,2023-11-14 22:13:00,1.5\r\nHTTP/1.1 200 OK\r\nContent-Type: application/json\r\nContent-Length: 54\r\nConnection: close\r\n\r\n[{\"target\": \"a.b\", \"datapoints\": [[1.5, 1699999980]]}]";
 
 // A link whose requests are read once the one line of another link is being drained.
-const BROWSED_LINK: ServerCase = ServerCase {
+static BROWSED_LINK: ServerCase = ServerCase {
     words: "serve",
     disk: DiskWaits::Writes(&[(12, TELLS_LEFT)]),
     lines: &[LINE],

@@ -68,7 +68,7 @@ fn empty_buckets(alloc: Global) -> Result<Vec<u8>, AllocError> {
     Ok(text)
 }
 
-const ONE_AND_A_HALF: Given<'static> = Given {
+static ONE_AND_A_HALF: Given<'static> = Given {
     schemas: b"",
     lines: &[b"a.b 1500 1700000000"],
 };
@@ -163,7 +163,7 @@ const TWO_REQUESTS: Pieces<'static> = &[One(GET), One(NO_ROUTE)];
 const TWO_REPLIES: Pieces<'static> = &[One(FOUND), One(NOT_FOUND)];
 
 // The first request comes in two pieces, and so does the other.
-const TWO_CUT: [usize; 3] = [GET.len() - 1, GET.len(), GET.len() + 7];
+static TWO_CUT: [usize; 3] = [GET.len() - 1, GET.len(), GET.len() + 7];
 
 // By which read fails: what is written, and how many entries are made.
 const READ_FAULTS: [(u64, Pieces<'static>, u64); 5] = [
@@ -262,7 +262,7 @@ fn failing_from(
 }
 
 // The question's one try, and the fault.
-const DISK_FAULT: [Row<'static>; 1] = [Row {
+static DISK_FAULT: [Row<'static>; 1] = [Row {
     stream: TWO_REQUESTS,
     replies: &[
         One(b"HTTP/1.1 500 Internal Server Error\r\nContent-Length: 0\r\n\r\n"),

@@ -16,7 +16,7 @@ const LEAF: &[u8] =
 const INDEX: &[u8] =
     b"HTTP/1.1 200 OK\r\nContent-Type: application/json\r\nContent-Length: 7\r\n\r\n[\"a.b\"]";
 
-const FOUND_NAMES: [Row<'static>; 8] = [
+static FOUND_NAMES: [Row<'static>; 8] = [
     Row {
         stream: &[One(b"GET /metrics/find?query=* HTTP/1.1\r\n\r\n")],
         replies: &[One(BRANCH)],
@@ -78,7 +78,7 @@ fn names_are_found(rt: HostRuntime) -> Result<(), Fail> {
     assert_rows(&rt, rt.alloc(), &POINT, &FOUND_NAMES)
 }
 
-const UNREADABLE: [Row<'static>; 10] = [
+static UNREADABLE: [Row<'static>; 10] = [
     Row {
         stream: &[One(b"GET /metrics/find HTTP/1.1\r\n\r\n")],
         replies: &[One(
@@ -171,7 +171,7 @@ fn queries_that_cannot_be_read_are_refused(rt: HostRuntime) -> Result<(), Fail> 
 }
 
 // Of many classes. Behind the same byte `-` comes before `.`, and `.` before `_`; two paths are leaves and branches.
-const TREE: Given<'static> = Given {
+static TREE: Given<'static> = Given {
     schemas: b"",
     lines: &[
         b"b.x.y.z 1 1700000000",
@@ -188,7 +188,7 @@ const TREE: Given<'static> = Given {
 
 const JSON: &[u8] = b"HTTP/1.1 200 OK\r\nContent-Type: application/json\r\nContent-Length: ";
 
-const TREE_NAMES: [Row<'static>; 8] = [
+static TREE_NAMES: [Row<'static>; 8] = [
     Row {
         stream: &[One(b"GET /metrics/index.json HTTP/1.1\r\n\r\n")],
         replies: &[
@@ -275,7 +275,7 @@ fn names_of_a_tree_are_found_in_byte_order(rt: HostRuntime) -> Result<(), Fail> 
 }
 
 // A store without metrics.
-const NO_NAMES: [Row<'static>; 3] = [
+static NO_NAMES: [Row<'static>; 3] = [
     Row {
         stream: &[One(b"GET /metrics/index.json HTTP/1.1\r\n\r\n")],
         replies: &[One(JSON), One(b"2\r\n\r\n"), One(b"[]")],
@@ -322,7 +322,7 @@ const PATHS: &[u8] =
     b"HTTP/1.1 200 OK\r\nContent-Type: application/json\r\nContent-Length: 20\r\n\r\n{\"results\": [\"a.b\"]}";
 
 // What comes, the reply, and whether something is asked.
-const PICKS: [Row<'static>; 9] = [
+static PICKS: [Row<'static>; 9] = [
     Row {
         stream: &[One(b"GET /version HTTP/1.1\r\n\r\n")],
         replies: &[One(NOT_FOUND)],
@@ -382,7 +382,7 @@ const PICKS: [Row<'static>; 9] = [
 ];
 
 // All of them on one link, one behind the other.
-const PICKED: [Row<'static>; 1] = [Row {
+static PICKED: [Row<'static>; 1] = [Row {
     stream: &[
         One(b"GET /version HTTP/1.1\r\n\r\n"),
         One(b"GET /functions HTTP/1.1\r\n\r\n"),
@@ -418,7 +418,7 @@ fn a_metric_is_picked(rt: HostRuntime) -> Result<(), Fail> {
 }
 
 // A name with a comma and double quotes, and a minute without a value.
-const SPREADSHEET: [Row<'static>; 1] = [Row {
+static SPREADSHEET: [Row<'static>; 1] = [Row {
     stream: &[One(
         b"GET /render?target=alias(a.b,'x,%22y%22')&from=1699999870&format=csv HTTP/1.1\r\n\r\n",
     )],
@@ -435,7 +435,7 @@ fn a_table_of_values_is_read_by_a_spreadsheet(rt: HostRuntime) -> Result<(), Fai
 }
 
 // Of metrics that were written to files and have no point that is pending, too.
-const FILE_NAMES: [Row<'static>; 2] = [
+static FILE_NAMES: [Row<'static>; 2] = [
     Row {
         stream: &[One(b"GET /metrics/index.json HTTP/1.1\r\n\r\n")],
         replies: &[One(INDEX)],

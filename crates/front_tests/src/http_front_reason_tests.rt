@@ -5,7 +5,7 @@ use http_front::HttpEnd;
 use std::test::Fail;
 
 // Three times 3,334 paths are more than 10,000 series.
-const SERIES: [Row<'static>; 1] = [Row {
+static SERIES: [Row<'static>; 1] = [Row {
     stream: &[
         One(b"POST /render HTTP/1.1\r\nContent-Length: 40049\r\n\r\n"),
         One(b"target=group("),
@@ -35,7 +35,7 @@ fn too_many_series_are_told(rt: HostRuntime) -> Result<(), Fail> {
 }
 
 // 397 times a week of minutes are more than 4,000,000 values.
-const VALUES: [Row<'static>; 1] = [Row {
+static VALUES: [Row<'static>; 1] = [Row {
     stream: &[
         One(b"GET /render?target=limit(group("),
         Times(396, b"a.b,"),
@@ -54,7 +54,7 @@ fn too_many_values_are_told(rt: HostRuntime) -> Result<(), Fail> {
 }
 
 // A step of 31,535,999 seconds and one of a minute have none in common that is not longer than a year.
-const STEP: [Row<'static>; 1] = [Row {
+static STEP: [Row<'static>; 1] = [Row {
     stream: &[One(
         b"GET /render?target=sumSeries(a.b,summarize(a.b,'31535999s')) HTTP/1.1\r\n\r\n",
     )],
@@ -70,12 +70,12 @@ fn a_step_that_is_too_wide_is_told(rt: HostRuntime) -> Result<(), Fail> {
     assert_rows(&rt, rt.alloc(), &POINT, &STEP)
 }
 
-const HOURLY: Given<'static> = Given {
+static HOURLY: Given<'static> = Given {
     schemas: b"[all]\npattern = .*\nretentions = 1h:1y\n",
     lines: &[b"a.b 1 1700000000"],
 };
 
-const GRID: [Row<'static>; 1] = [Row {
+static GRID: [Row<'static>; 1] = [Row {
     stream: &[One(b"GET /render?target=summarize(a.b,'1s')&from=-1y HTTP/1.1\r\n\r\n")],
     replies: &[One(
         b"HTTP/1.1 400 Bad Request\r\nContent-Type: text/plain\r\nContent-Length: 24\r\n\r\ngrid too long: 31536000\n",
@@ -94,7 +94,7 @@ const UNAVAILABLE: &[u8] =
 
 // What is built of a pattern has at most 1 MiB, and is built once the series are read. One that would have more is told as
 // want of memory, and the link ends.
-const PATTERN: [Row<'static>; 1] = [Row {
+static PATTERN: [Row<'static>; 1] = [Row {
     stream: &[One(
         b"GET /render?target=grep(a.b,'(a%7B999%7D)%7B999%7D') HTTP/1.1\r\n\r\nGET /x HTTP/1.1\r\n\r\n",
     )],

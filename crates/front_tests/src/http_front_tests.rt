@@ -10,7 +10,7 @@ use std::test::Fail;
 const NO_TARGET: &[u8] =
     b"HTTP/1.1 400 Bad Request\r\nContent-Type: text/plain\r\nContent-Length: 10\r\n\r\nno target\n";
 
-const REQUESTS: [Row<'static>; 12] = [
+static REQUESTS: [Row<'static>; 12] = [
     Row {
         stream: &[One(GET)],
         replies: &[One(FOUND)],
@@ -141,7 +141,7 @@ fn each_request_of_a_link_has_a_moment_of_its_own(rt: HostRuntime) -> Result<(),
     assert_cases(&rt, rt.alloc(), &POINT, &[Case { row: MOVING, way }])
 }
 
-const UNREADABLE: [Row<'static>; 7] = [
+static UNREADABLE: [Row<'static>; 7] = [
     Row {
         stream: &[],
         replies: &[],
@@ -197,7 +197,7 @@ fn a_link_that_cannot_be_read_is_refused(rt: HostRuntime) -> Result<(), Fail> {
     assert_rows(&rt, rt.alloc(), &POINT, &UNREADABLE)
 }
 
-const IN_ONE_PIECE: [Row<'static>; 3] = [
+static IN_ONE_PIECE: [Row<'static>; 3] = [
     Row {
         stream: &[Times(2, GET)],
         replies: &[Times(2, FOUND)],
@@ -231,7 +231,7 @@ const LONG_HEAD: &[u8] = b"GET /x HTTP/1.1\r\nA: ";
 
 const LAST: &[u8] = b"HTTP/1.1 404 Not Found\r\nContent-Length: 0\r\nConnection: close\r\n\r\n";
 
-const LAST_REQUESTS: [Row<'static>; 4] = [
+static LAST_REQUESTS: [Row<'static>; 4] = [
     Row {
         stream: &[One(b"GET /x HTTP/1.0\r\n\r\nGET /x HTTP/1.1\r\n\r\n")],
         replies: &[One(LAST)],
@@ -268,7 +268,7 @@ fn a_link_ends_after_a_request_that_says_so(rt: HostRuntime) -> Result<(), Fail>
 }
 
 // A head has at most 64 fields and 16,384 bytes.
-const LONG_HEADS: [Row<'static>; 4] = [
+static LONG_HEADS: [Row<'static>; 4] = [
     Row {
         stream: &[One(FIRST_LINE), Times(64, FIELD), One(b"\r\n")],
         replies: &[One(NOT_FOUND)],
@@ -300,7 +300,7 @@ fn a_head_that_is_too_long_is_refused(rt: HostRuntime) -> Result<(), Fail> {
     assert_each(&rt, rt.alloc(), &POINT, &LONG_HEADS)
 }
 
-const FORMS: [Row<'static>; 2] = [
+static FORMS: [Row<'static>; 2] = [
     Row {
         stream: &[One(
             b"POST /render?target=a.b HTTP/1.1\r\nContent-Length: 32\r\n\r\nfrom=1699999930&until=1700000030",

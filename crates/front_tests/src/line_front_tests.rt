@@ -673,7 +673,7 @@ fn run_many<R: Wait>(rt: &R, alloc: Global, most: usize) -> Result<Came, Fail>
 }
 
 // The first minute has the values 0 to 19.
-const MANY: Row<'static> = Row {
+static MANY: Row<'static> = Row {
     links: &[],
     stored: 600,
     all_stored: 630,
@@ -728,7 +728,7 @@ fn run_around<R: Wait>(rt: &R, alloc: Global, most: usize) -> Result<Came, Fail>
 
 // The point before them is replaced by the emitted one, and each emitted one by that behind it. Of
 // each rule five minutes are open at the end.
-const AROUND: Row<'static> = Row {
+static AROUND: Row<'static> = Row {
     links: &[],
     stored: 7,
     replaced: 20,
@@ -767,7 +767,7 @@ fn run_applications<R: Wait>(rt: &R, alloc: Global) -> Result<Came, Fail> {
 }
 
 // As many outputs are open at the end.
-const APPLICATIONS: Row<'static> = Row {
+static APPLICATIONS: Row<'static> = Row {
     links: &[],
     stored: 300,
     all_stored: 600,

@@ -7,7 +7,8 @@ ghost use Rattle.regex_syntax.specs.Verdict.{default_config};
 ghost use Rattle.name_pattern.specs.Patterns.{is_found, is_readable};
 ghost use Rattle.name_pattern.specs.Substitution.{substituted};
 
-use crate::substitution::written;
+use crate::match_count::MatchCount;
+use crate::substitution::counted;
 use regex::{Error, Matcher, Regex, RegexBuilder};
 use std::alloc::{AllocError, Global};
 use std::marker::Model;
@@ -112,12 +113,14 @@ impl<'r> Search<'r> {
         self.matcher.is_match(name)
     }
 
-    /// A name in which each match is replaced. In the replacement `\1` to `\9` are what the groups matched.
+    /// A name in which each match is replaced, of which each is taken from a count. In the replacement `\1` to `\9` are what the groups
+    /// matched.
     pub fn substituted(
         &mut self,
         alloc: Global,
         name: &str,
         replacement: &str,
+        matches: &MatchCount,
     ) -> Result<String, AllocError>
         ensures value { IfOk result (λ new.
             string_bytes new ≡ substituted self.old replacement.now name.now) }
@@ -126,7 +129,7 @@ impl<'r> Search<'r> {
         let new = self.matcher.replace_all_with(
             alloc,
             name,
-            |captures| written(alloc, captures, replacement),
+            |captures| counted(alloc, captures, replacement, matches),
         )?;
         Ok(new)
     }

@@ -3,7 +3,9 @@ ghost use Rattle.std.specs.Prelude.{◌≡◌, ◌≢◌, false, Some, None, IfO
 ghost use Rattle.regex_syntax.specs.declared.error.ErrorKind.TheVariants.{OutOfMemory};
 ghost use Rattle.name_pattern.specs.Patterns.{is_readable};
 
+use crate::classes::classes_in;
 use crate::pattern::Pattern;
+use crate::weight::Weight;
 use regex_syntax::{Config, Error, ErrorKind, parse};
 use std::alloc::{AllocError, Global};
 use std::marker::Model;
@@ -38,6 +40,24 @@ impl PatternText {
         }
         let text = String::from_str(alloc, text)?;
         Ok(Some(PatternText { text }))
+    }
+
+    /// How many bytes the text has.
+    pub fn len(&self) -> usize {
+        self.text.len()
+    }
+
+    /// How many classes it has, at most.
+    pub fn classes(&self) -> usize {
+        classes_in(self.text.as_bytes())
+    }
+
+    /// What the pattern is made of, for which the text is read.
+    pub fn weight(&self, alloc: Global) -> Result<Weight, AllocError> {
+        match parse(alloc, self.text.as_str(), &Config::default()) {
+            Ok(parsed) => return Ok(Weight::of(&parsed.hir)),
+            Err(_) => return Err(AllocError),
+        }
     }
 
     /// The pattern, which may be searched. Its states have at most 1 MiB: else that is want of memory.

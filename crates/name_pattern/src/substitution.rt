@@ -4,11 +4,28 @@ ghost use Rattle.regex.specs.Replace.{bytes_of};
 ghost use Rattle.regex.specs.Strings.{captures_haystack, captures_span};
 ghost use Rattle.name_pattern.specs.Substitution.{Writes, group_called, opened, written};
 
+use crate::match_count::MatchCount;
 use regex::Captures;
 use std::alloc::{AllocError, Global};
 
-/// What a replacement writes at a match.
-pub(crate) fn written(
+/// What a replacement writes at a match, which is taken from a count.
+pub(crate) fn counted(
+    alloc: Global,
+    captures: &Captures<'_, '_>,
+    replacement: &str,
+    matches: &MatchCount,
+) -> Result<String, AllocError>
+    ensures { IfOk result (λ text. string_bytes text ≡ written
+        (λ n. bytes_of (captures_haystack captures.now) (captures_span captures.now n))
+        replacement.now) }
+{
+    matches.take()?;
+    let text = written(alloc, captures, replacement)?;
+    Ok(text)
+}
+
+// What a replacement writes at a match.
+fn written(
     alloc: Global,
     captures: &Captures<'_, '_>,
     replacement: &str,

@@ -1,9 +1,9 @@
 -- How the log of a disk in memory goes on, and what a crash may then leave.
 use Rattle.std.proofs.Common.{◌≡◌, ◌≢◌, inl, inr, ⊎_elim, ℕ, suc, ◌+◌, ◌≤◌, Bool, true, false, List, [], ◌∷◌, ◌++◌, length, take, drop, Option, None, Some, IsSomeAnd, refl, sym, ap, ap₂, ◌∙◌, subst, true≢false, arith, take-append-drop}
-use Rattle.std.specs.Prelude.{Decides, replicate, option_map, cond, bytes_eq, string_bytes}
+use Rattle.std.specs.Prelude.{Decides, replicate, option_map, cond, bytes_eq, string_bytes, OnErr, OnOk, Result, Ok, Err}
 use Rattle.std.proofs.lemmas.Slice.Eq.{bytes_eq-Decides}
 use Rattle.std.proofs.lemmas.List.{length-replicate}
-use Rattle.outside_io.specs.Crash.{Elapses}
+use Rattle.outside_io.specs.Crash.{Elapses, MayAll}
 use Rattle.outside_io.specs.DiskLog.{undone, Outcomes, LeftSince, LogsRange, LogsFile}
 use Rattle.outside_io.specs.declared.disk_log.DiskChange.{DiskChange}
 use Rattle.outside_io.specs.declared.disk_log.DiskChange.TheVariants.{Wrote, Created, Synced}
@@ -108,6 +108,20 @@ range_crashes old new range back logged here =
     } in
     subst (λ (log : List DiskChange). DiskCrashes step old (record new { log = log })) (sym logged) pushed
 
+-- each tear of what a crash might have left may be left
+range_may : (x y : Image) (p q : List DiskChange) (range : OldRange) → undone (Wrote range) y ≡ x → q ≡ Wrote range ∷ p
+    → MayAll (λ before after. Tears before after (string_bytes range.name) range.at (length range.bytes.items)) (Outcomes x p) (Outcomes y q)
+range_may x y p q range back logged = λ before left was torn.
+    subst (λ (log : List DiskChange). Outcomes y log left) (sym logged) (inr (before, subst (λ (i : Image). Outcomes i p before) (sym back) was, torn))
+
+pub write_may : (x y : Image) (p q : List DiskChange) (name piece : List ℕ) (at : ℕ) → LogsRange x name at (length piece) p q → Writes x y name at piece → IsWithinFile (Some x) name at (length piece)
+    → MayAll (λ before after. Tears before after name at (length piece)) (Outcomes x p) (Outcomes y q)
+write_may x y p q name piece at log wrote place =
+    let back : undone (Wrote log.range) y ≡ x =
+    range_undone x y log.range piece (rw log.named (rw log.place wrote)) (rw log.named (rw log.place place)) log.long
+    (rw log.named (rw log.place log.bytes)) in
+    rw (sym log.named) (rw (sym log.place) (rw (sym log.long) (range_may x y p q log.range back log.logged)))
+
 pub write_crashes : (old new : MemDisk) (name piece : List ℕ) (at : ℕ) → LogsRange (disk_image old) name at (length piece) old.log new.log
     → Writes (disk_image old) (disk_image new) name at piece → IsWithinFile (Some (disk_image old)) name at (length piece)
     → DiskCrashes (λ before after. Tears before after name at (length piece)) old new
@@ -130,6 +144,17 @@ file_crashes old new made back logged here =
       time = elapses_push (disk_image old) (disk_image new) old.log (Created made) back;
     } in
     subst (λ (log : List DiskChange). DiskCrashes step old (record new { log = log })) (sym logged) pushed
+
+file_may : (x y : Image) (p q : List DiskChange) (made : OldFile) → undone (Created made) y ≡ x → q ≡ Created made ∷ p
+    → MayAll (λ before after. ChangesOnly before after (string_bytes made.name)) (Outcomes x p) (Outcomes y q)
+file_may x y p q made back logged = λ before left was only.
+    subst (λ (log : List DiskChange). Outcomes y log left) (sym logged) (inr (before, subst (λ (i : Image). Outcomes i p before) (sym back) was, only))
+
+pub create_may : (x y : Image) (p q : List DiskChange) (name : List ℕ) → LogsFile x name p q → ChangesOnly x y name
+    → MayAll (λ before after. ChangesOnly before after name) (Outcomes x p) (Outcomes y q)
+create_may x y p q name log only =
+    let back : undone (Created log.made) y ≡ x = file_undone x y log.made (rw log.named only) (rw log.named log.file) in
+    rw (sym log.named) (file_may x y p q log.made back log.logged)
 
 pub create_crashes : (old new : MemDisk) (name : List ℕ) → LogsFile (disk_image old) name old.log new.log → ChangesOnly (disk_image old) (disk_image new) name
     → DiskCrashes (λ before after. ChangesOnly before after name) old new
@@ -169,3 +194,12 @@ pub tear_crashes : (old new : MemDisk) (name : List ℕ) (at count byte : ℕ) �
 tear_crashes old new name at count byte log wrote place =
     let long = length-replicate count byte in
     rw (sym long) (write_crashes old new name (replicate count byte) at (rw long log) wrote (rw long place))
+
+-- what holds of every end holds of each
+pub each_ok : {T E P : Type 0} (r : Result T E) → P → OnOk r P
+each_ok (Ok x) holds = holds
+each_ok (Err e) holds = tt
+
+pub each_err : {T E P : Type 0} (r : Result T E) → P → OnErr r P
+each_err (Ok x) holds = tt
+each_err (Err e) holds = holds

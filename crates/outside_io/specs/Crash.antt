@@ -7,6 +7,10 @@ use Rattle.outside_io.specs.Image.{Image, SameImage}
 abbrev pub Follows : (Image → Image → Type 0) → (Image → Type 0) → (Image → Type 0) → Type 0
 Follows step old new = (left : Image) → new left → (before : Image) × old before × step before left
 
+-- and each of these it may leave
+abbrev pub MayAll : (Image → Image → Type 0) → (Image → Type 0) → (Image → Type 0) → Type 0
+MayAll step old new = (before left : Image) → old before → step before left → new left
+
 -- a crash leaves this image and nothing else
 abbrev pub Only : Image → (Image → Type 0) → Type 0
 Only image outcomes = (left : Image) → outcomes left → SameImage image left

@@ -2,7 +2,7 @@
 ghost use Rattle.std.specs.Prelude.{◌≡◌, ◌↔◌, ℕ, ◌+◌, ◌-◌, ◌^◌, ◌<◌, ◌≤◌, true, [], length, map, min, replicate, Some, None, OnOk, OnErr, IfOk, IsErr, IsErrOf, IsTrue, IsSomeAnd, is_err, option_map, if◌then◌else◌, nat_le, string_bytes, string_cmp};
 ghost use Rattle.std.specs.BTreeMap.{IsOrdered, keys};
 ghost use Rattle.outside_io.specs.Calls.{fails_next, listed_calls};
-ghost use Rattle.outside_io.specs.Crash.{Only, OnlyKnown};
+ghost use Rattle.outside_io.specs.Crash.{MayAll, Only, OnlyKnown};
 ghost use Rattle.outside_io.specs.DiskLog.{LogsFile, LogsRange, counted_now, now_alone, same_log};
 ghost use Rattle.outside_io.specs.Frames.{ReadsOnly, CountsFaults};
 ghost use Rattle.outside_io.specs.Image.{ListsNames, LengthIs, IsWithinFile, ReadsFile, SameImage, PutsFile, ChangesOnly, Creates, Writes, Tears, IsEmptyImage, put_over};
@@ -134,6 +134,9 @@ impl MemDisk {
             } }
         ensures crash { DiskCrashes (λ before after. ChangesOnly before after name.now)
             self.old self.new }
+        ensures may { OnOk result (MayAll (λ before after. ChangesOnly before after name.now)
+            (disk_may_leave self.old) (disk_may_leave self.new)) }
+        ensures log { OnErr result (self.new.log ≡ self.old.log) }
     {
         let held = held_len(&self.files, name);
         let Some(room) = room_after(self.state.room, held, len) else {
@@ -155,6 +158,9 @@ impl MemDisk {
         ensures state { state_of self.new ≡ state_of self.old }
         ensures crash { DiskCrashes (λ before after. ChangesOnly before after name.now)
             self.old self.new }
+        ensures may { OnOk result (MayAll (λ before after. ChangesOnly before after name.now)
+            (disk_may_leave self.old) (disk_may_leave self.new)) }
+        ensures log { OnErr result (self.new.log ≡ self.old.log) }
     {
         log_file(self.alloc, &self.files, &mut self.log, name)?;
         let made = put_zeros(self.alloc, &mut self.files, name, len);
@@ -174,6 +180,9 @@ impl MemDisk {
         ensures crash { DiskCrashes
             (λ before after. Tears before after name.now at (length piece.now))
             self.old self.new }
+        ensures may { OnOk result
+            (MayAll (λ before after. Tears before after name.now at (length piece.now))
+            (disk_may_leave self.old) (disk_may_leave self.new)) }
     {
         log_range(
             self.alloc,
@@ -465,6 +474,9 @@ impl Disk for MemDisk {
             (is_err result) }
         ensures crash { DiskCrashes (λ before after. ChangesOnly before after name.now)
             self.old self.new }
+        ensures may { OnOk result (MayAll (λ before after. ChangesOnly before after name.now)
+            (disk_may_leave self.old) (disk_may_leave self.new)) }
+        ensures log { OnErr result (self.new.log ≡ self.old.log) }
     {
         self.state.calls.creates = raised(self.state.calls.creates);
         if self.state.writes.fails_now() {
@@ -506,6 +518,9 @@ impl Disk for MemDisk {
         ensures crash { DiskCrashes
             (λ before after. Tears before after name.now at (length piece.now))
             self.old self.new }
+        ensures may { OnOk result
+            (MayAll (λ before after. Tears before after name.now at (length piece.now))
+            (disk_may_leave self.old) (disk_may_leave self.new)) }
     {
         if self.state.start_write() {
             self.tear(name, at, piece.len());

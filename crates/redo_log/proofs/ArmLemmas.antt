@@ -1,10 +1,11 @@
--- What a crash leaves at the moments of arming.
-use Rattle.std.proofs.Common.{◌≡◌, ◌∙◌, inl, inr, ℕ, List, Option, None, Some, IfSome, refl, sym, subst}
+-- What arming makes, and what a crash leaves at its moments.
+use Rattle.std.proofs.Common.{◌≡◌, ◌∙◌, inl, inr, ℕ, List, Option, None, Some, IfSome, refl, sym, subst, arith}
 use Rattle.outside_io.specs.Crash.{Crashes, LeavesOnly, OnlyKnown}
 use Rattle.outside_io.specs.Image.{Image, ChangesOnly, Creates, SameImage, WhereKnown}
 use Rattle.outside_io.specs.declared.disk.Disk.{Ghosts as DiskGhosts}
-use Rattle.redo_log.specs.Arm.{IsShut, LeavesNothing, LeavesWithin, MayChange}
-use Rattle.redo_log.specs.Steps.{gate_name, log_name}
+use Rattle.redo_log.specs.Arm.{HasNothing, IsShut, LeavesNothing, LeavesWithin, MayChange}
+use Rattle.redo_log.specs.Rows.{InRow}
+use Rattle.redo_log.specs.Steps.{IsClosed, gate_name, log_name}
 use Rattle.redo_log.proofs.MomentLemmas.{leaves_both, leaves_more, within}
 use Rattle.redo_log.proofs.StepLemmas.{gate_is_no_log, log_is_no_gate}
 
@@ -61,3 +62,22 @@ pub files_both : {D : Type 0} (d : DiskGhosts D) (a b c : D) → IfSome (d.image
 files_both d a b c shut only first made durable second =
     leaves_both d.moment d.left_since a b c (LeavesWithin (d.image a)) (files_first d a b shut only first)
     (leaves_more d.moment d.left_since b c (MayChange (d.may_leave b) gate_name) (LeavesWithin (d.image a)) (λ left change. gate_known (d.image a) (d.image b) (d.may_leave b) left made durable change) second)
+
+-- ---- what stands there then
+
+pub both_made : (a b c : Option Image) → WhereKnown a b (λ x y. Creates x y log_name 16) → WhereKnown b c (λ x y. Creates x y gate_name 1) → WhereKnown a c (λ before after. HasNothing after)
+both_made None None None log gate = tt
+both_made None None (Some z) log gate = gate
+both_made None (Some y) c log gate = absurd log
+both_made (Some x) None c log gate = absurd log
+both_made (Some x) (Some y) None log gate = gate
+both_made (Some x) (Some y) (Some z) log gate = (gate.1 log_name log_is_no_gate ∙ log.0, gate.0)
+
+-- all of it is on the device
+pub both_durable : (b c : Option Image) (may_leave : Image → Type 0) → WhereKnown b c (λ x y. Creates x y gate_name 1) → OnlyKnown c may_leave → InRow None c may_leave
+both_durable b None may_leave made only = tt
+both_durable None (Some z) may_leave made only = absurd made
+both_durable (Some y) (Some z) may_leave made only = λ left may. record {
+  gate = subst IsClosed (sym (only left may gate_name ∙ made.0)) (λ e. absurd (omega (arith, e)));
+  rings = λ name no_log no_gate. only left may name;
+}

@@ -1,9 +1,11 @@
 //! Making the files of the log.
-ghost use Rattle.std.specs.Prelude.{◌≡◌, IfSome, IsErr, OnErr, OnOk};
+ghost use Rattle.std.specs.Prelude.{◌≡◌, IfSome, IsErr, None, OnErr, OnOk, true};
 ghost use Rattle.outside_io.specs.Crash.{Follows, LeavesOnly, OnlyKnown};
 ghost use Rattle.outside_io.specs.Frames.{CountsFaults};
 ghost use Rattle.outside_io.specs.Image.{ChangesOnly, Creates, WhereKnown};
-ghost use Rattle.redo_log.specs.Arm.{ArmImage, ArmLeaves, IsShut, LeavesWithin, MayArm, MayChange};
+ghost use Rattle.redo_log.specs.Arm.{ArmImage, ArmLeaves, HasNothing, IsShut, LeavesGate, LeavesWithin, MakesNothing, MayArm, MayChange, has_byte};
+ghost use Rattle.redo_log.specs.Frame.{LooksOnly};
+ghost use Rattle.redo_log.specs.Rows.{InRow};
 ghost use Rattle.redo_log.specs.Steps.{gate_name};
 
 use crate::log_calls::{GATE_NAME, LOG_NAME};
@@ -17,7 +19,16 @@ pub fn arm<D: Disk>(disk: &mut D) -> Result<(), DiskFailed>
     requires shut { IfSome (D.image disk.old) (λ image. IsShut (image gate_name)) }
     ensures image { ArmImage result (D.image disk.old) (D.image disk.new) }
 
-    // What a crash behind it leaves, and at each moment of it.
+    // Where there is a gate, nothing is written.
+    ensures kept { IfSome (D.image disk.old) (λ image. has_byte (image gate_name) ≡ true
+        → LooksOnly D.Disk disk.old disk.new (IsErr result)) }
+    ensures made { OnOk result (WhereKnown (D.image disk.old) (D.image disk.new) MakesNothing) }
+
+    // What a crash behind it leaves, also where not all that had been written was on the device.
+    ensures behind { OnOk result (LeavesGate (D.image disk.old) (D.may_leave disk.old)
+        → InRow None (D.image disk.new) (D.may_leave disk.new)) }
+
+    // What one behind it leaves, and at each moment of it.
     ensures leaves { MayArm (D.image disk.old) (D.may_leave disk.old)
         → ArmLeaves result (D.image disk.old) (D.image disk.new) (D.may_leave disk.new) }
     ensures moments { MayArm (D.image disk.old) (D.may_leave disk.old)
@@ -26,7 +37,11 @@ pub fn arm<D: Disk>(disk: &mut D) -> Result<(), DiskFailed>
 {
     match has_gate(disk) {
         Ok(true) => return Ok(()),
-        Ok(false) => return make_files(disk),
+        Ok(false) => {}
+        Err(fault) => return Err(fault),
+    }
+    match make_files(disk) {
+        Ok(()) => return Ok(()),
         Err(fault) => return Err(fault),
     }
 }
@@ -36,6 +51,9 @@ pub fn arm<D: Disk>(disk: &mut D) -> Result<(), DiskFailed>
 fn make_files<D: Disk>(disk: &mut D) -> Result<(), DiskFailed>
     requires shut { IfSome (D.image disk.old) (λ image. IsShut (image gate_name)) }
     ensures image { ArmImage result (D.image disk.old) (D.image disk.new) }
+    ensures made { OnOk result (WhereKnown (D.image disk.old) (D.image disk.new)
+        (λ before after. HasNothing after)) }
+    ensures behind { OnOk result (InRow None (D.image disk.new) (D.may_leave disk.new)) }
     ensures leaves { OnlyKnown (D.image disk.old) (D.may_leave disk.old)
         → ArmLeaves result (D.image disk.old) (D.image disk.new) (D.may_leave disk.new) }
     ensures moments { OnlyKnown (D.image disk.old) (D.may_leave disk.old)
@@ -43,8 +61,12 @@ fn make_files<D: Disk>(disk: &mut D) -> Result<(), DiskFailed>
     ensures frame { CountsFaults D.Disk disk.old disk.new (IsErr result) }
 {
     match make_file(disk, LOG_NAME, NUMBERS_BYTES as u64) {
-        Ok(()) => make_file(disk, GATE_NAME, 1),
-        Err(fault) => Err(fault),
+        Ok(()) => {}
+        Err(fault) => return Err(fault),
+    }
+    match make_file(disk, GATE_NAME, 1) {
+        Ok(()) => return Ok(()),
+        Err(fault) => return Err(fault),
     }
 }
 

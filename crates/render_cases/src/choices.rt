@@ -1,111 +1,127 @@
 //! Series that are chosen, sorted and named.
 
 use crate::notation::{known_value, set_at, write_names};
-use crate::numbers::small_signed;
 use crate::room::plenty;
-use case_lines::{Case, CaseFault};
+use case_lines::{Case, CaseFault, Told, push_item, read_small_signed, string_of};
 use fixed_num::{Milli, wide};
 use name_pattern::PatternText;
 use series_pick::{Choose, Name, SignedNodes, choose};
+use series_set::SeriesSet;
 use std::alloc::Global;
 
 /// `choose SET FUNCTION ARGUMENT..`: the names of the series that the function leaves, or `no pattern`. Bounds are in thousandths.
-pub fn tell_choice(alloc: Global, told: &mut String, case: &Case) -> Result<(), CaseFault> {
-    let set = set_at(alloc, case, 0)?;
-    let Some(kind) = read_choice(alloc, case)? else {
-        return Ok(told.push_str("no pattern")?);
-    };
-    let chosen = choose(alloc, &kind, set, plenty())?;
-    Ok(write_names(told, &chosen)?)
+pub fn tell_choice(alloc: Global, told: &mut Told, case: &Case) {
+    let set = set_at(alloc, case, 0, told);
+    match read_choice(alloc, case, told) {
+        Some(kind) => write_chosen(alloc, told, &kind, set),
+        None => told.push_str("no pattern"),
+    }
+}
+
+fn write_chosen(alloc: Global, told: &mut Told, kind: &Choose, set: SeriesSet) {
+    match choose(alloc, kind, set, &mut plenty()) {
+        Ok(chosen) => write_names(told, &chosen),
+        Err(_) => told.fail(CaseFault::NoMemory),
+    }
 }
 
 // What the words say; nothing where a pattern is none.
-fn read_choice(alloc: Global, case: &Case) -> Result<Option<Choose>, CaseFault> {
-    match case.text(1)? {
-        "grep" | "exclude" | "aliasSub" => read_search(alloc, case),
-        "alias" => {
-            let name = name_at(alloc, case, 2)?;
-            Ok(Some(Choose::Alias { name }))
-        }
-        "aliasByNode" => {
-            let nodes = nodes_from(alloc, case, 2)?;
-            Ok(Some(Choose::AliasByNode { nodes }))
-        }
-        word if case.len() == 2 => Ok(Some(read_plain(word)?)),
-        word => Ok(Some(read_bounded(word, known_value(case.text(2)?)?)?)),
+fn read_choice(alloc: Global, case: &Case, told: &mut Told) -> Option<Choose> {
+    match case.text_at(1, told) {
+        "grep" | "exclude" | "aliasSub" => read_search(alloc, case, told),
+        "alias" => Some(Choose::Alias {
+            name: name_at(alloc, case, 2, told),
+        }),
+        "aliasByNode" => Some(Choose::AliasByNode {
+            nodes: nodes_from(alloc, case, 2, told),
+        }),
+        word if case.len() == 2 => read_plain(word, told),
+        word => read_bounded(word, known_value(case.text_at(2, told), told), told),
     }
 }
 
-fn read_search(alloc: Global, case: &Case) -> Result<Option<Choose>, CaseFault> {
-    let Some(pattern) = PatternText::new(alloc, case.text(2)?)? else {
-        return Ok(None);
-    };
-    match case.text(1)? {
-        "grep" => Ok(Some(Choose::Grep { pattern })),
-        "exclude" => Ok(Some(Choose::Exclude { pattern })),
-        _ => {
-            let replacement = name_at(alloc, case, 3)?;
-            Ok(Some(Choose::AliasSub {
-                pattern,
-                replacement,
-            }))
+fn read_search(alloc: Global, case: &Case, told: &mut Told) -> Option<Choose> {
+    match PatternText::new(alloc, case.text_at(2, told)) {
+        Ok(Some(pattern)) => Some(search_by(alloc, case, pattern, told)),
+        Ok(None) => None,
+        Err(_) => {
+            told.fail(CaseFault::NoMemory);
+            None
         }
     }
 }
 
-fn name_at(alloc: Global, case: &Case, at: usize) -> Result<Name, CaseFault> {
-    Ok(Name::from_string(String::from_str(alloc, case.text(at)?)?))
+fn search_by(alloc: Global, case: &Case, pattern: PatternText, told: &mut Told) -> Choose {
+    match case.text_at(1, told) {
+        "grep" => Choose::Grep { pattern },
+        "exclude" => Choose::Exclude { pattern },
+        _ => Choose::AliasSub {
+            pattern,
+            replacement: name_at(alloc, case, 3, told),
+        },
+    }
+}
+
+fn name_at(alloc: Global, case: &Case, at: usize, told: &mut Told) -> Name {
+    Name::from_string(string_of(alloc, case.text_at(at, told), told))
 }
 
 // The words from a place on.
-fn nodes_from(alloc: Global, case: &Case, at: usize) -> Result<SignedNodes, CaseFault> {
+fn nodes_from(alloc: Global, case: &Case, at: usize, told: &mut Told) -> SignedNodes {
     let mut nodes = Vec::new(alloc);
     for place in at..case.len() {
-        nodes.push(small_signed(case.text(place)?)?)?;
+        let node = read_small_signed(case.text_at(place, told), told);
+        push_item(&mut nodes, node, told);
     }
-    Ok(SignedNodes::from_vec(nodes))
+    SignedNodes::from_vec(nodes)
+}
+
+// The word is of no function.
+fn none(told: &mut Told) -> Option<Choose> {
+    told.malformed();
+    None
 }
 
 // The functions without an argument.
-fn read_plain(word: &str) -> Result<Choose, CaseFault> {
+fn read_plain(word: &str, told: &mut Told) -> Option<Choose> {
     match word {
-        "aliasByMetric" => Ok(Choose::AliasByMetric),
-        "sortByName" => Ok(Choose::SortByName),
-        "sortByMaxima" => Ok(Choose::SortByMaxima),
-        "sortByTotal" => Ok(Choose::SortByTotal),
-        "sortByMinima" => Ok(Choose::SortByMinima),
-        "removeEmptySeries" => Ok(Choose::RemoveEmptySeries),
-        _ => Err(CaseFault::Malformed),
+        "aliasByMetric" => Some(Choose::AliasByMetric),
+        "sortByName" => Some(Choose::SortByName),
+        "sortByMaxima" => Some(Choose::SortByMaxima),
+        "sortByTotal" => Some(Choose::SortByTotal),
+        "sortByMinima" => Some(Choose::SortByMinima),
+        "removeEmptySeries" => Some(Choose::RemoveEmptySeries),
+        _ => none(told),
     }
 }
 
 // Those with a bound of a measure.
-fn read_bounded(word: &str, bound: Milli) -> Result<Choose, CaseFault> {
+fn read_bounded(word: &str, bound: Milli, told: &mut Told) -> Option<Choose> {
     match word {
-        "maximumAbove" => Ok(Choose::MaximumAbove { bound }),
-        "minimumAbove" => Ok(Choose::MinimumAbove { bound }),
-        "currentAbove" => Ok(Choose::CurrentAbove { bound }),
-        "averageAbove" => Ok(Choose::AverageAbove { bound }),
-        "maximumBelow" => Ok(Choose::MaximumBelow { bound }),
-        "minimumBelow" => Ok(Choose::MinimumBelow { bound }),
-        "currentBelow" => Ok(Choose::CurrentBelow { bound }),
-        "averageBelow" => Ok(Choose::AverageBelow { bound }),
-        _ => read_counted(word, wide(bound)),
+        "maximumAbove" => Some(Choose::MaximumAbove { bound }),
+        "minimumAbove" => Some(Choose::MinimumAbove { bound }),
+        "currentAbove" => Some(Choose::CurrentAbove { bound }),
+        "averageAbove" => Some(Choose::AverageAbove { bound }),
+        "maximumBelow" => Some(Choose::MaximumBelow { bound }),
+        "minimumBelow" => Some(Choose::MinimumBelow { bound }),
+        "currentBelow" => Some(Choose::CurrentBelow { bound }),
+        "averageBelow" => Some(Choose::AverageBelow { bound }),
+        _ => read_counted(word, wide(bound), told),
     }
 }
 
 // Those with a number of series.
-fn read_counted(word: &str, most: i128) -> Result<Choose, CaseFault> {
+fn read_counted(word: &str, most: i128, told: &mut Told) -> Option<Choose> {
     let Ok(most) = u32::try_from(most) else {
-        return Err(CaseFault::Malformed);
+        return none(told);
     };
     match word {
-        "limit" => Ok(Choose::Limit { most }),
-        "highestMax" => Ok(Choose::HighestMax { most }),
-        "highestCurrent" => Ok(Choose::HighestCurrent { most }),
-        "highestAverage" => Ok(Choose::HighestAverage { most }),
-        "lowestCurrent" => Ok(Choose::LowestCurrent { most }),
-        "lowestAverage" => Ok(Choose::LowestAverage { most }),
-        _ => Err(CaseFault::Malformed),
+        "limit" => Some(Choose::Limit { most }),
+        "highestMax" => Some(Choose::HighestMax { most }),
+        "highestCurrent" => Some(Choose::HighestCurrent { most }),
+        "highestAverage" => Some(Choose::HighestAverage { most }),
+        "lowestCurrent" => Some(Choose::LowestCurrent { most }),
+        "lowestAverage" => Some(Choose::LowestAverage { most }),
+        _ => none(told),
     }
 }

@@ -3,48 +3,52 @@
 use crate::combining::read_combine;
 use crate::early::are_combinable;
 use crate::notation::{set_at, write_found};
-use crate::numbers::small_signed;
 use crate::room::plenty;
-use case_lines::{Case, CaseFault};
+use case_lines::{Case, Told, push_item, read_small_signed};
 use series_funcs::{NodeNumbers, Regroup, regroup};
+use series_set::SeriesSet;
 use std::alloc::Global;
 
 /// `regroup SET FUNCTION ARGUMENT..`: the series of its groups, or why there are none. `groupByNode` has a node's number and how a group is
 /// combined, `sumSeriesWithWildcards` and `averageSeriesWithWildcards` have numbers of nodes.
-pub fn tell_groups(alloc: Global, told: &mut String, case: &Case) -> Result<(), CaseFault> {
-    let set = set_at(alloc, case, 0)?;
-    let kind = read_regroup(alloc, case)?;
-    if !are_combinable(set.as_slice()) {
-        return Err(CaseFault::Malformed);
+pub fn tell_groups(alloc: Global, told: &mut Told, case: &Case) {
+    let set = set_at(alloc, case, 0, told);
+    if let Some(kind) = read_regroup(alloc, case, told) {
+        write_groups(alloc, told, &kind, &set);
     }
-    let found = regroup(alloc, &kind, &set, plenty());
-    Ok(write_found(told, found)?)
 }
 
-fn read_regroup(alloc: Global, case: &Case) -> Result<Regroup, CaseFault> {
-    match case.text(1)? {
-        "groupByNode" => {
-            let node = small_signed(case.text(2)?)?;
-            let combine = read_combine(case.text(3)?)?;
-            Ok(Regroup::GroupByNode { node, combine })
+fn write_groups(alloc: Global, told: &mut Told, kind: &Regroup, set: &SeriesSet) {
+    if !are_combinable(set.as_slice()) {
+        return told.malformed();
+    }
+    write_found(told, regroup(alloc, kind, set, &mut plenty()));
+}
+
+fn read_regroup(alloc: Global, case: &Case, told: &mut Told) -> Option<Regroup> {
+    match case.text_at(1, told) {
+        "groupByNode" => Some(Regroup::GroupByNode {
+            node: read_small_signed(case.text_at(2, told), told),
+            combine: read_combine(case.text_at(3, told), told),
+        }),
+        "sumSeriesWithWildcards" => Some(Regroup::SumSeriesWithWildcards {
+            nodes: nodes_from(alloc, case, 2, told),
+        }),
+        "averageSeriesWithWildcards" => Some(Regroup::AverageSeriesWithWildcards {
+            nodes: nodes_from(alloc, case, 2, told),
+        }),
+        _ => {
+            told.malformed();
+            None
         }
-        "sumSeriesWithWildcards" => {
-            let nodes = nodes_from(alloc, case, 2)?;
-            Ok(Regroup::SumSeriesWithWildcards { nodes })
-        }
-        "averageSeriesWithWildcards" => {
-            let nodes = nodes_from(alloc, case, 2)?;
-            Ok(Regroup::AverageSeriesWithWildcards { nodes })
-        }
-        _ => Err(CaseFault::Malformed),
     }
 }
 
 // The words from a place on.
-fn nodes_from(alloc: Global, case: &Case, at: usize) -> Result<NodeNumbers, CaseFault> {
+fn nodes_from(alloc: Global, case: &Case, at: usize, told: &mut Told) -> NodeNumbers {
     let mut nodes = Vec::new(alloc);
     for place in at..case.len() {
-        nodes.push(case.small(place)?)?;
+        push_item(&mut nodes, case.small_at(place, told), told);
     }
-    Ok(NodeNumbers::from_vec(nodes))
+    NodeNumbers::from_vec(nodes)
 }

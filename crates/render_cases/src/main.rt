@@ -11,7 +11,6 @@ mod early;
 mod grids;
 mod groups;
 mod notation;
-mod numbers;
 mod plans;
 mod read_json;
 mod refusals;

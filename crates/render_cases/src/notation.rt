@@ -4,108 +4,119 @@
 //! N times V. Without `@PATH` the path is the name; without `NAME=` the name is `x` and the path `a.b`. A set of series is one word too, with
 //! `;` between them, or `-` where there is none.
 
-use crate::numbers::whole;
-use case_lines::{Case, CaseFault};
-use fixed_num::{Milli, narrow, wide};
+use case_lines::{Case, Told, halves, read_number, string_of};
+use fixed_num::{Milli, narrow, wide, zero};
 use series_set::{EvalFault, Reading, Series, SeriesSet};
-use std::alloc::{AllocError, Global};
+use std::alloc::Global;
 
 /// The series that a word says, where its numbers make one.
-pub fn read_series(alloc: Global, word: &str) -> Result<Option<Series>, CaseFault> {
+pub fn read_series(alloc: Global, word: &str, told: &mut Told) -> Option<Series> {
     let (head, rest) = word.rsplit_once('=').unwrap_or(("x@a.b", word));
     let (name, path) = head.rsplit_once('@').unwrap_or((head, head));
-    let Some((start, rest)) = rest.split_once('/') else {
-        return Err(CaseFault::Malformed);
-    };
-    let Some((step, values)) = rest.split_once(':') else {
-        return Err(CaseFault::Malformed);
-    };
-    let values = read_values(alloc, values)?;
-    let name = String::from_str(alloc, name)?;
-    let path = String::from_str(alloc, path)?;
-    Ok(Series::new(name, path, whole(start)?, whole(step)?, values))
+    let (start, rest) = halves(rest, '/', told);
+    let (step, values) = halves(rest, ':', told);
+    let start = read_number(start, told);
+    let step = read_number(step, told);
+    let values = read_values(alloc, values, told);
+    let name = string_of(alloc, name, told);
+    let path = string_of(alloc, path, told);
+    Series::new(name, path, start, step, values)
 }
 
-fn read_values(alloc: Global, text: &str) -> Result<Vec<Reading>, CaseFault> {
+fn read_values(alloc: Global, text: &str, told: &mut Told) -> Vec<Reading> {
     let mut values = Vec::new(alloc);
     if text.is_empty() {
-        return Ok(values);
+        return values;
     }
     for run in text.split(',') {
-        push_run(alloc, &mut values, run)?;
+        push_run(&mut values, run, told);
     }
-    Ok(values)
+    values
 }
 
 // One value, or some that are the same.
-fn push_run(alloc: Global, values: &mut Vec<Reading>, text: &str) -> Result<(), CaseFault> {
-    let Some((value, count)) = text.split_once('*') else {
-        values.push(read_value(text)?)?;
-        return Ok(());
-    };
-    let run = vec![in alloc; read_value(value)?; whole(count)? as usize]?;
-    values.extend_from_slice(&run)?;
-    Ok(())
+fn push_run(values: &mut Vec<Reading>, text: &str, told: &mut Told) {
+    let (value, count) = text.split_once('*').unwrap_or((text, "1"));
+    let value = read_value(value, told);
+    let count = read_number(count, told) as usize;
+    told.keep(values.resize(values.len().saturating_add(count), value));
 }
 
-fn read_value(text: &str) -> Result<Reading, CaseFault> {
+fn read_value(text: &str, told: &mut Told) -> Reading {
     if text == "_" {
-        return Ok(Reading::missing());
+        return Reading::missing();
     }
-    Ok(Reading::known(known_value(text)?))
+    Reading::known(known_value(text, told))
 }
 
 /// A value in thousandths.
-pub fn known_value(text: &str) -> Result<Milli, CaseFault> {
+pub fn known_value(text: &str, told: &mut Told) -> Milli {
     match text.parse::<i128>() {
-        Ok(number) => narrow(number).ok_or(CaseFault::Malformed),
-        Err(_) => Err(CaseFault::Malformed),
+        Ok(number) => held(narrow(number), told),
+        Err(_) => held(None, told),
     }
 }
 
-fn known_series(alloc: Global, word: &str) -> Result<Series, CaseFault> {
-    read_series(alloc, word)?.ok_or(CaseFault::Malformed)
+fn held(value: Option<Milli>, told: &mut Told) -> Milli {
+    let Some(value) = value else {
+        told.malformed();
+        return zero();
+    };
+    value
+}
+
+fn known_series(alloc: Global, word: &str, told: &mut Told) -> Option<Series> {
+    let series = read_series(alloc, word, told);
+    if series.is_none() {
+        told.malformed();
+    }
+    series
 }
 
 /// The series that is the word at a place.
-pub fn series_at(alloc: Global, case: &Case, at: usize) -> Result<Series, CaseFault> {
-    known_series(alloc, case.text(at)?)
+pub fn series_at(alloc: Global, case: &Case, at: usize, told: &mut Told) -> Option<Series> {
+    known_series(alloc, case.text_at(at, told), told)
 }
 
 /// The set of series that is the word at a place.
-pub fn set_at(alloc: Global, case: &Case, at: usize) -> Result<SeriesSet, CaseFault> {
+pub fn set_at(alloc: Global, case: &Case, at: usize, told: &mut Told) -> SeriesSet {
     let mut set = SeriesSet::new(alloc);
-    let word = case.text(at)?;
+    let word = case.text_at(at, told);
     if word == "-" {
-        return Ok(set);
+        return set;
     }
     for part in word.split(';') {
-        set.push(known_series(alloc, part)?)?;
+        push_known(&mut set, known_series(alloc, part, told), told);
     }
-    Ok(set)
+    set
+}
+
+fn push_known(set: &mut SeriesSet, series: Option<Series>, told: &mut Told) {
+    if let Some(series) = series {
+        told.keep(set.push(series));
+    }
 }
 
 /// The series that are the words from a place on.
-pub fn series_from(alloc: Global, case: &Case, at: usize) -> Result<SeriesSet, CaseFault> {
+pub fn series_from(alloc: Global, case: &Case, at: usize, told: &mut Told) -> SeriesSet {
     let mut set = SeriesSet::new(alloc);
     for place in at..case.len() {
-        set.push(series_at(alloc, case, place)?)?;
+        push_known(&mut set, series_at(alloc, case, place, told), told);
     }
-    Ok(set)
+    set
 }
 
 /// Writes values with commas between.
-pub fn write_values(told: &mut String, values: &[Reading]) -> Result<(), AllocError> {
+pub fn write_values(told: &mut Told, values: &[Reading]) {
     let mut between = "";
     for value in values {
-        told.push_str(between)?;
-        write_value(told, value.get())?;
+        told.push_str(between);
+        write_value(told, value.get());
         between = ",";
     }
-    Ok(())
 }
 
-fn write_value(told: &mut String, value: Option<Milli>) -> Result<(), AllocError> {
+fn write_value(told: &mut Told, value: Option<Milli>) {
     match value {
         Some(value) => write!(told, "{}", wide(value)),
         None => told.push('_'),
@@ -113,53 +124,48 @@ fn write_value(told: &mut String, value: Option<Milli>) -> Result<(), AllocError
 }
 
 /// Writes a series as the word that says it.
-pub fn write_series(told: &mut String, series: &Series) -> Result<(), AllocError> {
-    told.push_str(series.name())?;
+pub fn write_series(told: &mut Told, series: &Series) {
+    told.push_str(series.name());
     if series.path() != series.name() {
-        write!(told, "@{}", series.path())?;
+        write!(told, "@{}", series.path());
     }
-    write_points(told, series)
+    write_points(told, series);
 }
 
 /// Writes a series as a word, without its path.
-pub fn write_named(told: &mut String, series: &Series) -> Result<(), AllocError> {
-    told.push_str(series.name())?;
-    write_points(told, series)
+pub fn write_named(told: &mut Told, series: &Series) {
+    told.push_str(series.name());
+    write_points(told, series);
 }
 
-fn write_points(told: &mut String, series: &Series) -> Result<(), AllocError> {
-    write!(told, "={}/{}:", series.start(), series.step())?;
-    write_values(told, series.values())
+fn write_points(told: &mut Told, series: &Series) {
+    write!(told, "={}/{}:", series.start(), series.step());
+    write_values(told, series.values());
 }
 
 /// Writes the series that were found, with a blank between, or why there are none.
-pub fn write_found(
-    told: &mut String,
-    found: Result<SeriesSet, EvalFault>,
-) -> Result<(), AllocError> {
+pub fn write_found(told: &mut Told, found: Result<SeriesSet, EvalFault>) {
     match found {
         Ok(set) => write_set(told, &set),
         Err(fault) => write!(told, "{fault}"),
     }
 }
 
-fn write_set(told: &mut String, set: &SeriesSet) -> Result<(), AllocError> {
+fn write_set(told: &mut Told, set: &SeriesSet) {
     let mut between = "";
     for series in set.as_slice() {
-        told.push_str(between)?;
-        write_series(told, series)?;
+        told.push_str(between);
+        write_series(told, series);
         between = " ";
     }
-    Ok(())
 }
 
 /// Writes the names of series, with `|` between.
-pub fn write_names(told: &mut String, set: &SeriesSet) -> Result<(), AllocError> {
+pub fn write_names(told: &mut Told, set: &SeriesSet) {
     let mut between = "";
     for series in set.as_slice() {
-        told.push_str(between)?;
-        told.push_str(series.name())?;
+        told.push_str(between);
+        told.push_str(series.name());
         between = "|";
     }
-    Ok(())
 }

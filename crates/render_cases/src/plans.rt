@@ -1,8 +1,8 @@
 //! Queries that are read at the moment 1,700,000,030.
 
-use case_lines::{Case, CaseFault};
+use case_lines::{Case, Told};
 use render_plan::{Format, Need, QueryFault, RenderPlan};
-use std::alloc::{AllocError, Global};
+use std::alloc::Global;
 
 /// The moment of every query.
 const NOW: u64 = 1_700_000_030;
@@ -14,10 +14,10 @@ pub fn read_plan(alloc: Global, query: &[u8], body: &[u8]) -> Result<RenderPlan,
 
 /// `check QUERY BODY`, `plan QUERY BODY`, `format QUERY BODY`: `well`, what the query needs, or the form of its answer; or why it is refused.
 /// The body may be left out.
-pub fn tell(alloc: Global, told: &mut String, case: &Case) -> Result<(), CaseFault> {
-    match read_plan(alloc, case.bytes(0)?, body_of(case)) {
-        Ok(plan) => Ok(tell_plan(told, case.verb(), &plan)?),
-        Err(fault) => Ok(write!(told, "{fault}")?),
+pub fn tell(alloc: Global, told: &mut Told, case: &Case) {
+    match read_plan(alloc, case.bytes_at(0, told), body_of(case)) {
+        Ok(plan) => tell_plan(told, case.verb(), &plan),
+        Err(fault) => write!(told, "{fault}"),
     }
 }
 
@@ -28,7 +28,7 @@ fn body_of(case: &Case) -> &[u8] {
     }
 }
 
-fn tell_plan(told: &mut String, verb: &str, plan: &RenderPlan) -> Result<(), AllocError> {
+fn tell_plan(told: &mut Told, verb: &str, plan: &RenderPlan) {
     match verb {
         "check" => told.push_str("well"),
         "plan" => write_needs(told, plan.needs()),
@@ -37,14 +37,13 @@ fn tell_plan(told: &mut String, verb: &str, plan: &RenderPlan) -> Result<(), All
 }
 
 // Each need: its glob, the first end and the second.
-fn write_needs(told: &mut String, needs: &[Need]) -> Result<(), AllocError> {
+fn write_needs(told: &mut Told, needs: &[Need]) {
     let mut between = "";
     for need in needs {
         let glob = str::from_utf8(need.glob.text()).unwrap_or("?");
-        write!(told, "{between}{glob} {} {}", need.from, need.until)?;
+        write!(told, "{between}{glob} {} {}", need.from, need.until);
         between = "; ";
     }
-    Ok(())
 }
 
 fn format_word(format: Format) -> &'static str {

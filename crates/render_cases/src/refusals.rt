@@ -1,70 +1,77 @@
 //! The words of refusals.
 
-use crate::answers::write_text;
-use case_lines::{Case, CaseFault};
+use crate::answers::write_made;
+use case_lines::{Case, Told};
 use render_answer::Refusal;
 use render_plan::{QueryFault, TargetCause};
 use series_set::EvalFault;
-use std::alloc::{AllocError, Global};
+use std::alloc::Global;
 
 /// `refusal WHY NUMBER..`, `fault WHY NUMBER..`: the refusal, as an answer tells it; the fault of a query or of its values behind it, as it is
 /// written. A `WHY` is a fault's words as they are told, with `-` for each blank and without numbers.
-pub fn tell(alloc: Global, told: &mut String, case: &Case) -> Result<(), CaseFault> {
-    let why = read_refusal(case)?;
+pub fn tell(alloc: Global, told: &mut Told, case: &Case) {
+    let why = read_refusal(case, told);
     match case.verb() {
-        "refusal" => write_text(told, why.text(alloc)?.as_slice()),
-        _ => Ok(write_fault(told, &why)?),
+        "refusal" => write_made(told, why.text(alloc)),
+        _ => write_fault(told, &why),
     }
 }
 
-fn write_fault(told: &mut String, why: &Refusal) -> Result<(), AllocError> {
+fn write_fault(told: &mut Told, why: &Refusal) {
     match why {
         Refusal::Query(fault) => write!(told, "{fault}"),
         Refusal::StepTooWide(step) => write!(told, "{}", EvalFault::StepTooWide(*step)),
         Refusal::GridTooLong(count) => write!(told, "{}", EvalFault::TooLong(*count)),
-        Refusal::TooManySeries(_) | Refusal::TooManyPoints(_) => Ok(()),
+        Refusal::TooManySeries(_) | Refusal::TooManyPoints(_) => {}
     }
 }
 
-fn read_refusal(case: &Case) -> Result<Refusal, CaseFault> {
+fn read_refusal(case: &Case, told: &mut Told) -> Refusal {
     if case.len() == 1 {
-        return Ok(Refusal::Query(read_plain(case.text(0)?)?));
+        return Refusal::Query(read_plain(case.text_at(0, told), told));
     }
-    match case.text(0)? {
-        "too-many-series" => Ok(Refusal::TooManySeries(case.number(1)?)),
-        "too-many-points" => Ok(Refusal::TooManyPoints(case.number(1)?)),
-        "step-too-wide" => Ok(Refusal::StepTooWide(case.number(1)?)),
-        "grid-too-long" => Ok(Refusal::GridTooLong(case.number(1)?)),
-        _ => Ok(Refusal::Query(read_of_target(case)?)),
+    let number = case.number_at(1, told);
+    match case.text_at(0, told) {
+        "too-many-series" => Refusal::TooManySeries(number),
+        "too-many-points" => Refusal::TooManyPoints(number),
+        "step-too-wide" => Refusal::StepTooWide(number),
+        "grid-too-long" => Refusal::GridTooLong(number),
+        _ => Refusal::Query(read_of_target(case, told)),
     }
 }
 
 // The faults of a target, whose number comes first.
-fn read_of_target(case: &Case) -> Result<QueryFault, CaseFault> {
-    let target = case.small(1)?;
-    match case.text(0)? {
+fn read_of_target(case: &Case, told: &mut Told) -> QueryFault {
+    let target = case.small_at(1, told);
+    match case.text_at(0, told) {
         "unreadable" => {
-            let place = case.number(2)? as usize;
-            Ok(QueryFault::Target(target, TargetCause::At(place)))
+            let place = case.number_at(2, told) as usize;
+            QueryFault::Target(target, TargetCause::At(place))
         }
-        "too-deep" => Ok(QueryFault::Target(target, TargetCause::TooDeep)),
-        "too-long" => Ok(QueryFault::Target(target, TargetCause::TooLong)),
-        "unknown-function" => Ok(QueryFault::UnknownFunction(target)),
-        "bad-argument" => Ok(QueryFault::BadArgument(target)),
-        _ => Err(CaseFault::Malformed),
+        "too-deep" => QueryFault::Target(target, TargetCause::TooDeep),
+        "too-long" => QueryFault::Target(target, TargetCause::TooLong),
+        "unknown-function" => QueryFault::UnknownFunction(target),
+        "bad-argument" => QueryFault::BadArgument(target),
+        _ => {
+            told.malformed();
+            QueryFault::NoTarget
+        }
     }
 }
 
 // The faults without a number.
-fn read_plain(word: &str) -> Result<QueryFault, CaseFault> {
+fn read_plain(word: &str, told: &mut Told) -> QueryFault {
     match word {
-        "no-target" => Ok(QueryFault::NoTarget),
-        "too-many-targets" => Ok(QueryFault::TooManyTargets),
-        "bad-time" => Ok(QueryFault::BadTime),
-        "from-after-until" => Ok(QueryFault::BadRange),
-        "bad-format" => Ok(QueryFault::BadFormat),
-        "bad-maxDataPoints" => Ok(QueryFault::BadPoints),
-        "no-memory" => Ok(QueryFault::NoMemory),
-        _ => Err(CaseFault::Malformed),
+        "no-target" => QueryFault::NoTarget,
+        "too-many-targets" => QueryFault::TooManyTargets,
+        "bad-time" => QueryFault::BadTime,
+        "from-after-until" => QueryFault::BadRange,
+        "bad-format" => QueryFault::BadFormat,
+        "bad-maxDataPoints" => QueryFault::BadPoints,
+        "no-memory" => QueryFault::NoMemory,
+        _ => {
+            told.malformed();
+            QueryFault::NoTarget
+        }
     }
 }

@@ -3,7 +3,7 @@ ghost use Rattle.std.specs.Prelude.{◌≤◌, All, IsTrue, length};
 ghost use Rattle.render_plan.specs.Bounds.{AreRows, IsEarly, latest_row_end};
 
 use crate::notation::set_at;
-use case_lines::{Case, CaseFault};
+use case_lines::{Case, CaseFault, Told};
 use metric_path::MetricPath;
 use render_plan::Need;
 use series_set::{Series, SeriesRows, SeriesSet, WIDEST_STEP};
@@ -13,12 +13,13 @@ use std::alloc::Global;
 const LATEST_ROW_END: u64 = 5_000_000_000;
 
 /// The sets that are the words from a place on.
-pub fn rows_from(alloc: Global, case: &Case, at: usize) -> Result<SeriesRows, CaseFault> {
+pub fn rows_from(alloc: Global, case: &Case, at: usize, told: &mut Told) -> SeriesRows {
     let mut rows = SeriesRows::new(alloc);
     for place in at..case.len() {
-        rows.push(set_at(alloc, case, place)?)?;
+        let set = set_at(alloc, case, place, told);
+        told.keep(rows.push(set));
     }
-    Ok(rows)
+    rows
 }
 
 /// For each need those series that it finds, in their order.
@@ -26,28 +27,40 @@ pub fn rows_found(
     alloc: Global,
     needs: &[Need],
     series: &SeriesSet,
-) -> Result<SeriesRows, CaseFault> {
+    told: &mut Told,
+) -> SeriesRows {
     let mut rows = SeriesRows::new(alloc);
     for need in needs {
-        rows.push(found(alloc, need, series.as_slice())?)?;
+        let set = found(alloc, need, series.as_slice(), told);
+        told.keep(rows.push(set));
     }
-    Ok(rows)
+    rows
 }
 
-fn found(alloc: Global, need: &Need, series: &[Series]) -> Result<SeriesSet, CaseFault> {
+fn found(alloc: Global, need: &Need, series: &[Series], told: &mut Told) -> SeriesSet {
     let mut set = SeriesSet::new(alloc);
     for one in series {
-        if finds(alloc, need, one)? {
-            set.push(one.copy()?)?;
+        if finds(alloc, need, one, told) {
+            push_copy(&mut set, one, told);
         }
     }
-    Ok(set)
+    set
 }
 
-fn finds(alloc: Global, need: &Need, series: &Series) -> Result<bool, CaseFault> {
+fn push_copy(set: &mut SeriesSet, series: &Series, told: &mut Told) {
+    match series.copy() {
+        Ok(copy) => told.keep(set.push(copy)),
+        Err(_) => told.fail(CaseFault::NoMemory),
+    }
+}
+
+fn finds(alloc: Global, need: &Need, series: &Series, told: &mut Told) -> bool {
     match MetricPath::new(alloc, series.path().as_bytes()) {
-        Ok(path) => Ok(need.glob.matches(&path)),
-        Err(_) => Err(CaseFault::Malformed),
+        Ok(path) => need.glob.matches(&path),
+        Err(_) => {
+            told.malformed();
+            false
+        }
     }
 }
 

@@ -5,7 +5,7 @@ ghost use Rattle.series_funcs.specs.Moved.{HasStep, lateness};
 
 use crate::notation::{known_value, set_at, write_found};
 use crate::room::plenty;
-use case_lines::{Case, CaseFault};
+use case_lines::{Case, Told, read_signed, read_small};
 use series_funcs::{CallName, Gather, Shape, shape};
 use series_set::{LATEST_END, Series, WIDEST_STEP};
 use std::alloc::Global;
@@ -13,17 +13,17 @@ use std::alloc::Global;
 /// `shape SET FUNCTION ARGUMENT..`: what the function makes of the series, by the call `f(SERIES,1)`, or why there is nothing. Arguments are
 /// whole numbers: the values are in thousandths, the factor of `scale` in billionths. `summarize` has a step and how values are gathered,
 /// `timeShift` has `past` or `future` and the seconds.
-pub fn tell_shape(alloc: Global, told: &mut String, case: &Case) -> Result<(), CaseFault> {
-    let set = set_at(alloc, case, 0)?;
-    let kind = read_shape(case)?;
+pub fn tell_shape(alloc: Global, told: &mut Told, case: &Case) {
+    let kind = read_shape(case, told);
+    let set = set_at(alloc, case, 0, told);
     if !are_early_for(&kind, set.as_slice()) || !has_step(&kind) {
-        return Err(CaseFault::Malformed);
+        return told.malformed();
     }
     let call = CallName {
         function: "f",
         tail: ",1",
     };
-    Ok(write_found(told, shape(alloc, &kind, set, &call, plenty()))?)
+    write_found(told, shape(alloc, &kind, set, &call, &mut plenty()));
 }
 
 fn are_early_for(kind: &Shape, series: &[Series]) -> bool
@@ -49,78 +49,107 @@ fn has_step(kind: &Shape) -> bool
     }
 }
 
-fn read_shape(case: &Case) -> Result<Shape, CaseFault> {
-    if case.len() == 2 {
-        return read_plain(case.text(1)?);
+fn read_shape(case: &Case, told: &mut Told) -> Shape {
+    let word = case.text_at(1, told);
+    match case.len() {
+        2 => read_plain(word, told),
+        3 => read_numbered(word, case.text_at(2, told), told),
+        _ => read_timed(word, case, told),
     }
-    match case.text(1)? {
-        "scale" => Ok(Shape::Scale {
-            billionths: case.signed(2)?,
-        }),
-        "offset" => Ok(Shape::Offset {
-            by: known_value(case.text(2)?)?,
-        }),
-        "delay" => Ok(Shape::Delay {
-            places: case.small(2)?,
-        }),
-        "keepLastValue" => Ok(Shape::KeepLastValue {
-            most: Some(case.small(2)?),
-        }),
-        "transformNull" => Ok(Shape::TransformNull {
-            value: known_value(case.text(2)?)?,
-        }),
-        "removeAboveValue" => Ok(Shape::RemoveAboveValue {
-            most: known_value(case.text(2)?)?,
-        }),
-        "removeBelowValue" => Ok(Shape::RemoveBelowValue {
-            least: known_value(case.text(2)?)?,
-        }),
-        "scaleToSeconds" => Ok(Shape::ScaleToSeconds {
-            seconds: case.small(2)?,
-        }),
-        "summarize" => Ok(Shape::Summarize {
-            step: case.small(2)?,
-            gather: read_gather(case.text(3)?)?,
-        }),
-        "timeShift" => Ok(Shape::TimeShift {
-            past: is_past(case.text(2)?)?,
-            seconds: case.number(3)?,
-        }),
-        _ => Err(CaseFault::Malformed),
+}
+
+// The functions with a number.
+fn read_numbered(word: &str, number: &str, told: &mut Told) -> Shape {
+    match word {
+        "scale" => Shape::Scale {
+            billionths: read_signed(number, told),
+        },
+        "offset" => Shape::Offset {
+            by: known_value(number, told),
+        },
+        "delay" => Shape::Delay {
+            places: read_small(number, told),
+        },
+        "keepLastValue" => Shape::KeepLastValue {
+            most: Some(read_small(number, told)),
+        },
+        "transformNull" => Shape::TransformNull {
+            value: known_value(number, told),
+        },
+        "removeAboveValue" => Shape::RemoveAboveValue {
+            most: known_value(number, told),
+        },
+        "removeBelowValue" => Shape::RemoveBelowValue {
+            least: known_value(number, told),
+        },
+        "scaleToSeconds" => Shape::ScaleToSeconds {
+            seconds: read_small(number, told),
+        },
+        _ => {
+            told.malformed();
+            Shape::Absolute
+        }
+    }
+}
+
+// The functions with a word and a number.
+fn read_timed(word: &str, case: &Case, told: &mut Told) -> Shape {
+    match word {
+        "summarize" => Shape::Summarize {
+            step: case.small_at(2, told),
+            gather: read_gather(case.text_at(3, told), told),
+        },
+        "timeShift" => Shape::TimeShift {
+            past: is_past(case.text_at(2, told), told),
+            seconds: case.number_at(3, told),
+        },
+        _ => {
+            told.malformed();
+            Shape::Absolute
+        }
     }
 }
 
 // The functions without an argument.
-fn read_plain(word: &str) -> Result<Shape, CaseFault> {
+fn read_plain(word: &str, told: &mut Told) -> Shape {
     match word {
-        "absolute" => Ok(Shape::Absolute),
-        "offsetToZero" => Ok(Shape::OffsetToZero),
-        "derivative" => Ok(Shape::Derivative),
-        "nonNegativeDerivative" => Ok(Shape::NonNegativeDerivative),
-        "perSecond" => Ok(Shape::PerSecond),
-        "integral" => Ok(Shape::Integral),
-        "keepLastValue" => Ok(Shape::KeepLastValue { most: None }),
-        "isNonNull" => Ok(Shape::IsNonNull),
-        "changed" => Ok(Shape::Changed),
-        _ => Err(CaseFault::Malformed),
+        "absolute" => Shape::Absolute,
+        "offsetToZero" => Shape::OffsetToZero,
+        "derivative" => Shape::Derivative,
+        "nonNegativeDerivative" => Shape::NonNegativeDerivative,
+        "perSecond" => Shape::PerSecond,
+        "integral" => Shape::Integral,
+        "keepLastValue" => Shape::KeepLastValue { most: None },
+        "isNonNull" => Shape::IsNonNull,
+        "changed" => Shape::Changed,
+        _ => {
+            told.malformed();
+            Shape::Absolute
+        }
     }
 }
 
-fn read_gather(word: &str) -> Result<Gather, CaseFault> {
+fn read_gather(word: &str, told: &mut Told) -> Gather {
     match word {
-        "sum" => Ok(Gather::Sum),
-        "avg" => Ok(Gather::Average),
-        "max" => Ok(Gather::Max),
-        "min" => Ok(Gather::Min),
-        "last" => Ok(Gather::Last),
-        _ => Err(CaseFault::Malformed),
+        "sum" => Gather::Sum,
+        "avg" => Gather::Average,
+        "max" => Gather::Max,
+        "min" => Gather::Min,
+        "last" => Gather::Last,
+        _ => {
+            told.malformed();
+            Gather::Sum
+        }
     }
 }
 
-fn is_past(word: &str) -> Result<bool, CaseFault> {
+fn is_past(word: &str, told: &mut Told) -> bool {
     match word {
-        "past" => Ok(true),
-        "future" => Ok(false),
-        _ => Err(CaseFault::Malformed),
+        "past" => true,
+        "future" => false,
+        _ => {
+            told.malformed();
+            false
+        }
     }
 }

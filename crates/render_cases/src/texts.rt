@@ -3,36 +3,39 @@ ghost use Rattle.std.specs.Prelude.{◌≤◌, All, IsTrue};
 ghost use Rattle.render_json.specs.Csv.{latest_csv_end};
 ghost use Rattle.series_set.specs.Series.{end_of};
 
-use crate::answers::write_text;
+use crate::answers::{write_made, write_text};
 use crate::notation::series_from;
 use crate::room::plenty;
-use case_lines::{Case, CaseFault};
+use case_lines::{Case, CaseFault, Told};
 use render_json::{LATEST_CSV_END, csv_text, json_text, raw_text};
 use serde_json::Value;
 use series_set::{Series, SeriesSet};
 use std::alloc::Global;
 
 /// Tells what the case of one of these verbs tells.
-pub fn tell(alloc: Global, told: &mut String, case: &Case) -> Result<(), CaseFault> {
+pub fn tell(alloc: Global, told: &mut Told, case: &Case) {
+    let set = series_from(alloc, case, 0, told);
     match case.verb() {
-        "json" => tell_json(alloc, told, case),
-        "raw" => {
-            let set = series_from(alloc, case, 0)?;
-            write_text(told, raw_text(alloc, set, &plenty())?.as_slice())
-        }
-        _ => tell_csv(alloc, told, series_from(alloc, case, 0)?),
+        "json" => tell_json(alloc, told, case, set),
+        "raw" => write_made(told, raw_text(alloc, set, &plenty())),
+        _ => tell_csv(alloc, told, set),
     }
 }
 
 /// `json SERIES..`: their JSON; behind it ` misread` where a reader of JSON finds other names in it, or other numbers of points.
-fn tell_json(alloc: Global, told: &mut String, case: &Case) -> Result<(), CaseFault> {
-    let text = json_text(alloc, series_from(alloc, case, 0)?, &plenty())?;
-    write_text(told, text.as_slice())?;
-    let set = series_from(alloc, case, 0)?;
-    if !reads_back(alloc, text.as_slice(), set.as_slice()) {
-        told.push_str(" misread")?;
+fn tell_json(alloc: Global, told: &mut Told, case: &Case, set: SeriesSet) {
+    match json_text(alloc, set, &plenty()) {
+        Ok(text) => tell_text(alloc, told, case, text.as_slice()),
+        Err(_) => told.fail(CaseFault::NoMemory),
     }
-    Ok(())
+}
+
+fn tell_text(alloc: Global, told: &mut Told, case: &Case, text: &[u8]) {
+    write_text(told, text);
+    let set = series_from(alloc, case, 0, told);
+    if !reads_back(alloc, text, set.as_slice()) {
+        told.push_str(" misread");
+    }
 }
 
 // Whether a text reads as a list of objects with these names and as many points.
@@ -57,11 +60,11 @@ fn is_read(object: &Value, series: &Series) -> bool {
 }
 
 /// `csv SERIES..`: their comma-separated values.
-fn tell_csv(alloc: Global, told: &mut String, set: SeriesSet) -> Result<(), CaseFault> {
+fn tell_csv(alloc: Global, told: &mut Told, set: SeriesSet) {
     if !have_dates(&set) {
-        return Err(CaseFault::Malformed);
+        return told.malformed();
     }
-    write_text(told, csv_text(alloc, set, &plenty())?.as_slice())
+    write_made(told, csv_text(alloc, set, &plenty()));
 }
 
 fn have_dates(set: &SeriesSet) -> bool

@@ -16,11 +16,12 @@ use crate::needs::MOST_DEPTH;
 use crate::settings::{Format, Settings};
 use crate::target::Target;
 use crate::value::{exchange, size_of, values_of};
+use crate::work;
 use series_set::{Allowance, EvalFault, SeriesSet, thin};
 use std::alloc::{AllocError, Global};
 use std::collections::VecDeque;
 
-/// The series of targets in order, over a row of series for each of their paths. Their room stays taken.
+/// The series of targets in order, over a row of series for each of their paths. Their room stays taken, and what work is done.
 #[tactic(auto, using(crate::proofs::ValueLemmas::thinnable))]
 pub(crate) fn answer_of(
     alloc: Global,
@@ -45,6 +46,7 @@ pub(crate) fn answer_of(
     let all = concat(alloc, sets)?;
     let before = all.size();
     let most = most_of(settings.format, settings.points);
+    room.spend(work::of_thinning(most, &all))?;
     let answer = thinned_all(alloc, most, all)?;
     exchange(room, before, &answer)?;
     Ok(answer)

@@ -16,12 +16,12 @@ use series_pick::{Choose, choose};
 use series_set::{Allowance, EvalFault, SeriesSet};
 use std::alloc::{AllocError, Global};
 
-/// What a call makes of the series of its arguments, in the room that is left beside them.
+/// What a call makes of the series of its arguments, in the room that is left beside them. What work it takes is gone.
 pub(crate) fn applied(
     alloc: Global,
     operation: &Operation,
     sets: Vec<SeriesSet>,
-    room: Allowance,
+    room: &mut Allowance,
 ) -> Result<SeriesSet, EvalFault>
     requires sound { IsSoundOperation operation.now }
     requires limited { AreLimited (concat sets.items) }
@@ -60,7 +60,7 @@ fn combined(
     sets: Vec<SeriesSet>,
     name: &str,
     path: &str,
-    room: Allowance,
+    room: &mut Allowance,
 ) -> Result<SeriesSet, EvalFault>
     requires { AreLimited (concat sets.items) }
     ensures ok { IfOk result (λ set. combine kind (concat sets.items) name.now path.now ≡ Ok set) }
@@ -74,7 +74,11 @@ fn combined(
 }
 
 #[tactic(auto, using(crate::proofs::ApplyLemmas::combinable_first, crate::proofs::ApplyLemmas::combinable_second, crate::proofs::ApplyLemmas::divided_made))]
-fn divided(alloc: Global, sets: Vec<SeriesSet>, room: Allowance) -> Result<SeriesSet, EvalFault>
+fn divided(
+    alloc: Global,
+    sets: Vec<SeriesSet>,
+    room: &mut Allowance,
+) -> Result<SeriesSet, EvalFault>
     requires { AreLimited (concat sets.items) }
     ensures ok { IfOk result (λ set. divide (nth sets.items 0) (nth sets.items 1) ≡ Ok set) }
     ensures err { IfErr result (λ fault. fault ≢ NoMemory
@@ -116,7 +120,7 @@ fn shaped(
     kind: &Shape,
     sets: Vec<SeriesSet>,
     call: &CallName,
-    room: Allowance,
+    room: &mut Allowance,
 ) -> Result<SeriesSet, EvalFault>
     requires sound { IsSoundShape kind.now }
     requires limited { AreLimited (concat sets.items) }
@@ -136,7 +140,7 @@ fn chosen(
     alloc: Global,
     kind: &Choose,
     sets: Vec<SeriesSet>,
-    room: Allowance,
+    room: &mut Allowance,
 ) -> Result<SeriesSet, AllocError>
     ensures value { IfOk result (Chooses kind.now (nth sets.items 0)) }
     ensures made { IfOk result (IsMade (concat sets.items)) }
@@ -151,7 +155,7 @@ fn regrouped(
     alloc: Global,
     kind: &Regroup,
     sets: Vec<SeriesSet>,
-    room: Allowance,
+    room: &mut Allowance,
 ) -> Result<SeriesSet, EvalFault>
     requires { AreLimited (concat sets.items) }
     ensures ok { IfOk result (λ set. regroup kind.now (nth sets.items 0) ≡ Ok set) }

@@ -18,6 +18,7 @@ mod shape;
 mod target;
 mod targets;
 mod value;
+mod work;
 
 pub use fault::{QueryFault, TargetCause};
 pub use laws::the_last_text_of_a_parameter_holds;

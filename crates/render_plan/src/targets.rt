@@ -9,11 +9,15 @@ ghost use Rattle.render_plan.specs.declared.fault.QueryFault.TheVariants.{NoMemo
 use crate::check::{Refusal, checked};
 use crate::fault::{QueryFault, TargetCause};
 use crate::target::Target;
+use name_pattern::classes_in;
 use std::alloc::{AllocError, Global};
 use target_parse::{TargetFault, Word, parse};
 
 // The most targets of a query.
 const MOST_TARGETS: usize = 128;
+
+// The most classes of the patterns of a query: each takes microseconds to read, and there is no room yet that these are taken from.
+const MOST_CLASSES: usize = 32_768;
 
 /// What the targets of a query ask, or the first that is refused; and first of all, whether there are too few or too many.
 #[tactic(auto, using(crate::proofs::SoundLemmas::all_sound))]
@@ -30,8 +34,20 @@ pub(crate) fn targets_or_fault(alloc: Global, texts: &[Word]) -> Result<Vec<Targ
     if texts.len() > MOST_TARGETS {
         return Err(QueryFault::TooManyTargets);
     }
+    if classes_of(texts) > MOST_CLASSES {
+        return Err(QueryFault::NoMemory);
+    }
     let targets = read_all(alloc, texts)?;
     Ok(targets)
+}
+
+// How many classes the patterns in some texts have, at most.
+fn classes_of(texts: &[Word]) -> usize {
+    let mut all: usize = 0;
+    for text in texts {
+        all = all.saturating_add(classes_in(text.as_str().as_bytes()));
+    }
+    all
 }
 
 // What some targets ask, or the first that is refused.

@@ -9,12 +9,13 @@ ghost use Rattle.render_plan.specs.Values.{HasValue, HaveValues, concat, nth, pa
 
 use crate::apply::applied;
 use crate::target::Target;
+use crate::work;
 use series_set::{Allowance, EvalFault, SeriesSet, Size};
 use std::alloc::{AllocError, Global};
 use std::collections::VecDeque;
 
 /// The values of targets whose calls nest at most so many levels deep, over a row of series for each of their paths. These rows are taken from
-/// the front, and the others are left. Of the room, which that of the rows is taken from, that of the values stays taken.
+/// the front, and the others are left. Of the room, which that of the rows is taken from, that of the values stays taken, and all work that is done.
 #[cycle(value)]
 pub(crate) fn values_of(
     alloc: Global,
@@ -72,7 +73,10 @@ fn value_of(
             let inner = inner_of(levels);
             let sets = values_of(alloc, targets, rows, inner, room)?;
             let before = size_of(&sets);
-            let set = applied(alloc, operation, sets, *room)?;
+            room.spend(work::of_call(&sets))?;
+            let mut left = *room;
+            let set = applied(alloc, operation, sets, &mut left)?;
+            *room = room.worked(left);
             exchange(room, before, &set)?;
             return Ok(set);
         }

@@ -3,10 +3,10 @@ ghost use Rattle.point_cache.specs.Points.{IsRising};
 
 use crate::fetches::are_legal;
 use crate::rings::{case_fault_of, disk_of, put_cell, put_piece, read_of};
-use crate::told::{tell_blank, tell_value, tell_whether};
-use crate::words::{Place, layout_of, path_in, place_in, points_in};
+use crate::told::{tell_value, tell_whether};
+use crate::words::{path_in, place_in, points_in};
 use archive_update::plan;
-use case_lines::{Case, CaseFault, small_in, text_in};
+use case_lines::{Case, CaseFault, Told, read_small, read_text};
 use fixed_num::{Milli, wide};
 use outside_io::DiskCalls;
 use ring_archive::RingView;
@@ -59,11 +59,12 @@ impl Kept {
     }
 
     // The step of an archive.
-    fn step(&self, archive: u32) -> Result<u32, CaseFault> {
+    fn step(&self, archive: u32, told: &mut Told) -> u32 {
         if archive >= self.layout.archive_count() {
-            return Err(CaseFault::Malformed);
+            told.malformed();
+            return 0;
         }
-        Ok(self.layout.archive(archive).step)
+        self.layout.archive(archive).step
     }
 
     /// The value of a bucket of an archive.
@@ -131,89 +132,93 @@ fn value_in(
 /// `ARCHIVE/LAST-COUNT` tells those values that are known of so many buckets up to a last one, each as `PLACE:VALUE,`, counted back from it,
 /// and a stop.
 /// Of the last drain `reads` tells how often the disk was read, `longest` the most bytes of a read, and `reads<=N` whether it is at most N.
-pub fn tell_batch(alloc: Global, told: &mut String, case: &Case) -> Result<(), CaseFault> {
-    let layout = layout_of(alloc, case)?;
-    let mut kept = Kept::new(alloc, layout)?;
-    take_words(alloc, told, &mut kept, case.rest(3))
+pub fn tell_batch(alloc: Global, told: &mut Told, case: &Case, layout: Layout) {
+    match Kept::new(alloc, layout) {
+        Ok(kept) => take_words(alloc, told, kept, case.rest(3)),
+        Err(_) => told.fail(CaseFault::NoMemory),
+    }
 }
 
-fn take_words(
-    alloc: Global,
-    told: &mut String,
-    kept: &mut Kept,
-    words: &[Vec<u8>],
-) -> Result<(), CaseFault> {
+fn take_words(alloc: Global, told: &mut Told, kept: Kept, words: &[Vec<u8>]) {
+    let mut kept = kept;
     for word in words {
-        take_word(alloc, told, kept, text_in(word)?)?;
+        let word = read_text(word, told);
+        take_word(alloc, told, &mut kept, word);
     }
-    Ok(())
 }
 
-fn take_word(
-    alloc: Global,
-    told: &mut String,
-    kept: &mut Kept,
-    word: &str,
-) -> Result<(), CaseFault> {
+fn take_word(alloc: Global, told: &mut Told, kept: &mut Kept, word: &str) {
     if let Some((points, now)) = word.split_once('@') {
-        return drain_word(alloc, kept, points, small_in(now)?);
+        return drain_word(alloc, told, kept, points, now);
     }
-    tell_blank(told)?;
+    told.push_blank();
     if let Some((last, count)) = word.split_once('-') {
-        return tell_row(alloc, told, kept, place_in(last)?, small_in(count)?);
+        return tell_row(alloc, told, kept, last, count);
     }
     if word.contains('/') {
-        let place = place_in(word)?;
-        let value = kept.value(alloc, place.archive, place.at)?;
-        return Ok(tell_value(told, value)?);
+        return tell_bucket(alloc, told, kept, word);
     }
-    tell_calls(told, kept.calls, word)
+    tell_calls(told, kept.calls, word);
 }
 
-fn tell_row(
-    alloc: Global,
-    told: &mut String,
-    kept: &Kept,
-    last: Place,
-    count: u32,
-) -> Result<(), CaseFault> {
-    let step = kept.step(last.archive)?;
-    for place in 0..count {
+fn tell_bucket(alloc: Global, told: &mut Told, kept: &Kept, word: &str) {
+    let place = place_in(word, told);
+    match kept.value(alloc, place.archive, place.at) {
+        Ok(value) => tell_value(told, value),
+        Err(fault) => told.fail(fault),
+    }
+}
+
+fn tell_row(alloc: Global, told: &mut Told, kept: &Kept, last: &str, count: &str) {
+    let last = place_in(last, told);
+    let step = kept.step(last.archive, told);
+    for place in 0..read_small(count, told) {
         let bucket = last.at.saturating_sub(step.saturating_mul(place));
-        tell_known(told, place, kept.value(alloc, last.archive, bucket)?)?;
+        tell_known(told, place, kept.value(alloc, last.archive, bucket));
     }
-    Ok(told.push('.')?)
+    told.push('.');
 }
 
-fn tell_known(told: &mut String, place: u32, value: Option<Milli>) -> Result<(), AllocError> {
+fn tell_known(told: &mut Told, place: u32, value: Result<Option<Milli>, CaseFault>) {
     match value {
-        Some(value) => write!(told, "{place}:{},", wide(value)),
-        None => Ok(()),
+        Ok(Some(value)) => write!(told, "{place}:{},", wide(value)),
+        Ok(None) => {}
+        Err(fault) => told.fail(fault),
     }
 }
 
-fn drain_word(alloc: Global, kept: &mut Kept, points: &str, now: u32) -> Result<(), CaseFault> {
-    let points = points_in(alloc, points)?;
-    kept.drain(alloc, points.list(), now)
+fn drain_word(alloc: Global, told: &mut Told, kept: &mut Kept, points: &str, now: &str) {
+    let points = points_in(alloc, points, told);
+    let now = read_small(now, told);
+    if let Err(fault) = kept.drain(alloc, points.list(), now) {
+        told.fail(fault);
+    }
 }
 
-fn tell_calls(told: &mut String, calls: Option<DiskCalls>, word: &str) -> Result<(), CaseFault> {
-    let Some(calls) = calls else {
-        return Err(CaseFault::Malformed);
+fn tell_calls(told: &mut Told, calls: Option<DiskCalls>, word: &str) {
+    match calls {
+        Some(calls) => tell_calls_of(told, calls, word),
+        None => told.malformed(),
+    }
+}
+
+fn tell_calls_of(told: &mut Told, calls: DiskCalls, word: &str) {
+    let Some((count, most)) = word.split_once("<=") else {
+        let count = count_of(calls, word, told);
+        return write!(told, "{count}");
     };
-    match word.split_once("<=") {
-        Some((count, most)) => {
-            let holds = count_of(calls, count)? <= u64::from(small_in(most)?);
-            Ok(tell_whether(told, holds)?)
-        }
-        None => Ok(write!(told, "{}", count_of(calls, word)?)?),
-    }
+    let count = count_of(calls, count, told);
+    let most = read_small(most, told);
+    tell_whether(told, count <= u64::from(most));
 }
 
-fn count_of(calls: DiskCalls, word: &str) -> Result<u64, CaseFault> {
+fn count_of(calls: DiskCalls, word: &str, told: &mut Told) -> u64 {
     match word {
-        "reads" => Ok(calls.reads),
-        "longest" => Ok(calls.longest_read),
-        _ => Err(CaseFault::Malformed),
+        "reads" => calls.reads,
+        "longest" => calls.longest_read,
+        _ => {
+            told.malformed();
+            0
+        }
     }
 }

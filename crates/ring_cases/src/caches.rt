@@ -1,140 +1,117 @@
 //! Pending points.
 
-use crate::told::tell_blank;
 use crate::words::{path_in, point_in};
-use case_lines::{Case, CaseFault, text_in};
+use case_lines::{Case, CaseFault, Told, read_text};
 use fixed_num::{Milli, wide};
+use metric_path::MetricPath;
 use point_cache::{PointCache, Put};
-use std::alloc::{AllocError, Global};
+use std::alloc::Global;
 
 /// `cache LIMIT WORD..`: what each word tells of a cache with room for so many points. `PATH@TIME:VALUE` puts a point, and tells what
 /// became of it; `points:PATH` tells the points of a metric, and `take:PATH` those that it takes; `count`, `full` and `arrivals` tell
 /// how many points are pending, whether there is no room, and the metrics in the order in which they came.
-pub fn tell_cache(alloc: Global, told: &mut String, case: &Case) -> Result<(), CaseFault> {
-    let limit = case.number(0)?;
+pub fn tell_cache(alloc: Global, told: &mut Told, case: &Case) {
+    let limit = case.number_at(0, told);
     if limit == 0 {
-        return Err(CaseFault::Malformed);
+        return told.malformed();
     }
     let mut cache = PointCache::new(alloc, limit);
-    take_words(alloc, told, &mut cache, case.rest(1))
-}
-
-fn take_words(
-    alloc: Global,
-    told: &mut String,
-    cache: &mut PointCache,
-    words: &[Vec<u8>],
-) -> Result<(), CaseFault> {
-    for word in words {
-        tell_blank(told)?;
-        take_word(alloc, told, cache, word)?;
+    for word in case.rest(1) {
+        told.push_blank();
+        let word = read_text(word, told);
+        take_word(alloc, told, &mut cache, word);
     }
-    Ok(())
 }
 
-fn take_word(
-    alloc: Global,
-    told: &mut String,
-    cache: &mut PointCache,
-    word: &[u8],
-) -> Result<(), CaseFault> {
-    let text = text_in(word)?;
-    if let Some((path, point)) = text.split_once('@') {
+fn take_word(alloc: Global, told: &mut Told, cache: &mut PointCache, word: &str) {
+    if let Some((path, point)) = word.split_once('@') {
         return put(alloc, told, cache, path, point);
     }
-    match text.split_once(':') {
-        Some(("points", path)) => tell_pending(alloc, told, cache, path),
-        Some(("take", path)) => take(alloc, told, cache, path),
-        Some(_) => Err(CaseFault::Malformed),
-        None => tell_state(alloc, told, cache, text),
+    match word.split_once(':') {
+        Some((verb, path)) => tell_of_path(alloc, told, cache, verb, path),
+        None => tell_state(alloc, told, cache, word),
     }
 }
 
-fn put(
-    alloc: Global,
-    told: &mut String,
-    cache: &mut PointCache,
-    path: &str,
-    point: &str,
-) -> Result<(), CaseFault> {
-    let path = path_in(alloc, path.as_bytes())?;
-    let point = point_in(point)?;
-    match cache.put(&path, point.time, point.value) {
-        Put::Stored => Ok(told.push_str("stored")?),
-        Put::Replaced => Ok(told.push_str("replaced")?),
-        Put::Full => Ok(told.push_str("full")?),
-        Put::NoMemory => Err(CaseFault::NoMemory),
+fn put(alloc: Global, told: &mut Told, cache: &mut PointCache, path: &str, point: &str) {
+    let point = point_in(point, told);
+    match path_in(alloc, path.as_bytes()) {
+        Ok(path) => tell_put(told, cache.put(&path, point.time, point.value)),
+        Err(fault) => told.fail(fault),
     }
 }
 
-fn tell_pending(
-    alloc: Global,
-    told: &mut String,
-    cache: &PointCache,
-    path: &str,
-) -> Result<(), CaseFault> {
-    let path = path_in(alloc, path.as_bytes())?;
-    Ok(tell_points(told, cache.points_of(&path))?)
+fn tell_put(told: &mut Told, put: Put) {
+    match put {
+        Put::Stored => told.push_str("stored"),
+        Put::Replaced => told.push_str("replaced"),
+        Put::Full => told.push_str("full"),
+        Put::NoMemory => told.fail(CaseFault::NoMemory),
+    }
 }
 
-fn take(
-    alloc: Global,
-    told: &mut String,
-    cache: &mut PointCache,
-    path: &str,
-) -> Result<(), CaseFault> {
-    let path = path_in(alloc, path.as_bytes())?;
-    let Some(place) = cache.place_of(&path) else {
-        return Ok(told.push('-')?);
+fn tell_of_path(alloc: Global, told: &mut Told, cache: &mut PointCache, verb: &str, path: &str) {
+    match path_in(alloc, path.as_bytes()) {
+        Ok(path) => tell_of(told, cache, verb, &path),
+        Err(fault) => told.fail(fault),
+    }
+}
+
+fn tell_of(told: &mut Told, cache: &mut PointCache, verb: &str, path: &MetricPath) {
+    match verb {
+        "points" => tell_points(told, cache.points_of(path)),
+        "take" => take(told, cache, path),
+        _ => told.malformed(),
+    }
+}
+
+fn take(told: &mut Told, cache: &mut PointCache, path: &MetricPath) {
+    let Some(place) = cache.place_of(path) else {
+        return told.push('-');
     };
     let (_, points) = cache.take(place);
-    Ok(tell_points(told, points.list())?)
+    tell_points(told, points.list());
 }
 
-fn tell_points(told: &mut String, points: &[(u32, Milli)]) -> Result<(), AllocError> {
+fn tell_points(told: &mut Told, points: &[(u32, Milli)]) {
     if points.is_empty() {
         return told.push('-');
     }
     for (i, (time, value)) in points.iter().enumerate() {
         if i > 0 {
-            told.push(',')?;
+            told.push(',');
         }
-        write!(told, "{time}:{}", wide(*value))?;
+        write!(told, "{time}:{}", wide(*value));
     }
-    Ok(())
 }
 
-fn tell_state(
-    alloc: Global,
-    told: &mut String,
-    cache: &PointCache,
-    word: &str,
-) -> Result<(), CaseFault> {
+fn tell_state(alloc: Global, told: &mut Told, cache: &PointCache, word: &str) {
     match word {
-        "count" => Ok(write!(told, "{}", cache.count())?),
-        "full" => Ok(told.push_str(if cache.is_full() { "full" } else { "room" })?),
-        "arrivals" => Ok(tell_arrivals(alloc, told, cache)?),
-        _ => Err(CaseFault::Malformed),
+        "count" => write!(told, "{}", cache.count()),
+        "full" => told.push_str(if cache.is_full() { "full" } else { "room" }),
+        "arrivals" => tell_arrivals(alloc, told, cache),
+        _ => told.malformed(),
     }
 }
 
-fn tell_arrivals(alloc: Global, told: &mut String, cache: &PointCache) -> Result<(), AllocError> {
-    let arrivals = cache.in_arrival_order(alloc)?;
+fn tell_arrivals(alloc: Global, told: &mut Told, cache: &PointCache) {
+    let Ok(arrivals) = cache.in_arrival_order(alloc) else {
+        return told.fail(CaseFault::NoMemory);
+    };
     if arrivals.len() == 0 {
-        return told.push('-');
+        told.push('-');
     }
     for index in 0..arrivals.len() {
         if index > 0 {
-            told.push(',')?;
+            told.push(',');
         }
-        tell_path_at(told, cache, arrivals.place(index))?;
+        tell_path_at(told, cache, arrivals.place(index));
     }
-    Ok(())
 }
 
-fn tell_path_at(told: &mut String, cache: &PointCache, place: usize) -> Result<(), AllocError> {
+fn tell_path_at(told: &mut Told, cache: &PointCache, place: usize) {
     if place >= cache.metrics() {
         return told.push('?');
     }
-    told.push_str(cache.path(place).as_str())
+    told.push_str(cache.path(place).as_str());
 }

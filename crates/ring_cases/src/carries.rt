@@ -5,10 +5,10 @@ ghost use Rattle.point_cache.specs.Points.{IsRising};
 use crate::fetches::are_legal;
 use crate::patches::tell_laid;
 use crate::rings::{case_fault_of, disk_of, file_of, read_of};
-use crate::told::{tell_blank, tell_value};
-use crate::words::{cells_in, layout_of, path_in, place_in, points_in};
+use crate::told::tell_value;
+use crate::words::{cells_in, path_in, place_in, points_in};
 use archive_update::{carry, plan};
-use case_lines::{Case, CaseFault, small_in, text_in};
+use case_lines::{Case, CaseFault, Told, halves, made, read_small, read_text};
 use fixed_num::Milli;
 use outside_io::MemDisk;
 use ring_archive::RingView;
@@ -17,56 +17,52 @@ use std::alloc::Global;
 
 /// `carry ARCHIVES METHOD FACTOR STORED`: the cells that a file of version 1, which holds
 /// these, is carried into.
-pub fn tell_carried(alloc: Global, told: &mut String, case: &Case) -> Result<(), CaseFault> {
-    let layout = layout_of(alloc, case)?;
-    let file = old_file(alloc, &layout, case)?;
-    let patch = carried(alloc, layout, &file)?;
-    Ok(tell_laid(told, &patch)?)
+pub fn tell_carried(alloc: Global, told: &mut Told, case: &Case, layout: Layout) {
+    if let Some(file) = old_file(alloc, &layout, case, told) {
+        tell_carried_file(alloc, told, layout, &file);
+    }
+}
+
+fn tell_carried_file(alloc: Global, told: &mut Told, layout: Layout, file: &[u8]) {
+    match carried(alloc, layout, file) {
+        Ok(patch) => tell_laid(told, &patch),
+        Err(fault) => told.fail(fault),
+    }
 }
 
 /// `carried-drain ARCHIVES METHOD FACTOR STORED POINTS@NOW ARCHIVE/BUCKET..`: the values of
 /// these buckets after a file of version 1 was carried into a patch and the points were drained
 /// into it.
-pub fn tell_drained(alloc: Global, told: &mut String, case: &Case) -> Result<(), CaseFault> {
-    let layout = layout_of(alloc, case)?;
-    let file = old_file(alloc, &layout, case)?;
-    let patch = drained_by(alloc, layout, &file, case.text(4)?)?;
-    tell_buckets(alloc, told, layout, &patch, case.rest(5))
+pub fn tell_drained(alloc: Global, told: &mut Told, case: &Case, layout: Layout) {
+    if let Some(file) = old_file(alloc, &layout, case, told) {
+        tell_drained_file(alloc, told, case, layout, &file);
+    }
 }
 
-// What a file of version 1 is carried into, with the points of `POINTS@NOW` drained into it.
-fn drained_by(alloc: Global, layout: Layout, file: &[u8], text: &str) -> Result<Patch, CaseFault>
-    ensures layout { IfOk result (λ patch. patch.layout ≡ layout) }
-    ensures fresh { IfOk result (λ patch. patch.fresh ≡ true) }
-{
-    let Some((points, now)) = text.split_once('@') else {
-        return Err(CaseFault::Malformed);
-    };
-    let points = points_in(alloc, points)?;
-    drained(alloc, layout, file, points.list(), small_in(now)?)
+fn tell_drained_file(alloc: Global, told: &mut Told, case: &Case, layout: Layout, file: &[u8]) {
+    let (points, now) = halves(case.text_at(4, told), '@', told);
+    let points = points_in(alloc, points, told);
+    let now = read_small(now, told);
+    match drained(alloc, layout, file, points.list(), now) {
+        Ok(patch) => tell_buckets(alloc, told, layout, &patch, case.rest(5)),
+        Err(fault) => told.fail(fault),
+    }
 }
 
-fn tell_buckets(
-    alloc: Global,
-    told: &mut String,
-    layout: Layout,
-    patch: &Patch,
-    words: &[Vec<u8>],
-) -> Result<(), CaseFault>
+fn tell_buckets(alloc: Global, told: &mut Told, layout: Layout, patch: &Patch, words: &[Vec<u8>])
     requires layout { patch.now.layout ≡ layout }
     requires fresh { patch.now.fresh ≡ true }
 {
     for word in words {
-        tell_blank(told)?;
-        tell_bucket(alloc, told, layout, patch, word)?;
+        told.push_blank();
+        tell_bucket(alloc, told, layout, patch, word);
     }
-    Ok(())
 }
 
 // The bytes of a file of version 1.
-fn old_file(alloc: Global, layout: &Layout, case: &Case) -> Result<Vec<u8>, CaseFault> {
-    let cells = cells_in(alloc, layout, case.text(3)?)?;
-    file_of(alloc, layout, OLD_VERSION, &cells)
+fn old_file(alloc: Global, layout: &Layout, case: &Case, told: &mut Told) -> Option<Vec<u8>> {
+    let cells = cells_in(alloc, layout, case.text_at(3, told), told);
+    made(file_of(alloc, layout, OLD_VERSION, &cells), told)
 }
 
 // What such a file is carried into.
@@ -107,19 +103,15 @@ fn drained(
     }
 }
 
-fn tell_bucket(
-    alloc: Global,
-    told: &mut String,
-    layout: Layout,
-    patch: &Patch,
-    word: &[u8],
-) -> Result<(), CaseFault>
+fn tell_bucket(alloc: Global, told: &mut Told, layout: Layout, patch: &Patch, word: &[u8])
     requires layout { patch.now.layout ≡ layout }
     requires fresh { patch.now.fresh ≡ true }
 {
-    let place = place_in(text_in(word)?)?;
-    let value = value_under(alloc, layout, patch, place.archive, place.at)?;
-    Ok(tell_value(told, value)?)
+    let place = place_in(read_text(word, told), told);
+    match value_under(alloc, layout, patch, place.archive, place.at) {
+        Ok(value) => tell_value(told, value),
+        Err(fault) => told.fail(fault),
+    }
 }
 
 // What a patch has there that makes its file anew, which is not there yet.

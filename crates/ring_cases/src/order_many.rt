@@ -1,34 +1,36 @@
 //! Drain orders over many metrics.
 
 use crate::orders::{Drains, strategy_in};
-use case_lines::{Case, CaseFault};
+use case_lines::{Case, CaseFault, Told};
 use drain_order::Strategy;
 use metric_path::{MetricPath, PathFault};
 use std::alloc::{AllocError, Global};
 
 /// `order-many STRATEGY COUNT`: `in order` where so many metrics, put in falling order of their paths, are drained in the order in which
 /// they came under `naive`, and else in the order of their paths.
-pub fn tell_many(alloc: Global, told: &mut String, case: &Case) -> Result<(), CaseFault> {
-    let strategy = strategy_in(case.text(0)?)?;
-    let count = case.small(1)?;
+pub fn tell_many(alloc: Global, told: &mut Told, case: &Case) {
+    let strategy = strategy_in(case.text_at(0, told), told);
+    let count = case.small_at(1, told);
     let mut drains = Drains::new(alloc, strategy);
-    tell_drained(alloc, told, &mut drains, strategy, count)
+    if put_numbers(&mut drains, alloc, count) {
+        tell_drained(alloc, told, &mut drains, strategy, count);
+    } else {
+        told.fail(CaseFault::NoMemory);
+    }
 }
 
 fn tell_drained(
     alloc: Global,
-    told: &mut String,
+    told: &mut Told,
     drains: &mut Drains,
     strategy: Strategy,
     count: u32,
-) -> Result<(), CaseFault> {
-    if !put_numbers(drains, alloc, count) {
-        return Err(CaseFault::NoMemory);
+) {
+    match drain_numbers(drains, alloc, count, strategy) {
+        Ok(true) => told.push_str("in order"),
+        Ok(false) => told.push_str("out of order"),
+        Err(_) => told.fail(CaseFault::NoMemory),
     }
-    if drain_numbers(drains, alloc, count, strategy)? {
-        return Ok(told.push_str("in order")?);
-    }
-    Ok(told.push_str("out of order")?)
 }
 
 // The path of a number: `m.` and its six digits.

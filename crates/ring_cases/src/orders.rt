@@ -2,9 +2,8 @@
 ghost use Rattle.std.proofs.Props.{props};
 ghost use Rattle.drain_order.specs.Picking.{Follows};
 
-use crate::told::tell_blank;
-use crate::words::{halves, path_in};
-use case_lines::{Case, CaseFault, small_in, text_in};
+use crate::words::path_in;
+use case_lines::{Case, CaseFault, Told, halves, read_small, read_text};
 use drain_order::{Picker, Strategy};
 use fixed_num::milli_of;
 use metric_path::MetricPath;
@@ -55,67 +54,63 @@ impl Drains {
 }
 
 /// A strategy by its name.
-pub fn strategy_in(text: &str) -> Result<Strategy, CaseFault> {
+pub fn strategy_in(text: &str, told: &mut Told) -> Strategy {
     match text {
-        "max" => Ok(Strategy::Max),
-        "sorted" => Ok(Strategy::Sorted),
-        "timesorted" => Ok(Strategy::TimeSorted),
-        "naive" => Ok(Strategy::Naive),
-        _ => Err(CaseFault::Malformed),
+        "max" => Strategy::Max,
+        "sorted" => Strategy::Sorted,
+        "timesorted" => Strategy::TimeSorted,
+        "naive" => Strategy::Naive,
+        _ => {
+            told.malformed();
+            Strategy::Naive
+        }
     }
 }
 
 /// `order STRATEGY WORD..`: `PATH@TIMExN` puts N points of a metric, one a minute from a time on; `look` tells the metric that is picked,
 /// and `drain` the one that is picked and drained; `-` is none.
-pub fn tell_order(alloc: Global, told: &mut String, case: &Case) -> Result<(), CaseFault> {
-    let strategy = strategy_in(case.text(0)?)?;
+pub fn tell_order(alloc: Global, told: &mut Told, case: &Case) {
+    let strategy = strategy_in(case.text_at(0, told), told);
     let mut drains = Drains::new(alloc, strategy);
-    take_words(alloc, told, &mut drains, case.rest(1))
-}
-
-fn take_words(
-    alloc: Global,
-    told: &mut String,
-    drains: &mut Drains,
-    words: &[Vec<u8>],
-) -> Result<(), CaseFault> {
-    for word in words {
-        take_word(alloc, told, drains, text_in(word)?)?;
+    for word in case.rest(1) {
+        let word = read_text(word, told);
+        take_word(alloc, told, &mut drains, word);
     }
-    Ok(())
 }
 
-fn take_word(
-    alloc: Global,
-    told: &mut String,
-    drains: &mut Drains,
-    word: &str,
-) -> Result<(), CaseFault> {
+fn take_word(alloc: Global, told: &mut Told, drains: &mut Drains, word: &str) {
     match word {
-        "look" => Ok(tell_path(told, drains.look()?)?),
-        "drain" => Ok(tell_path(told, drains.drain()?)?),
-        _ => put_points(alloc, drains, word),
+        "look" => tell_path(told, drains.look()),
+        "drain" => tell_path(told, drains.drain()),
+        _ => put_points(alloc, told, drains, word),
     }
 }
 
-fn tell_path(told: &mut String, path: Option<MetricPath>) -> Result<(), AllocError> {
-    tell_blank(told)?;
+fn tell_path(told: &mut Told, path: Result<Option<MetricPath>, AllocError>) {
+    told.push_blank();
     match path {
-        Some(path) => told.push_str(path.as_str()),
-        None => told.push('-'),
+        Ok(Some(path)) => told.push_str(path.as_str()),
+        Ok(None) => told.push('-'),
+        Err(_) => told.fail(CaseFault::NoMemory),
     }
 }
 
-fn put_points(alloc: Global, drains: &mut Drains, word: &str) -> Result<(), CaseFault> {
-    let (path, points) = halves(word, '@')?;
-    let (time, count) = halves(points, 'x')?;
-    let path = path_in(alloc, path.as_bytes())?;
-    let first = small_in(time)?;
-    for minute in 0..small_in(count)? {
+fn put_points(alloc: Global, told: &mut Told, drains: &mut Drains, word: &str) {
+    let (path, points) = halves(word, '@', told);
+    let (time, count) = halves(points, 'x', told);
+    let first = read_small(time, told);
+    let count = read_small(count, told);
+    match path_in(alloc, path.as_bytes()) {
+        Ok(path) => put_each(told, drains, &path, first, count),
+        Err(fault) => told.fail(fault),
+    }
+}
+
+fn put_each(told: &mut Told, drains: &mut Drains, path: &MetricPath, first: u32, count: u32) {
+    for minute in 0..count {
         let time = minute.saturating_mul(60).saturating_add(first);
-        if drains.put(&path, time) == Put::NoMemory {
-            return Err(CaseFault::NoMemory);
+        if drains.put(path, time) == Put::NoMemory {
+            told.fail(CaseFault::NoMemory);
         }
     }
-    Ok(())
 }

@@ -2,11 +2,11 @@
 ghost use Rattle.std.specs.Prelude.{◌≡◌, IfOk};
 
 use crate::told::{tell_cell, tell_layout};
-use crate::words::{cells_in, is_new, layout_of, path_in, place_in};
-use case_lines::{Case, CaseFault};
+use crate::words::{cells_in, is_new, path_in, place_in};
+use case_lines::{Case, CaseFault, Told, made};
 use fixed_num::{Milli, wide};
 use ring_format::{CellWrite, Layout, Patch};
-use std::alloc::{AllocError, Global};
+use std::alloc::Global;
 
 /// A patch of the metric of a path that lays these cells, in this order.
 pub fn patch_with(
@@ -30,17 +30,19 @@ pub fn patch_with(
 }
 
 /// `patch-of ARCHIVES METHOD FACTOR PATH new|old LAID`: what it is for.
-pub fn tell_patch(alloc: Global, told: &mut String, case: &Case) -> Result<(), CaseFault> {
-    let layout = layout_of(alloc, case)?;
-    let fresh = is_new(case.text(4)?)?;
-    let patch = patch_laying(alloc, case.bytes(3)?, layout, fresh, case.text(5)?)?;
-    Ok(tell_aim(told, &patch)?)
+pub fn tell_patch(alloc: Global, told: &mut Told, case: &Case, layout: Layout) {
+    let path = case.bytes_at(3, told);
+    let fresh = is_new(case.text_at(4, told), told);
+    let cells = case.text_at(5, told);
+    if let Some(patch) = patch_laying(alloc, path, layout, fresh, cells, told) {
+        tell_aim(told, &patch);
+    }
 }
 
-fn tell_aim(told: &mut String, patch: &Patch) -> Result<(), AllocError> {
-    told.push_str(if patch.fresh() { "new " } else { "old " })?;
-    write!(told, "{} ", patch.path().as_str())?;
-    tell_layout(told, &patch.layout())
+fn tell_aim(told: &mut Told, patch: &Patch) {
+    told.push_str(if patch.fresh() { "new " } else { "old " });
+    write!(told, "{} ", patch.path().as_str());
+    tell_layout(told, &patch.layout());
 }
 
 /// The patch that lays the cells that a text says.
@@ -50,41 +52,42 @@ pub fn patch_laying(
     layout: Layout,
     fresh: bool,
     text: &str,
-) -> Result<Patch, CaseFault> {
-    let cells = cells_in(alloc, &layout, text)?;
-    patch_with(alloc, path, layout, fresh, &cells)
+    told: &mut Told,
+) -> Option<Patch> {
+    let cells = cells_in(alloc, &layout, text, told);
+    made(patch_with(alloc, path, layout, fresh, &cells), told)
 }
 
 // The patch of `ARCHIVES METHOD FACTOR LAID`.
-fn patch_of(alloc: Global, case: &Case) -> Result<Patch, CaseFault> {
-    let layout = layout_of(alloc, case)?;
-    patch_laying(alloc, b"a", layout, false, case.text(3)?)
+fn patch_of(alloc: Global, case: &Case, layout: Layout, told: &mut Told) -> Option<Patch> {
+    patch_laying(alloc, b"a", layout, false, case.text_at(3, told), told)
 }
 
 /// `patch-cells ARCHIVES METHOD FACTOR LAID`: how many cells there are, and all of them.
-pub fn tell_cells(alloc: Global, told: &mut String, case: &Case) -> Result<(), CaseFault> {
-    let patch = patch_of(alloc, case)?;
-    Ok(tell_laid(told, &patch)?)
+pub fn tell_cells(alloc: Global, told: &mut Told, case: &Case, layout: Layout) {
+    if let Some(patch) = patch_of(alloc, case, layout, told) {
+        tell_laid(told, &patch);
+    }
 }
 
 /// Tells how many cells a patch has, and all of them.
-pub fn tell_laid(told: &mut String, patch: &Patch) -> Result<(), AllocError> {
-    write!(told, "{}", patch.cell_count())?;
+pub fn tell_laid(told: &mut Told, patch: &Patch) {
+    write!(told, "{}", patch.cell_count());
     for (place, held) in patch.cells() {
-        told.push(' ')?;
-        tell_cell(told, *place, *held)?;
+        told.push(' ');
+        tell_cell(told, *place, *held);
     }
-    Ok(())
 }
 
 /// `patch-cell ARCHIVES METHOD FACTOR LAID ARCHIVE/SLOT`: the bucket and the value of the cell there, or `-`.
-pub fn tell_cell_at(alloc: Global, told: &mut String, case: &Case) -> Result<(), CaseFault> {
-    let place = place_in(case.text(4)?)?;
-    let patch = patch_of(alloc, case)?;
-    Ok(tell_held(told, patch.cell(place.archive, place.at))?)
+pub fn tell_cell_at(alloc: Global, told: &mut Told, case: &Case, layout: Layout) {
+    let place = place_in(case.text_at(4, told), told);
+    if let Some(patch) = patch_of(alloc, case, layout, told) {
+        tell_held(told, patch.cell(place.archive, place.at));
+    }
 }
 
-fn tell_held(told: &mut String, held: Option<(u32, Milli)>) -> Result<(), AllocError> {
+fn tell_held(told: &mut Told, held: Option<(u32, Milli)>) {
     match held {
         Some(held) => write!(told, "{}:{}", held.0, wide(held.1)),
         None => told.push('-'),
@@ -92,16 +95,14 @@ fn tell_held(told: &mut String, held: Option<(u32, Milli)>) -> Result<(), AllocE
 }
 
 /// `patch-from ARCHIVES METHOD FACTOR LAID ARCHIVE/SLOT`: the first cell from there on, or `-`.
-pub fn tell_cell_from(alloc: Global, told: &mut String, case: &Case) -> Result<(), CaseFault> {
-    let place = place_in(case.text(4)?)?;
-    let patch = patch_of(alloc, case)?;
-    Ok(tell_first(told, patch.first_cell_from(place.archive, place.at))?)
+pub fn tell_cell_from(alloc: Global, told: &mut Told, case: &Case, layout: Layout) {
+    let place = place_in(case.text_at(4, told), told);
+    if let Some(patch) = patch_of(alloc, case, layout, told) {
+        tell_first(told, patch.first_cell_from(place.archive, place.at));
+    }
 }
 
-fn tell_first(
-    told: &mut String,
-    found: Option<((u32, u32), (u32, Milli))>,
-) -> Result<(), AllocError> {
+fn tell_first(told: &mut Told, found: Option<((u32, u32), (u32, Milli))>) {
     match found {
         Some(cell) => tell_cell(told, cell.0, cell.1),
         None => told.push('-'),

@@ -4,15 +4,15 @@ ghost use Rattle.ring_format.specs.Cell.{IsVersion};
 ghost use Rattle.ring_archive.specs.Ring.{HoldsRing};
 
 use crate::patches::patch_with;
-use crate::words::{cells_in, layout_of};
-use case_lines::{Case, CaseFault};
+use crate::words::cells_in;
+use case_lines::{Case, CaseFault, Told};
 use fixed_num::{Milli, wide};
 use outside_io::{Disk, DiskFailed, MemDisk};
 use ring_archive::RingFault;
 use ring_format::{
     CELL_BYTES, CellWrite, Layout, Method, OLD_VERSION, Patch, VERSION, version_of, write_cell,
 };
-use std::alloc::{AllocError, Global};
+use std::alloc::Global;
 
 /// A ring file, and a patch over it.
 #[derive(Drop)]
@@ -32,19 +32,21 @@ impl Ring {
     ghost use Rattle.ring_archive.specs.Ring.{HoldsRing};
 
     /// The ring of `ARCHIVES METHOD FACTOR STORED LAID`, and the read that fails, where the word at a place says one.
-    pub fn read(alloc: Global, case: &Case, failing_at: usize) -> Result<Ring, CaseFault> {
-        let layout = layout_of(alloc, case)?;
-        let (version, text) = version_of_text(case.text(3)?);
-        let stored = stored_in(alloc, &layout, text)?;
-        let laid = cells_in(alloc, &layout, case.text(4)?)?;
-        let failing = failing_in(case, failing_at)?;
-        Ok(Ring {
+    pub fn read(
+        alloc: Global,
+        case: &Case,
+        layout: Layout,
+        failing_at: usize,
+        told: &mut Told,
+    ) -> Ring {
+        let (version, text) = version_of_text(case.text_at(3, told));
+        Ring {
             layout,
             version,
-            stored,
-            laid,
-            failing,
-        })
+            stored: stored_in(alloc, &layout, text, told),
+            laid: cells_in(alloc, &layout, case.text_at(4, told), told),
+            failing: failing_in(case, failing_at, told),
+        }
     }
 
     /// A disk with the file, which is not there where the patch makes it anew, so that a read would fail.
@@ -76,18 +78,19 @@ fn stored_in(
     alloc: Global,
     layout: &Layout,
     text: &str,
-) -> Result<Option<Vec<CellWrite>>, CaseFault> {
+    told: &mut Told,
+) -> Option<Vec<CellWrite>> {
     if text == "new" {
-        return Ok(None);
+        return None;
     }
-    Ok(Some(cells_in(alloc, layout, text)?))
+    Some(cells_in(alloc, layout, text, told))
 }
 
-fn failing_in(case: &Case, at: usize) -> Result<u64, CaseFault> {
+fn failing_in(case: &Case, at: usize, told: &mut Told) -> u64 {
     if at < case.len() {
-        return case.number(at);
+        return case.number_at(at, told);
     }
-    Ok(0)
+    0
 }
 
 /// Puts a piece over a file's bytes, where it lies within them.
@@ -230,24 +233,23 @@ pub fn case_fault_of(fault: RingFault) -> CaseFault {
 }
 
 /// Tells `fault` where a read failed.
-pub fn tell_fault(told: &mut String, fault: RingFault) -> Result<(), CaseFault> {
+pub fn tell_fault(told: &mut Told, fault: RingFault) {
     match fault {
-        RingFault::DiskFault => Ok(told.push_str("fault")?),
-        RingFault::NoMemory => Err(CaseFault::NoMemory),
+        RingFault::DiskFault => told.push_str("fault"),
+        RingFault::NoMemory => told.fail(CaseFault::NoMemory),
     }
 }
 
 /// Tells how often a disk was read, and how many reads failed where any did.
-pub fn tell_reads(told: &mut String, disk: &MemDisk) -> Result<(), AllocError> {
-    write!(told, "; reads {}", disk.calls().reads)?;
-    tell_failed(told, disk)
+pub fn tell_reads(told: &mut Told, disk: &MemDisk) {
+    write!(told, "; reads {}", disk.calls().reads);
+    tell_failed(told, disk);
 }
 
 /// Tells how many reads failed, where any did.
-pub fn tell_failed(told: &mut String, disk: &MemDisk) -> Result<(), AllocError> {
+pub fn tell_failed(told: &mut Told, disk: &MemDisk) {
     let failed = disk.faults();
-    if failed == 0 {
-        return Ok(());
+    if failed > 0 {
+        write!(told, ", failed {failed}");
     }
-    write!(told, ", failed {failed}")
 }

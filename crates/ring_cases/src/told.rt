@@ -1,24 +1,16 @@
 //! What a case tells, as text.
 
+use case_lines::Told;
 use fixed_num::{Milli, wide};
 use ring_format::{Archive, Layout, Method};
-use std::alloc::AllocError;
-
-/// A blank, but not in front of all.
-pub fn tell_blank(told: &mut String) -> Result<(), AllocError> {
-    if told.as_str().is_empty() {
-        return Ok(());
-    }
-    told.push(' ')
-}
 
 /// `yes` or `no`.
-pub fn tell_whether(told: &mut String, holds: bool) -> Result<(), AllocError> {
-    told.push_str(if holds { "yes" } else { "no" })
+pub fn tell_whether(told: &mut Told, holds: bool) {
+    told.push_str(if holds { "yes" } else { "no" });
 }
 
 /// A value, or `-` where it is missing.
-pub fn tell_value(told: &mut String, value: Option<Milli>) -> Result<(), AllocError> {
+pub fn tell_value(told: &mut Told, value: Option<Milli>) {
     match value {
         Some(value) => write!(told, "{}", wide(value)),
         None => told.push('-'),
@@ -26,51 +18,44 @@ pub fn tell_value(told: &mut String, value: Option<Milli>) -> Result<(), AllocEr
 }
 
 /// Values, with commas between.
-pub fn tell_values(told: &mut String, values: &[Option<Milli>]) -> Result<(), AllocError> {
+pub fn tell_values(told: &mut Told, values: &[Option<Milli>]) {
     for (i, value) in values.iter().enumerate() {
         if i > 0 {
-            told.push(',')?;
+            told.push(',');
         }
-        tell_value(told, *value)?;
+        tell_value(told, *value);
     }
-    Ok(())
 }
 
 /// Bytes as hexadecimal digits, four bytes a word.
-pub fn tell_bytes(told: &mut String, bytes: &[u8]) -> Result<(), AllocError> {
+pub fn tell_bytes(told: &mut Told, bytes: &[u8]) {
     for (i, byte) in bytes.iter().enumerate() {
         if i > 0 && i % 4 == 0 {
-            told.push(' ')?;
+            told.push(' ');
         }
-        write!(told, "{byte:02x}")?;
+        write!(told, "{byte:02x}");
     }
-    Ok(())
 }
 
 /// A cell: `ARCHIVE/SLOT:BUCKET:VALUE`.
-pub fn tell_cell(
-    told: &mut String,
-    place: (u32, u32),
-    held: (u32, Milli),
-) -> Result<(), AllocError> {
-    write!(told, "{}/{}:{}:{}", place.0, place.1, held.0, wide(held.1))
+pub fn tell_cell(told: &mut Told, place: (u32, u32), held: (u32, Milli)) {
+    write!(told, "{}/{}:{}:{}", place.0, place.1, held.0, wide(held.1));
 }
 
 /// Archives, with commas between.
-pub fn tell_archives(told: &mut String, archives: &[Archive]) -> Result<(), AllocError> {
+pub fn tell_archives(told: &mut Told, archives: &[Archive]) {
     for (i, archive) in archives.iter().enumerate() {
         if i > 0 {
-            told.push(',')?;
+            told.push(',');
         }
-        write!(told, "{}x{}", archive.step, archive.points)?;
+        write!(told, "{}x{}", archive.step, archive.points);
     }
-    Ok(())
 }
 
 /// A layout: `ARCHIVES METHOD FACTOR`.
-pub fn tell_layout(told: &mut String, layout: &Layout) -> Result<(), AllocError> {
-    tell_archives(told, layout.archives())?;
-    write!(told, " {} {}", name_of(layout.method()), layout.factor())
+pub fn tell_layout(told: &mut Told, layout: &Layout) {
+    tell_archives(told, layout.archives());
+    write!(told, " {} {}", name_of(layout.method()), layout.factor());
 }
 
 /// The name of a method.

@@ -1,9 +1,8 @@
-//! What the words of a case say.
-ghost use Rattle.std.specs.Prelude.{IfOk};
+//! What the words of a case say. Where one says nothing, what is told remembers it, and a word goes on as 0, the first or none.
 ghost use Rattle.ring_format.specs.Cell.{IsVersion};
 
-use case_lines::{Case, CaseFault, small_in};
-use fixed_num::{Milli, narrow};
+use case_lines::{Case, CaseFault, Told, halves, push_item, read_small};
+use fixed_num::{Milli, narrow, zero};
 use metric_path::MetricPath;
 use point_cache::{Points, Put};
 use ring_format::{Archive, CellWrite, Layout, LayoutFault, Method, OLD_VERSION, VERSION};
@@ -24,174 +23,186 @@ pub struct Point {
 }
 
 /// A value in thousandths.
-pub fn value_in(text: &str) -> Result<Milli, CaseFault> {
+pub fn value_in(text: &str, told: &mut Told) -> Milli {
     match text.parse::<i128>() {
-        Ok(number) => narrow(number).ok_or(CaseFault::Malformed),
-        Err(_) => Err(CaseFault::Malformed),
+        Ok(number) => held(narrow(number), told),
+        Err(_) => held(None, told),
     }
+}
+
+fn held(value: Option<Milli>, told: &mut Told) -> Milli {
+    let Some(value) = value else {
+        told.malformed();
+        return zero();
+    };
+    value
 }
 
 /// The version of a file.
-pub fn version_in(case: &Case, at: usize) -> Result<u32, CaseFault>
-    ensures { IfOk result IsVersion }
+pub fn version_in(case: &Case, at: usize, told: &mut Told) -> u32
+    ensures { IsVersion result }
 {
-    let version = case.small(at)?;
+    let version = case.small_at(at, told);
     if version != OLD_VERSION && version != VERSION {
-        return Err(CaseFault::Malformed);
+        told.malformed();
+        return VERSION;
     }
-    Ok(version)
-}
-
-/// What stands before a mark in a text, and behind it.
-pub fn halves(text: &str, mark: char) -> Result<(&str, &str), CaseFault> {
-    match text.split_once(mark) {
-        Some(halves) => Ok(halves),
-        None => Err(CaseFault::Malformed),
-    }
+    version
 }
 
 /// Values, with commas between.
-pub fn values_in(alloc: Global, text: &str) -> Result<Vec<Milli>, CaseFault> {
+pub fn values_in(alloc: Global, text: &str, told: &mut Told) -> Vec<Milli> {
     let mut values = Vec::new(alloc);
     if text.is_empty() {
-        return Ok(values);
+        return values;
     }
     for part in text.split(',') {
-        values.push(value_in(part)?)?;
+        push_item(&mut values, value_in(part, told), told);
     }
-    Ok(values)
+    values
 }
 
 /// A place.
-pub fn place_in(text: &str) -> Result<Place, CaseFault> {
-    let (archive, at) = halves(text, '/')?;
-    Ok(Place {
-        archive: small_in(archive)?,
-        at: small_in(at)?,
-    })
+pub fn place_in(text: &str, told: &mut Told) -> Place {
+    let (archive, at) = halves(text, '/', told);
+    Place {
+        archive: read_small(archive, told),
+        at: read_small(at, told),
+    }
 }
 
 /// A point.
-pub fn point_in(text: &str) -> Result<Point, CaseFault> {
-    let (time, value) = halves(text, ':')?;
-    Ok(Point {
-        time: small_in(time)?,
-        value: value_in(value)?,
-    })
+pub fn point_in(text: &str, told: &mut Told) -> Point {
+    let (time, value) = halves(text, ':', told);
+    Point {
+        time: read_small(time, told),
+        value: value_in(value, told),
+    }
 }
 
 /// An archive: `STEPxPOINTS`.
-pub fn archive_in(text: &str) -> Result<Archive, CaseFault> {
-    let (step, points) = halves(text, 'x')?;
-    Ok(Archive {
-        step: small_in(step)?,
-        points: small_in(points)?,
-    })
+pub fn archive_in(text: &str, told: &mut Told) -> Archive {
+    let (step, points) = halves(text, 'x', told);
+    Archive {
+        step: read_small(step, told),
+        points: read_small(points, told),
+    }
 }
 
-fn archives_in(alloc: Global, text: &str) -> Result<Vec<Archive>, CaseFault> {
+fn archives_in(alloc: Global, text: &str, told: &mut Told) -> Vec<Archive> {
     let mut archives = Vec::new(alloc);
     if text.is_empty() {
-        return Ok(archives);
+        return archives;
     }
     for part in text.split(',') {
-        archives.push(archive_in(part)?)?;
+        push_item(&mut archives, archive_in(part, told), told);
     }
-    Ok(archives)
+    archives
 }
 
 /// A method by its name.
-pub fn method_in(text: &str) -> Result<Method, CaseFault> {
+pub fn method_in(text: &str, told: &mut Told) -> Method {
     match text {
-        "average" => Ok(Method::Average),
-        "sum" => Ok(Method::Sum),
-        "last" => Ok(Method::Last),
-        "max" => Ok(Method::Max),
-        "min" => Ok(Method::Min),
-        "avg_zero" => Ok(Method::AvgZero),
-        "absmax" => Ok(Method::AbsMax),
-        "absmin" => Ok(Method::AbsMin),
-        _ => Err(CaseFault::Malformed),
+        "average" => Method::Average,
+        "sum" => Method::Sum,
+        "last" => Method::Last,
+        "max" => Method::Max,
+        "min" => Method::Min,
+        "avg_zero" => Method::AvgZero,
+        "absmax" => Method::AbsMax,
+        "absmin" => Method::AbsMin,
+        _ => {
+            told.malformed();
+            Method::Average
+        }
     }
 }
 
 /// The layout that the first three words of a case say, or the rule that it breaks.
-pub fn layout_or_fault(
-    alloc: Global,
-    case: &Case,
-) -> Result<Result<Layout, LayoutFault>, CaseFault> {
-    let archives = archives_in(alloc, case.text(0)?)?;
-    let method = method_in(case.text(1)?)?;
-    let factor = case.small(2)?;
-    Ok(Layout::new(&archives, method, factor))
+pub fn layout_or_fault(alloc: Global, case: &Case, told: &mut Told) -> Result<Layout, LayoutFault> {
+    let archives = archives_in(alloc, case.text_at(0, told), told);
+    let method = method_in(case.text_at(1, told), told);
+    let factor = case.small_at(2, told);
+    Layout::new(&archives, method, factor)
 }
 
 /// The lawful layout that the first three words of a case say.
-pub fn layout_of(alloc: Global, case: &Case) -> Result<Layout, CaseFault> {
-    match layout_or_fault(alloc, case)? {
-        Ok(layout) => Ok(layout),
-        Err(_) => Err(CaseFault::Malformed),
+pub fn layout_of(alloc: Global, case: &Case, told: &mut Told) -> Option<Layout> {
+    match layout_or_fault(alloc, case, told) {
+        Ok(layout) => Some(layout),
+        Err(_) => {
+            told.malformed();
+            None
+        }
     }
 }
 
 /// Whether a word says `new` or `old`.
-pub fn is_new(text: &str) -> Result<bool, CaseFault> {
+pub fn is_new(text: &str, told: &mut Told) -> bool {
     match text {
-        "new" => Ok(true),
-        "old" => Ok(false),
-        _ => Err(CaseFault::Malformed),
+        "new" => true,
+        "old" => false,
+        _ => {
+            told.malformed();
+            false
+        }
     }
 }
 
 /// Cells that a layout has.
-pub fn cells_in(alloc: Global, layout: &Layout, text: &str) -> Result<Vec<CellWrite>, CaseFault> {
+pub fn cells_in(alloc: Global, layout: &Layout, text: &str, told: &mut Told) -> Vec<CellWrite> {
     let mut cells = Vec::new(alloc);
     if text.is_empty() {
-        return Ok(cells);
+        return cells;
     }
     for part in text.split(',') {
-        cells.push(cell_in(layout, part)?)?;
+        push_cell(layout, &mut cells, part, told);
     }
-    Ok(cells)
+    cells
 }
 
-fn cell_in(layout: &Layout, text: &str) -> Result<CellWrite, CaseFault> {
-    let (place, held) = halves(text, ':')?;
-    let place = place_in(place)?;
-    let held = point_in(held)?;
+fn push_cell(layout: &Layout, cells: &mut Vec<CellWrite>, text: &str, told: &mut Told) {
+    let (place, held) = halves(text, ':', told);
+    let place = place_in(place, told);
+    let held = point_in(held, told);
     if !layout.has_slot(place.archive, place.at) {
-        return Err(CaseFault::Malformed);
+        return told.malformed();
     }
-    Ok(CellWrite {
+    let cell = CellWrite {
         archive: place.archive,
         slot: place.at,
         bucket: held.time,
         value: held.value,
-    })
+    };
+    push_item(cells, cell, told);
 }
 
 /// Points in the order of their times: of those of one time the last is kept.
-pub fn points_in(alloc: Global, text: &str) -> Result<Points, CaseFault> {
+pub fn points_in(alloc: Global, text: &str, told: &mut Told) -> Points {
     let mut points = Points::new(alloc);
     if text.is_empty() {
-        return Ok(points);
+        return points;
     }
     for part in text.split(',') {
-        put_points(&mut points, part)?;
+        put_points(&mut points, part, told);
     }
-    Ok(points)
+    points
 }
 
-fn put_points(points: &mut Points, text: &str) -> Result<(), CaseFault> {
+fn put_points(points: &mut Points, text: &str, told: &mut Told) {
     let (point, count) = text.split_once('*').unwrap_or((text, "1"));
-    let first = point_in(point)?;
-    for minute in 0..small_in(count)? {
+    let first = point_in(point, told);
+    let count = read_small(count, told);
+    for minute in 0..count {
         let time = minute.saturating_mul(60).saturating_add(first.time);
-        if points.put(time, first.value) == Put::NoMemory {
-            return Err(CaseFault::NoMemory);
-        }
+        put_point(points, time, first.value, told);
     }
-    Ok(())
+}
+
+fn put_point(points: &mut Points, time: u32, value: Milli, told: &mut Told) {
+    if points.put(time, value) == Put::NoMemory {
+        told.fail(CaseFault::NoMemory);
+    }
 }
 
 /// The path that a text is.

@@ -5,9 +5,9 @@ ghost use Rattle.ring_archive.specs.Ring.{IsRingFile, OnFile};
 ghost use Rattle.ring_writer.specs.PartWritten.{AwaitsNext};
 
 use crate::patches::patch_with;
-use crate::told::{tell_blank, tell_bytes};
-use crate::words::{cells_in, layout_of};
-use case_lines::{Case, CaseFault};
+use crate::told::tell_bytes;
+use crate::words::cells_in;
+use case_lines::{Case, CaseFault, Told};
 use outside_io::{Disk, DiskFailed, MemDisk};
 use ring_format::{CELL_BYTES, CellWrite, Layout, Patch};
 use ring_writer::write_run;
@@ -100,87 +100,107 @@ fn bytes_of<D: Disk>(
 }
 
 // The number of bytes of a file, its head, and the place and the bytes of each cell that is not zero.
-fn tell_bytes_of(told: &mut String, layout: &Layout, file: &[u8]) -> Result<(), AllocError> {
+fn tell_bytes_of(told: &mut Told, layout: &Layout, file: &[u8]) {
     if layout.archive_count() == 0 {
-        return Ok(());
+        return;
     }
     let front = layout.offset(0) as usize;
-    write!(told, "{}: ", file.len())?;
-    tell_bytes(told, file.get(..front).unwrap_or(file))?;
+    write!(told, "{}: ", file.len());
+    tell_bytes(told, file.get(..front).unwrap_or(file));
+    tell_nonzero(told, front, file.get(front..).unwrap_or(&[]));
+}
+
+fn tell_nonzero(told: &mut Told, front: usize, cells: &[u8]) {
     let mut at = front;
-    for cell in file.get(front..).unwrap_or(&[]).chunks(CELL_BYTES) {
+    for cell in cells.chunks(CELL_BYTES) {
         if cell.iter().any(|byte| *byte != 0) {
-            write!(told, "; {at}=")?;
-            tell_bytes(told, cell)?;
+            write!(told, "; {at}=");
+            tell_bytes(told, cell);
         }
         at = at.saturating_add(CELL_BYTES);
     }
-    Ok(())
 }
 
 /// `file ARCHIVES METHOD FACTOR LAID [LAID]`: the bytes of the file that a patch creates, when a second one is laid over it.
-pub fn tell_file(alloc: Global, told: &mut String, case: &Case) -> Result<(), CaseFault> {
-    let layout = layout_of(alloc, case)?;
-    let first = cells_in(alloc, &layout, case.text(3)?)?;
-    let second = cells_in(alloc, &layout, later_text(case)?)?;
-    tell_twice(alloc, told, layout, &first, &second)
+pub fn tell_file(alloc: Global, told: &mut Told, case: &Case, layout: Layout) {
+    let first = cells_in(alloc, &layout, case.text_at(3, told), told);
+    let second = cells_in(alloc, &layout, later_text(case, told), told);
+    tell_twice(alloc, told, layout, &first, &second);
 }
 
-fn later_text(case: &Case) -> Result<&str, CaseFault> {
+fn later_text<'a>(case: &'a Case, told: &mut Told) -> &'a str {
     if case.len() < 5 {
-        return Ok("");
+        return "";
     }
-    case.text(4)
+    case.text_at(4, told)
 }
 
 fn tell_twice(
     alloc: Global,
-    told: &mut String,
+    told: &mut Told,
+    layout: Layout,
+    first: &[CellWrite],
+    second: &[CellWrite],
+) {
+    let mut disk = MemDisk::new(alloc, ROOM);
+    match write_twice(alloc, &mut disk, layout, first, second) {
+        Ok(()) => tell_held(alloc, told, &mut disk, &layout),
+        Err(fault) => told.fail(fault),
+    }
+}
+
+fn write_twice(
+    alloc: Global,
+    disk: &mut MemDisk,
     layout: Layout,
     first: &[CellWrite],
     second: &[CellWrite],
 ) -> Result<(), CaseFault> {
-    let mut disk = MemDisk::new(alloc, ROOM);
-    write(alloc, &mut disk, "a", layout, true, first)?;
-    write(alloc, &mut disk, "a", layout, false, second)?;
-    tell_held(alloc, told, &mut disk, &layout)
+    write(alloc, disk, "a", layout, true, first)?;
+    write(alloc, disk, "a", layout, false, second)
 }
 
-fn tell_held<D: Disk>(
-    alloc: Global,
-    told: &mut String,
-    disk: &mut D,
-    layout: &Layout,
-) -> Result<(), CaseFault> {
-    match bytes_of(alloc, disk, "a")? {
-        Some(file) => Ok(tell_bytes_of(told, layout, &file)?),
-        None => Ok(told.push_str("no file")?),
+fn tell_held<D: Disk>(alloc: Global, told: &mut Told, disk: &mut D, layout: &Layout) {
+    match bytes_of(alloc, disk, "a") {
+        Ok(Some(file)) => tell_bytes_of(told, layout, &file),
+        Ok(None) => told.push_str("no file"),
+        Err(_) => told.fail(CaseFault::NoMemory),
     }
 }
 
 /// `writes ARCHIVES METHOD FACTOR LAID N`: how often the disk is called to write a new file where none of the calls fails but the first, then
 /// but the second, and so on up to the Nth; and it says so where another file is changed.
-pub fn tell_writes(alloc: Global, told: &mut String, case: &Case) -> Result<(), CaseFault> {
-    let layout = layout_of(alloc, case)?;
-    let cells = cells_in(alloc, &layout, case.text(3)?)?;
-    for failing in 1..=case.small(4)? {
-        tell_blank(told)?;
-        tell_calls(alloc, told, layout, &cells, u64::from(failing))?;
+pub fn tell_writes(alloc: Global, told: &mut Told, case: &Case, layout: Layout) {
+    let cells = cells_in(alloc, &layout, case.text_at(3, told), told);
+    for failing in 1..=case.small_at(4, told) {
+        told.push_blank();
+        tell_calls(alloc, told, layout, &cells, u64::from(failing));
     }
-    Ok(())
 }
 
-fn tell_calls(
+fn tell_calls(alloc: Global, told: &mut Told, layout: Layout, cells: &[CellWrite], failing: u64) {
+    match written_beside(alloc, layout, cells, failing) {
+        Ok(disk) => tell_beside(alloc, told, disk),
+        Err(fault) => told.fail(fault),
+    }
+}
+
+// A disk of which one call fails, with another file, when a new file of these cells is written.
+fn written_beside(
     alloc: Global,
-    told: &mut String,
     layout: Layout,
     cells: &[CellWrite],
     failing: u64,
-) -> Result<(), CaseFault> {
+) -> Result<MemDisk, CaseFault> {
     let mut disk = disk_beside(alloc, failing)?;
     write(alloc, &mut disk, "a", layout, true, cells)?;
-    write!(told, "{}", disk.calls().writing())?;
-    tell_other(alloc, told, &mut disk)
+    Ok(disk)
+}
+
+fn tell_beside(alloc: Global, told: &mut Told, disk: MemDisk) {
+    let mut disk = disk;
+    write!(told, "{}", disk.calls().writing());
+    tell_other(alloc, told, &mut disk);
 }
 
 // A disk of which one call fails, with another file.
@@ -192,10 +212,11 @@ fn disk_beside(alloc: Global, failing: u64) -> Result<MemDisk, AllocError> {
     Ok(disk)
 }
 
-fn tell_other<D: Disk>(alloc: Global, told: &mut String, disk: &mut D) -> Result<(), CaseFault> {
-    match bytes_of(alloc, disk, "b")? {
-        Some(other) if other.as_slice() == b"other".as_slice() => Ok(()),
-        _ => Ok(told.push_str(" of another file too")?),
+fn tell_other<D: Disk>(alloc: Global, told: &mut Told, disk: &mut D) {
+    match bytes_of(alloc, disk, "b") {
+        Ok(Some(other)) if other.as_slice() == b"other".as_slice() => {}
+        Ok(_) => told.push_str(" of another file too"),
+        Err(_) => told.fail(CaseFault::NoMemory),
     }
 }
 
@@ -276,29 +297,35 @@ fn left_on(
     Ok(Left { file, calls })
 }
 
-fn drained_of(alloc: Global, case: &Case) -> Result<Drained, CaseFault> {
-    let layout = layout_of(alloc, case)?;
-    let fresh = case.text(3)? == "new";
-    let before = if fresh { "" } else { case.text(3)? };
-    Ok(Drained {
+fn drained_of(alloc: Global, case: &Case, layout: Layout, told: &mut Told) -> Drained {
+    let stored = case.text_at(3, told);
+    let fresh = stored == "new";
+    let before = if fresh { "" } else { stored };
+    Drained {
         layout,
         fresh,
-        before: cells_in(alloc, &layout, before)?,
-        cells: cells_in(alloc, &layout, case.text(4)?)?,
-    })
+        before: cells_in(alloc, &layout, before, told),
+        cells: cells_in(alloc, &layout, case.text_at(4, told), told),
+    }
 }
 
 /// `rewrites ARCHIVES METHOD FACTOR STORED LAID`: the number of runs, and the bytes of the file in the end. Then each run in turn, and one
 /// behind the last, fails once, whole or torn; it says so where the run is not written again, or the file is another one.
-pub fn tell_rewrites(alloc: Global, told: &mut String, case: &Case) -> Result<(), CaseFault> {
-    let drained = drained_of(alloc, case)?;
-    let smooth = by_runs(alloc, &drained, 0, false)?;
-    tell_left(told, &drained.layout, &smooth)?;
-    tell_failing(alloc, told, &drained, &smooth)
+pub fn tell_rewrites(alloc: Global, told: &mut Told, case: &Case, layout: Layout) {
+    let drained = drained_of(alloc, case, layout, told);
+    match by_runs(alloc, &drained, 0, false) {
+        Ok(smooth) => tell_smooth(alloc, told, &drained, &smooth),
+        Err(fault) => told.fail(fault),
+    }
 }
 
-fn tell_left(told: &mut String, layout: &Layout, left: &Left) -> Result<(), AllocError> {
-    write!(told, "runs {}; ", left.calls)?;
+fn tell_smooth(alloc: Global, told: &mut Told, drained: &Drained, smooth: &Left) {
+    tell_left(told, &drained.layout, smooth);
+    tell_failing(alloc, told, drained, smooth);
+}
+
+fn tell_left(told: &mut Told, layout: &Layout, left: &Left) {
+    write!(told, "runs {}; ", left.calls);
     match &left.file {
         Some(file) => tell_bytes_of(told, layout, file),
         None => told.push_str("no file"),
@@ -306,31 +333,30 @@ fn tell_left(told: &mut String, layout: &Layout, left: &Left) -> Result<(), Allo
 }
 
 // Tells which calls, where they fail, leave another file or are not made again.
-fn tell_failing(
-    alloc: Global,
-    told: &mut String,
-    drained: &Drained,
-    smooth: &Left,
-) -> Result<(), CaseFault> {
+fn tell_failing(alloc: Global, told: &mut Told, drained: &Drained, smooth: &Left) {
     for call in 1..=smooth.calls.saturating_add(1) {
-        tell_again(alloc, told, drained, smooth, call)?;
+        tell_again(alloc, told, drained, smooth, call, false);
+        tell_again(alloc, told, drained, smooth, call, true);
     }
-    Ok(())
 }
 
 fn tell_again(
     alloc: Global,
-    told: &mut String,
+    told: &mut Told,
     drained: &Drained,
     smooth: &Left,
     call: u64,
-) -> Result<(), CaseFault> {
-    let again = u64::from(call <= smooth.calls);
-    for tears in [false, true] {
-        let left = by_runs(alloc, drained, call, tears)?;
-        if left.calls.saturating_sub(again) != smooth.calls || left.file != smooth.file {
-            write!(told, "; another where call {call} fails")?;
-        }
+    tears: bool,
+) {
+    match by_runs(alloc, drained, call, tears) {
+        Ok(left) => tell_other_end(told, &left, smooth, call),
+        Err(fault) => told.fail(fault),
     }
-    Ok(())
+}
+
+fn tell_other_end(told: &mut Told, left: &Left, smooth: &Left, call: u64) {
+    let again = u64::from(call <= smooth.calls);
+    if left.calls.saturating_sub(again) != smooth.calls || left.file != smooth.file {
+        write!(told, "; another where call {call} fails");
+    }
 }

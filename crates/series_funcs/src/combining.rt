@@ -9,6 +9,7 @@ ghost use Rattle.series_funcs.specs.Combined.{AreCombinable, IsSoonAfter, all_on
 
 use crate::kinds::Combine;
 use crate::quotients::times;
+use crate::work;
 use fixed_num::{Milli, narrow, wide};
 use ring_format::Method;
 use rollup::roll;
@@ -22,7 +23,7 @@ use std::alloc::{AllocError, Global};
 /// of the series have together, in their order: see [`Combine`]. It may be combined again, and ends less than 31,536,000 seconds after
 /// all of these series.
 ///
-/// Errors: those of [`common_grid`], and want of memory, as where there is no room for the values.
+/// Errors: those of [`common_grid`], and want of memory, as where there is no room for the values or too much to be done.
 #[tactic(auto, unfolding(crate::specs::Combined::combine))]
 pub fn combine(
     alloc: Global,
@@ -30,7 +31,7 @@ pub fn combine(
     set: &SeriesSet,
     name: &str,
     path: &str,
-    mut room: Allowance,
+    room: &mut Allowance,
 ) -> Result<SeriesSet, EvalFault>
     requires { AreCombinable set.now }
     ensures ok { IfOk result (λ together. combine kind set.now name.now path.now ≡ Ok together) }
@@ -40,12 +41,12 @@ pub fn combine(
 {
     let mut together = SeriesSet::new(alloc);
     if set.len() > 0 {
-        together.push(combined_series(alloc, kind, set, name, path, &mut room)?)?;
+        together.push(combined_series(alloc, kind, set, name, path, room)?)?;
     }
     Ok(together)
 }
 
-/// What some series have together, for which room is taken.
+/// What some series have together, for which room and work are taken.
 #[tactic(auto, unfolding(crate::specs::Combined::combined_series))]
 pub(crate) fn combined_series(
     alloc: Global,
@@ -65,6 +66,7 @@ pub(crate) fn combined_series(
 {
     let grid = common_grid(set)?;
     room.bear(Size::of_values(grid.value_count()))?;
+    room.spend(work::of_combining(set.as_slice(), &grid, grid.value_count()))?;
     let series = combined_on(alloc, kind, set, name, path, &grid)?;
     room.take(series.size())?;
     Ok(series)

@@ -11,6 +11,7 @@ ghost use Rattle.series_funcs.specs.Each.{each_of};
 use crate::combining::value_at;
 use crate::naming::call_text;
 use crate::quotients::ratio;
+use crate::work;
 use fixed_num::Milli;
 use series_set::{
     Allowance, EvalFault, Grid, Reading, Series, SeriesSet, Size, check_pair, common_grid, on_grid,
@@ -27,13 +28,13 @@ use std::alloc::{AllocError, Global};
 ///
 /// Errors: `StepTooWide` where a dividend's step and the divisor's have no common multiple up to the widest step, with that of the first
 /// such; else that of the first dividend that has no common grid with the divisor; and want of memory, as where there is no room for the
-/// quotients.
+/// quotients or too much to be done.
 #[tactic(auto, unfolding(crate::specs::Divided::divide))]
 pub fn divide(
     alloc: Global,
     dividends: &SeriesSet,
     divisors: &SeriesSet,
-    room: Allowance,
+    room: &mut Allowance,
 ) -> Result<SeriesSet, EvalFault>
     requires dividends { AreCombinable dividends.now }
     requires divisors { AreCombinable divisors.now }
@@ -62,7 +63,7 @@ fn divide_by(
     alloc: Global,
     dividends: &[Series],
     divisor: &Series,
-    room: Allowance,
+    room: &mut Allowance,
 ) -> Result<SeriesSet, EvalFault>
     requires dividends { AreCombinable dividends.now }
     requires divisor { AreCombinable (divisor.now ∷ []) }
@@ -94,7 +95,7 @@ fn divide_each(
     alloc: Global,
     dividends: &[Series],
     divisor: &Series,
-    mut room: Allowance,
+    room: &mut Allowance,
 ) -> Result<SeriesSet, EvalFault>
     requires dividends { AreCombinable dividends.now }
     requires divisor { AreCombinable (divisor.now ∷ []) }
@@ -106,12 +107,12 @@ fn divide_each(
 {
     let mut quotients = Vec::with_capacity(alloc, dividends.len())?;
     for dividend in dividends {
-        quotients.push(divided(alloc, dividend, divisor, &mut room)?)?;
+        quotients.push(divided(alloc, dividend, divisor, room)?)?;
     }
     Ok(SeriesSet::from_vec(quotients))
 }
 
-// One series over another, on the common grid of the two. Room is taken for it.
+// One series over another, on the common grid of the two. Room and work are taken for it.
 #[tactic(auto, unfolding(crate::specs::Divided::divided))]
 fn divided(
     alloc: Global,
@@ -127,7 +128,10 @@ fn divided(
 {
     // The two are copied to find their grid.
     room.bear(dividend.size().plus(divisor.size()))?;
+    let values = (dividend.values().len() as u64).saturating_add(divisor.values().len() as u64);
+    room.spend(work::of_copies(values))?;
     let grid = pair_grid(alloc, dividend, divisor)?;
+    room.spend(work::of_quotients(values, grid.value_count()))?;
     let quotient = divided_on(alloc, dividend, divisor, &grid, room)?;
     room.take(quotient.size())?;
     Ok(quotient)
@@ -235,13 +239,13 @@ fn undivided_all(
     alloc: Global,
     dividends: &[Series],
     tail: &str,
-    mut room: Allowance,
+    room: &mut Allowance,
 ) -> Result<SeriesSet, AllocError>
     ensures { IfOk result (λ quotients. quotients ≡ map (undivided tail.now) dividends.now) }
 {
     let mut quotients = Vec::with_capacity(alloc, dividends.len())?;
     for dividend in dividends {
-        quotients.push(undivided(alloc, dividend, tail, &mut room)?)?;
+        quotients.push(undivided(alloc, dividend, tail, room)?)?;
     }
     Ok(SeriesSet::from_vec(quotients))
 }
@@ -255,6 +259,7 @@ fn undivided(
     ensures { IfOk result (λ quotient. quotient ≡ undivided tail.now dividend.now) }
 {
     let name = quotient_name(alloc, dividend.name(), tail)?;
+    room.spend(work::of_copies(dividend.values().len() as u64))?;
     room.take(dividend.size())?;
     room.take_name(name.len(), dividend.name().len())?;
     let path = String::from_str(alloc, dividend.path())?;

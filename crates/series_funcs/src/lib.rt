@@ -15,6 +15,7 @@ mod quotients;
 mod regrouping;
 mod shaping;
 mod summary;
+mod work;
 
 pub use combining::combine;
 pub use dividing::divide;

@@ -16,7 +16,7 @@ impl Model for NodeNumbers {
 }
 
 impl NodeNumbers {
-    ghost use Rattle.std.specs.Prelude.{◌≡◌};
+    ghost use Rattle.std.specs.Prelude.{◌≡◌, length};
     ghost use Rattle.series_funcs.specs.NodeTexts.{is_one_of};
 
     /// These numbers.
@@ -24,6 +24,13 @@ impl NodeNumbers {
         ensures { result ≡ items.items }
     {
         NodeNumbers { items }
+    }
+
+    /// How many there are.
+    pub fn len(&self) -> usize
+        ensures { result ≡ length self.now }
+    {
+        self.items.len()
     }
 
     /// Whether the node at a place, from 0 on, is one of them.

@@ -12,6 +12,7 @@ use crate::combining::combined_series;
 use crate::group_name::GroupName;
 use crate::kinds::{Combine, Regroup};
 use crate::node_texts::{node_text, text_without};
+use crate::work;
 use indexmap::IndexMap;
 use series_set::{Allowance, EvalFault, Series, SeriesSet, common_step};
 use std::alloc::{AllocError, Global};
@@ -21,13 +22,14 @@ use std::alloc::{AllocError, Global};
 /// 31,536,000 seconds after all of these series. The work grows with the series and what it is to combine them.
 ///
 /// Errors: `StepTooWide` where the steps of a group have no common multiple up to the widest step, with that of the first such group;
-/// else that of the first group that has no common grid; and want of memory, as where there is no room for the values of the groups.
+/// else that of the first group that has no common grid; and want of memory, as where there is no room for the values of the groups or too much
+/// to be done.
 #[tactic(auto, unfolding(crate::specs::Regrouped::regroup))]
 pub fn regroup(
     alloc: Global,
     kind: &Regroup,
     set: &SeriesSet,
-    mut room: Allowance,
+    room: &mut Allowance,
 ) -> Result<SeriesSet, EvalFault>
     requires { AreCombinable set.now }
     ensures ok { IfOk result (λ regrouped. regroup kind.now set.now ≡ Ok regrouped) }
@@ -37,8 +39,26 @@ pub fn regroup(
 {
     // The groups have copies of the series.
     room.take(set.size())?;
+    room.spend(work_of(kind, set))?;
     let groups = groups_of(alloc, kind, set.as_slice())?;
     combine_groups(alloc, combine_of(kind), &groups, room)
+}
+
+// How much it is to find the group of each series, and to copy it there.
+fn work_of(kind: &Regroup, set: &SeriesSet) -> u64 {
+    let numbers = match kind {
+        Regroup::GroupByNode { .. } => 1,
+        Regroup::SumSeriesWithWildcards { nodes } => nodes.len() as u64,
+        Regroup::AverageSeriesWithWildcards { nodes } => nodes.len() as u64,
+    };
+    let mut all: u64 = 0;
+    for series in set.as_slice() {
+        let nodes = (series.path().len() as u64).saturating_mul(numbers.saturating_add(1));
+        all = all
+            .saturating_add(nodes)
+            .saturating_add(work::of_copies(series.values().len() as u64));
+    }
+    all
 }
 
 // The series of each group, by its text.
@@ -109,7 +129,7 @@ fn combine_groups(
     alloc: Global,
     kind: Combine,
     groups: &IndexMap<GroupName, SeriesSet>,
-    room: Allowance,
+    room: &mut Allowance,
 ) -> Result<SeriesSet, EvalFault>
     requires some { All (λ group. 0 < length group.1) groups.now.entries }
     requires series { All (λ group. AreCombinable group.1) groups.now.entries }
@@ -144,7 +164,7 @@ fn combine_each(
     alloc: Global,
     kind: Combine,
     groups: &IndexMap<GroupName, SeriesSet>,
-    mut room: Allowance,
+    room: &mut Allowance,
 ) -> Result<SeriesSet, EvalFault>
     requires some { All (λ group. 0 < length group.1) groups.now.entries }
     requires series { All (λ group. AreCombinable group.1) groups.now.entries }
@@ -161,7 +181,7 @@ fn combine_each(
             unreachable!()
         };
         let text = name.as_str();
-        together.push(combined_series(alloc, kind, group, text, text, &mut room)?)?;
+        together.push(combined_series(alloc, kind, group, text, text, room)?)?;
     }
     Ok(SeriesSet::from_vec(together))
 }

@@ -11,6 +11,7 @@ use crate::kinds::{Gather, Shape};
 use crate::looking_back::{add_up, delayed, differ, keep_last, rise, tell_changes};
 use crate::naming::{CallName, call_text};
 use crate::summary::summarized;
+use crate::work;
 use fixed_num::wide;
 use series_set::{Allowance, EvalFault, Reading, Series, SeriesSet, Size};
 use std::alloc::{AllocError, Global};
@@ -19,14 +20,14 @@ use std::alloc::{AllocError, Global};
 /// they stand. A summary ends less than its step later than its series, a shifted one by the shift; the others as before.
 ///
 /// Errors: `TooLong` exactly where a summary has more than 4,000,000 values, with their number at the first such series, and want of memory, as
-/// where there is no room for the values of summaries or for names.
+/// where there is no room for the values of summaries or for names, or too much to be done.
 #[tactic(auto, unfolding(crate::specs::Moved::shape))]
 pub fn shape(
     alloc: Global,
     kind: &Shape,
     set: SeriesSet,
     call: &CallName,
-    room: Allowance,
+    room: &mut Allowance,
 ) -> Result<SeriesSet, EvalFault>
     requires step { HasStep kind.now }
     requires early { All (λ s. end_of s + lateness kind.now ≤ latest_end) set }
@@ -54,7 +55,7 @@ fn summarize_each(
     gather: Gather,
     call: &CallName,
     set: &[Series],
-    mut room: Allowance,
+    room: &mut Allowance,
 ) -> Result<SeriesSet, EvalFault>
     requires step { IsSummaryStep step }
     requires early { All (λ s. end_of s + step ≤ latest_end) set.now }
@@ -65,7 +66,7 @@ fn summarize_each(
 {
     let mut summaries = Vec::with_capacity(alloc, set.len())?;
     for series in set {
-        summaries.push(summarized(alloc, step, gather, call, series, &mut room)?)?;
+        summaries.push(summarized(alloc, step, gather, call, series, room)?)?;
     }
     Ok(SeriesSet::from_vec(summaries))
 }
@@ -77,7 +78,7 @@ fn shift_each(
     seconds: u64,
     call: &CallName,
     set: SeriesSet,
-    mut room: Allowance,
+    room: &mut Allowance,
 ) -> Result<SeriesSet, AllocError>
     requires { All (λ s. end_of s + later_by past seconds ≤ latest_end) set }
     ensures { IfOk result (λ moved. moved ≡ map
@@ -86,7 +87,7 @@ fn shift_each(
     let mut moved = Vec::with_capacity(alloc, set.len())?;
     for series in set.into_vec() {
         if stays(past, seconds, &series) {
-            moved.push(shifted(alloc, past, seconds, call, series, &mut room)?)?;
+            moved.push(shifted(alloc, past, seconds, call, series, room)?)?;
         }
     }
     Ok(SeriesSet::from_vec(moved))
@@ -137,14 +138,14 @@ fn shape_each(
     kind: &Shape,
     call: &CallName,
     set: SeriesSet,
-    mut room: Allowance,
+    room: &mut Allowance,
 ) -> Result<SeriesSet, AllocError>
     ensures { IfOk result (λ shaped. shaped
         ≡ map (shaped_series kind.now call.now.function.now call.now.tail.now) set) }
 {
     let mut shaped = Vec::with_capacity(alloc, set.len())?;
     for series in set.into_vec() {
-        shaped.push(shaped_series(alloc, kind, call, series, &mut room)?)?;
+        shaped.push(shaped_series(alloc, kind, call, series, room)?)?;
     }
     Ok(SeriesSet::from_vec(shaped))
 }
@@ -163,6 +164,7 @@ fn shaped_series(
 {
     let name = call_text(alloc, call.function, series.name(), call.tail)?;
     room.take_name(name.len(), series.name().len())?;
+    room.spend(work::of_shape(kind, series.values().len() as u64))?;
     let step = series.step();
     let values = shaped_values(alloc, kind, step, series.take_values(), room)?;
     Ok(series.with_values(values).renamed(name))

@@ -10,13 +10,14 @@ ghost use Rattle.series_funcs.specs.Moved.{IsSummaryStep, method_of, summarized,
 
 use crate::kinds::Gather;
 use crate::naming::{CallName, call_text};
+use crate::work;
 use fixed_num::Milli;
 use ring_format::Method;
 use rollup::roll;
 use series_set::{Allowance, EvalFault, Grid, Reading, Series, Size};
 use std::alloc::{AllocError, Global};
 
-/// The series in buckets of so many seconds that begin at multiples of them: each has what its known values give. Room is taken for it.
+/// The series in buckets of so many seconds that begin at multiples of them: each has what its known values give. Room and work are taken for it.
 ///
 /// Errors: `TooLong` exactly where there are more than 4,000,000 buckets, with their number, and want of memory.
 #[tactic(auto, unfolding(crate::specs::Moved::summarized))]
@@ -42,6 +43,7 @@ pub(crate) fn summarized(
     };
     let grid = whole.widened().short()?;
     room.bear(Size::of_values(grid.value_count()))?;
+    room.spend(work::of_summary(series.values().len() as u64, grid.value_count()))?;
     let summary = summary_on(alloc, gather, call, series, &grid)?;
     room.take(summary.size())?;
     Ok(summary)

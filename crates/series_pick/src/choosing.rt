@@ -9,16 +9,17 @@ use crate::measures::{First, Measure, Side};
 use crate::naming::{all_named, named_by_nodes};
 use crate::sorting::{first_sorted, sorted, sorted_by_name};
 use crate::substitution::substituted;
+use crate::work;
 use series_set::{Allowance, SeriesSet};
 use std::alloc::{AllocError, Global};
 
 /// What the function leaves of the series, in its order and under its names. Values, moments and paths stay. Longer names than there is room
-/// for are want of memory.
+/// for are want of memory, and so is more work than may be done.
 pub fn choose(
     alloc: Global,
     kind: &Choose,
     set: SeriesSet,
-    room: Allowance,
+    room: &mut Allowance,
 ) -> Result<SeriesSet, AllocError>
     ensures { IfOk result (Chooses kind.now set) }
 {
@@ -26,6 +27,7 @@ pub fn choose(
     use Measure::{Average, Current, Max, Min, Total};
     use Side::{Above, Below};
 
+    room.spend(work::of_measures(kind, &set))?;
     match kind {
         Choose::Alias { name } => all_named(set, name.text(), room),
         Choose::AliasByNode { nodes } => named_by_nodes(alloc, set, nodes.as_slice(), room),
@@ -49,8 +51,8 @@ pub fn choose(
         Choose::CurrentBelow { bound } => Ok(beside(set, Current, Below, *bound)),
         Choose::AverageBelow { bound } => Ok(beside(set, Average, Below, *bound)),
         Choose::RemoveEmptySeries => Ok(with_known(set)),
-        Choose::Grep { pattern } => kept(alloc, set, pattern, Keep::Matching),
-        Choose::Exclude { pattern } => kept(alloc, set, pattern, Keep::Others),
+        Choose::Grep { pattern } => kept(alloc, set, pattern, Keep::Matching, room),
+        Choose::Exclude { pattern } => kept(alloc, set, pattern, Keep::Others, room),
         Choose::AliasSub {
             pattern,
             replacement,

@@ -10,6 +10,7 @@ mod naming;
 mod sorting;
 mod substitution;
 mod words;
+mod work;
 
 pub use choosing::choose;
 pub use kinds::Choose;

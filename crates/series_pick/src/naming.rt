@@ -5,6 +5,7 @@ ghost use Rattle.metric_path.specs.Path.{nodes_of};
 ghost use Rattle.series_pick.specs.Chosen.{renamed, renamed_by_nodes};
 ghost use Rattle.series_pick.specs.Nodes.{name_by_nodes, numbered};
 
+use crate::work;
 use series_set::{Allowance, SeriesSet};
 use std::alloc::{AllocError, Global};
 
@@ -12,7 +13,7 @@ use std::alloc::{AllocError, Global};
 pub(crate) fn all_named(
     set: SeriesSet,
     name: &String,
-    mut room: Allowance,
+    room: &mut Allowance,
 ) -> Result<SeriesSet, AllocError>
     ensures { IfOk result (λ named. named ≡ map (renamed (string_bytes name.now)) set) }
 {
@@ -30,13 +31,14 @@ pub(crate) fn named_by_nodes(
     alloc: Global,
     set: SeriesSet,
     numbers: &[i32],
-    mut room: Allowance,
+    room: &mut Allowance,
 ) -> Result<SeriesSet, AllocError>
     ensures { IfOk result (λ named. named ≡ map (renamed_by_nodes numbers.now) set) }
 {
     let series = set.into_vec();
     let mut named = Vec::with_capacity(alloc, series.len())?;
     for one in series {
+        room.spend(work::of_nodes(numbers.len()))?;
         let name = name_by_nodes(alloc, one.path(), numbers)?;
         room.take_name(name.len(), one.name().len())?;
         named.push(one.renamed(name))?;

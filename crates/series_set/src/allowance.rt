@@ -1,5 +1,5 @@
-//! The memory that one question may use.
-ghost use Rattle.std.specs.Prelude.{◌≡◌, ◌+◌, ◌-◌, ◌*◌, ◌≤◌, OnErr, OnOk};
+//! The memory that one question may use, and the work that may be done for it.
+ghost use Rattle.std.specs.Prelude.{◌≡◌, ◌+◌, ◌-◌, ◌*◌, ◌<◌, ◌≤◌, OnErr, OnOk};
 ghost use Rattle.series_set.specs.Sizes.{counted, shares_of, size, together};
 
 use std::alloc::AllocError;
@@ -58,19 +58,32 @@ impl Size {
     }
 }
 
-/// What the series and the text of one question may still take.
+/// What the series and the text of one question may still take, and how much may still be done for it.
 #[derive(Clone, Copy, Debug, PartialEq, Eq)]
 pub struct Allowance {
     left: Size,
+    work: u64,
 }
 
 // The part of the bytes that is for names.
 const NAMES_PART: u64 = 16;
 
+/// How much may be done for one question: about a second of a processor. One is a nanosecond or two.
+pub const MOST_WORK: u64 = 500_000_000;
+
 impl Allowance {
-    /// So many bytes, of which a sixteenth is for names.
+    /// So many bytes, of which a sixteenth is for names, and [`MOST_WORK`].
     pub fn new(bytes: u64) -> Allowance
-        ensures { result.left ≡ shares_of bytes }
+        ensures left { result.left ≡ shares_of bytes }
+        ensures work { result.work ≡ 500_000_000 }
+    {
+        Allowance::with_work(bytes, MOST_WORK)
+    }
+
+    /// So many bytes, of which a sixteenth is for names, and so much work.
+    pub fn with_work(bytes: u64, work: u64) -> Allowance
+        ensures left { result.left ≡ shares_of bytes }
+        ensures work { result.work ≡ work }
     {
         let names = bytes / NAMES_PART;
         Allowance {
@@ -78,6 +91,7 @@ impl Allowance {
                 names,
                 others: bytes - names,
             },
+            work,
         }
     }
 
@@ -86,6 +100,38 @@ impl Allowance {
         ensures { result ≡ self.now.left.names }
     {
         self.left.names
+    }
+
+    /// How much may still be done.
+    pub fn work_left(&self) -> u64
+        ensures { result ≡ self.now.work }
+    {
+        self.work
+    }
+
+    /// Takes so much from the work that may still be done. Where less is left that is want of memory, and then nothing is left.
+    pub fn spend(&mut self, amount: u64) -> Result<(), AllocError>
+        ensures taken { OnOk result (self.new.work + amount ≡ self.old.work) }
+        ensures refused { OnErr result ((self.old.work < amount) × (self.new.work ≡ 0)) }
+        ensures falls { self.new.work ≤ self.old.work }
+        ensures bytes { self.new.left ≡ self.old.left }
+    {
+        if self.work < amount {
+            self.work = 0;
+            return Err(AllocError);
+        }
+        self.work -= amount;
+        Ok(())
+    }
+
+    /// The bytes that are left here, and the work that is left in another one, which was a copy of this.
+    pub fn worked(self, copy: Allowance) -> Allowance
+        ensures { result ≡ record self { work = copy.work } }
+    {
+        Allowance {
+            work: copy.work,
+            ..self
+        }
     }
 
     /// Whether so many bytes are left, which stay so. Else that is want of memory.
@@ -101,6 +147,7 @@ impl Allowance {
     pub fn take(&mut self, size: Size) -> Result<(), AllocError>
         ensures names { OnOk result (self.new.left.names + size.names ≡ self.old.left.names) }
         ensures others { OnOk result (self.new.left.others + size.others ≡ self.old.left.others) }
+        ensures work { self.new.work ≡ self.old.work }
         ensures err { OnErr result (self.new ≡ self.old) }
     {
         if size.names > self.left.names || size.others > self.left.others {
@@ -119,6 +166,7 @@ impl Allowance {
         ensures names { OnOk result (self.new.left.names
             ≡ counted ((self.old.left.names - bytes) + before)) }
         ensures others { OnOk result (self.new.left.others ≡ self.old.left.others) }
+        ensures work { self.new.work ≡ self.old.work }
         ensures err { OnErr result (self.new ≡ self.old) }
     {
         self.take(Size::of_name(bytes))?;
@@ -128,7 +176,8 @@ impl Allowance {
 
     /// Gives bytes back that were taken.
     pub fn give_back(&mut self, size: Size)
-        ensures { self.new.left ≡ together self.old.left size }
+        ensures left { self.new.left ≡ together self.old.left size }
+        ensures work { self.new.work ≡ self.old.work }
     {
         self.left = self.left.plus(size);
     }

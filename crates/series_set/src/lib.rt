@@ -13,7 +13,7 @@ mod series;
 mod set;
 mod thinning;
 
-pub use allowance::{Allowance, Size};
+pub use allowance::{Allowance, MOST_WORK, Size};
 pub use averaging::average_known;
 pub use common::{check_pair, common_grid, common_step};
 pub use grid::{EvalFault, Grid};

@@ -1,15 +1,17 @@
 -- What a start finds on a disk, and what it makes of it.
-use Rattle.std.proofs.Common.{◌≡◌, ◌∙◌, inl, inr, ⊎_elim, ℕ, Bool, true, false, List, [], ◌∷◌, Option, None, Some, IfSome, refl, sym, ap, subst}
+use Rattle.std.proofs.Common.{◌≡◌, ◌∙◌, inl, inr, ⊎_elim, ℕ, Bool, true, false, List, [], ◌∷◌, length, Option, None, Some, IfSome, refl, sym, ap, subst, arith, lt-ltb}
 use Rattle.std.specs.Prelude.{option_and_then}
 use Rattle.std.proofs.lemmas.Bool.{true≢false}
-use Rattle.outside_io.specs.Image.{Image, WhereKnown}
+use Rattle.outside_io.specs.Image.{Image, SameImage, WhereKnown}
+use Rattle.outside_io.specs.declared.disk.Disk.{Ghosts}
 use Rattle.ring_format.specs.Patch.{PatchValue}
-use Rattle.redo_log.specs.Arm.{Arms, IsShut}
+use Rattle.redo_log.specs.Arm.{Arms, IsShut, MakesNothing, has_byte}
+use Rattle.redo_log.specs.Frame.{LooksOnly}
 use Rattle.redo_log.specs.Recovery.{IsDamaged as IsDamagedLog, Lays, OpensAs, Recovers, StandsWithin, is_open}
 use Rattle.redo_log.specs.Rows.{KeepsRings}
-use Rattle.redo_log.specs.Steps.{IsClosed, gate_name, log_name}
+use Rattle.redo_log.specs.Steps.{IsClosed, IsOpen, gate_name, log_name}
 use Rattle.carbon_model.specs.RingFiles.{StandsUnder, kept_in}
-use Rattle.shard_core.specs.Opened.{IsOpening, Opens, StillOpens}
+use Rattle.shard_core.specs.Opened.{IsOpening, MakesLog, Opens, StillOpens}
 use Rattle.shard_core.specs.Opening.{IsLogRefused, OpensDisk, RefusesDisk}
 use Rattle.shard_core.specs.Shard.{HasFiles}
 use Rattle.shard_core.specs.StartFaults.{IsDamagedFile, IsDamagedRing}
@@ -45,6 +47,32 @@ recovered_shut a m b recovers same = subst (λ (o : Option Image). IfSome o (λ 
     by None (Some after) recovers = absurd recovers
     by (Some before) None recovers = absurd recovers
     by (Some before) (Some after) recovers = shut_behind before after recovers
+
+-- ---- whether there is a gate
+
+some_has : (byte : ℕ) (file : List ℕ) → has_byte (Some (byte ∷ file)) ≡ true
+some_has byte file = lt-ltb 0 (length (byte ∷ file)) (omega arith)
+
+open_has : (held : Option (List ℕ)) → IsOpen held → has_byte held ≡ true
+open_has None is = absurd is
+open_has (Some []) is = absurd cc
+open_has (Some (byte ∷ file)) is = some_has byte file
+
+closed_has : (held : Option (List ℕ)) → IsClosed held → has_byte held ≡ true
+closed_has None is = absurd is
+closed_has (Some []) is = absurd is
+closed_has (Some (byte ∷ file)) is = some_has byte file
+
+-- where there is no gate a recovery changes nothing
+pub bare_same : (x y : Image) → Recovers x y → has_byte (x gate_name) ≡ false → SameImage x y
+bare_same x y recovers none = ⊎_elim (λ same. same.1) (λ laid. absurd (true≢false (sym (open_has (x gate_name) laid.gate) ∙ none))) recovers
+
+pub bare_before : (x y : Image) → Recovers x y → has_byte (y gate_name) ≡ false → has_byte (x gate_name) ≡ false
+bare_before x y recovers none =
+    ⊎_elim (λ same. ap has_byte (sym (same.1 gate_name)) ∙ none) (λ laid. absurd (true≢false (sym (closed_has (y gate_name) laid.closed) ∙ none))) recovers
+
+pub bare_opens : (x left : Image) → has_byte (x gate_name) ≡ false → OpensAs x left → SameImage x left
+bare_opens x left none opens = ⊎_elim (λ same. same) (λ stops. absurd (true≢false (sym (open_has (x gate_name) stops.gate) ∙ none))) opens
 
 -- ---- it opens as it did
 
@@ -146,15 +174,62 @@ log_known NoMemory a class damaged = tt
 pub log_refuses : (fault : StartFault) (a b : Option Image) (class : ℕ) → IsLogRefused fault a b → RefusesDisk fault class a b
 log_refuses fault a b class refused = record { opens = as_known a b refused.opens; damaged = log_known fault a class refused.damaged }
 
+-- ---- what is made besides
+
+still_has : (x y : Image) → Recovers x y → has_byte (x gate_name) ≡ true → has_byte (y gate_name) ≡ true
+still_has x y recovers is = ⊎_elim (λ same. ap has_byte (same.1 gate_name) ∙ is) (λ laid. closed_has (y gate_name) laid.closed) recovers
+
+still_none : (x y : Image) → Recovers x y → has_byte (x gate_name) ≡ false → has_byte (y gate_name) ≡ false
+still_none x y recovers none = ap has_byte (bare_same x y recovers none gate_name) ∙ none
+
+recovers_to : (x y z : Image) → Recovers x y → Some z ≡ Some y → Recovers x z
+recovers_to x y z recovers same = subst (λ (o : Option Image). IfSome o (λ image. Recovers x image)) (sym same) recovers
+
+makes_by : (is_logged : Bool) (a m b : Option Image) → WhereKnown a m Recovers → WhereKnown m b KeepsRings → (is_logged ≡ false → b ≡ m) → IfSome m (λ image. has_byte (image gate_name) ≡ true → b ≡ m)
+    → (is_logged ≡ true → WhereKnown m b MakesNothing) → WhereKnown a b (MakesLog is_logged)
+makes_by is_logged None None None recovers keeps bare kept made = tt
+makes_by is_logged None None (Some z) recovers keeps bare kept made = keeps
+makes_by is_logged None (Some y) b recovers keeps bare kept made = absurd recovers
+makes_by is_logged (Some x) None b recovers keeps bare kept made = absurd recovers
+makes_by is_logged (Some x) (Some y) None recovers keeps bare kept made = keeps
+makes_by is_logged (Some x) (Some y) (Some z) recovers keeps bare kept made = record {
+  bare = λ none. recovers_to x y z recovers (bare none);
+  kept = λ is. recovers_to x y z recovers (kept (still_has x y recovers is));
+  made = λ logged none. made logged (still_none x y recovers none);
+}
+
+-- behind the read of the heads
+pub makes_known : (is_logged : Bool) (a m t b : Option Image) → WhereKnown a m Recovers → t ≡ m → WhereKnown t b KeepsRings → (is_logged ≡ false → b ≡ t) → IfSome t (λ image. has_byte (image gate_name) ≡ true → b ≡ t)
+    → (is_logged ≡ true → WhereKnown t b MakesNothing) → WhereKnown a b (MakesLog is_logged)
+makes_known is_logged a m t b recovers same =
+    subst (λ (o : Option Image). WhereKnown o b KeepsRings → (is_logged ≡ false → b ≡ o) → IfSome o (λ image. has_byte (image gate_name) ≡ true → b ≡ o) → (is_logged ≡ true → WhereKnown o b MakesNothing) → WhereKnown a b (MakesLog is_logged))
+    (sym same) (makes_by is_logged a m b recovers)
+
+-- nothing is made
+pub same_kept : (a b : Option Image) → b ≡ a → IfSome a (λ image. has_byte (image gate_name) ≡ true → b ≡ a)
+same_kept None b same = tt
+same_kept (Some x) b same = λ is. same
+
+-- or the log is made by a call that only looks where there is a gate
+by_looks : {D : Type 0} (d : Ghosts D) (known : Option Image) (disk new : D) (failed : Type 0) → IfSome known (λ image. has_byte (image gate_name) ≡ true → LooksOnly d disk new failed) → IfSome known (λ image. has_byte (image gate_name) ≡ true → d.image new ≡ d.image disk)
+by_looks d None disk new failed looks = tt
+by_looks d (Some x) disk new failed looks = λ is. (looks is).kept
+
+pub looked_kept : {D : Type 0} (d : Ghosts D) (disk new : D) (failed : Type 0) → IfSome (d.image disk) (λ image. has_byte (image gate_name) ≡ true → LooksOnly d disk new failed)
+    → IfSome (d.image disk) (λ image. has_byte (image gate_name) ≡ true → d.image new ≡ d.image disk)
+looked_kept d disk new failed looks = by_looks d (d.image disk) disk new failed looks
+
 -- ---- the whole opening
 
 keeps_behind : (m t b : Option Image) → t ≡ m → WhereKnown t b KeepsRings → WhereKnown m b KeepsRings
 keeps_behind m t b same keeps = subst (λ (o : Option Image). WhereKnown o b KeepsRings) same keeps
 
 -- before it, behind the recovery, behind the read of the heads, and behind the making of the log
-pub all_opened : (class : ℕ) (is_logged : Bool) (table : Table) (a m t b : Option Image) → WhereKnown a m Recovers → t ≡ m → WhereKnown t b KeepsRings → Opens class m table → HasFiles class table None m → HoldsLog (no_work is_logged).log b → OpensDisk class is_logged a b table
-all_opened class is_logged table a m t b recovers same keeps opens files log = record {
+pub all_opened : (class : ℕ) (is_logged : Bool) (table : Table) (a m t b : Option Image) → WhereKnown a m Recovers → t ≡ m → WhereKnown t b KeepsRings → Opens class m table → HasFiles class table None m → HoldsLog (no_work is_logged).log b
+    → WhereKnown a b (MakesLog is_logged) → OpensDisk class is_logged a b table
+all_opened class is_logged table a m t b recovers same keeps opens files log makes = record {
   opening = opening_known a m b recovers (keeps_behind m t b same keeps);
+  makes = makes;
   opens = opens_known class table m b (keeps_behind m t b same keeps) opens;
   files = files_known class table m b (keeps_behind m t b same keeps) files;
   log = log;

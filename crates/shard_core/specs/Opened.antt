@@ -1,5 +1,5 @@
 -- What a shard finds when it starts.
-use Rattle.std.specs.Prelude.{◌≡◌, ◌⊎◌, ℕ, true, false, List, Option, None, IfSome, IsSomeAnd}
+use Rattle.std.specs.Prelude.{◌≡◌, ◌⊎◌, ℕ, Bool, true, false, List, Option, None, IfSome, IsSomeAnd}
 use Rattle.std.specs.Ordering.{nat_cmp, is_le}
 use Rattle.std.specs.Cmp.Lexicographic.{slice_cmp}
 use Rattle.outside_io.specs.Image.{Image}
@@ -7,9 +7,10 @@ use Rattle.metric_path.specs.Class.{class_of}
 use Rattle.metric_path.specs.FileName.{file_name_of}
 use Rattle.carbon_model.specs.State.{Kept}
 use Rattle.carbon_model.specs.RingFiles.{IsOfClass, is_sound, kept_on}
+use Rattle.redo_log.specs.Arm.{MakesNothing, has_byte}
 use Rattle.redo_log.specs.Recovery.{IsDamaged as IsDamagedLog, OpensAs, Recovers}
 use Rattle.redo_log.specs.Rows.{KeepsRings}
-use Rattle.redo_log.specs.Steps.{log_name}
+use Rattle.redo_log.specs.Steps.{gate_name, log_name}
 use Rattle.metric_index.specs.Index.{entry_of}
 use Rattle.shard_core.specs.Shard.{HoldsKept}
 use Rattle.shard_core.specs.Table.{Table}
@@ -20,6 +21,13 @@ pub record IsOpening (image opening : Image) : Type 0 where
   pub laid : Image
   pub recovers : Recovers image laid
   pub rings : KeepsRings laid opening
+
+-- What is written before the opening besides what is laid: nothing where drains do not go through the log, nor where there is a gate, and
+-- else the log of nothing and a closed gate.
+pub record MakesLog (is_logged : Bool) (image opening : Image) : Type 0 where
+  pub bare : is_logged ≡ false → Recovers image opening
+  pub kept : has_byte (image gate_name) ≡ true → Recovers image opening
+  pub made : is_logged ≡ true → MakesNothing image opening
 
 -- an image that opens as another does: it is the same, or its patch is laid or can still be laid
 pub record StillOpens (image now : Image) : Type 0 where

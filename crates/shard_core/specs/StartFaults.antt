@@ -1,9 +1,10 @@
 -- What the faults of a start tell.
 use Rattle.std.specs.Prelude.{◌≤◌, ℕ, Option, IfSome, string_bytes}
-use Rattle.outside_io.specs.Crash.{LeavesOnly, OnlyKnown}
+use Rattle.outside_io.specs.Crash.{LeavesOnly}
 use Rattle.outside_io.specs.Image.{Image, WhereKnown}
 use Rattle.outside_io.specs.Faults.{Rose}
 use Rattle.outside_io.specs.declared.disk.Disk.{Ghosts}
+use Rattle.redo_log.specs.Arm.{LeavesBare}
 use Rattle.shard_core.specs.declared.fault.StartFault.{StartFault}
 use Rattle.shard_core.specs.declared.fault.StartFault.TheVariants.{Damaged, DiskFault, NoMemory}
 use Rattle.shard_core.specs.Opened.{FirstDamaged, IsDamagedBy, StillOpens}
@@ -33,5 +34,5 @@ pub record NotStarted {D : Type 0} (d : Ghosts D) (class : ℕ) (disk back : D) 
   pub damaged : IsDamagedFile fault (d.image disk) class
   pub later : d.faults disk ≤ d.faults back
   pub cause : IsDiskFault fault → Rose (d.faults disk) (d.faults back)
-  pub crash : OnlyKnown (d.image disk) (d.may_leave disk)
-      → LeavesOnly d.moment d.left_since disk back (StartMayLeave (d.image disk))
+  pub crash : LeavesBare (d.image disk) (d.may_leave disk)
+      → LeavesOnly d.moment d.left_since disk back (StartMayLeave (d.image disk) (d.may_leave disk))

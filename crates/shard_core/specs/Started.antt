@@ -5,7 +5,7 @@ use Rattle.outside_io.specs.declared.disk.Disk.{Ghosts}
 use Rattle.schema_rules.specs.LayoutBy.{layout_by}
 use Rattle.carbon_model.specs.RingFiles.{IsOfClass, Settings}
 use Rattle.carbon_model.specs.State.{Kept, State, form_of}
-use Rattle.shard_core.specs.Opened.{IsOpened, IsOpening, Opens}
+use Rattle.shard_core.specs.Opened.{IsOpened, IsOpening, MakesLog, Opens}
 use Rattle.shard_core.specs.Shard.{Holds}
 use Rattle.shard_core.specs.StartCrashes.{StartCrashes}
 use Rattle.shard_core.specs.Table.{Table, kept_form}
@@ -24,6 +24,7 @@ pub record StartedFrom {D : Type 0} {d : Ghosts D} (class : ℕ) (settings : Set
       ≡ record { strategy = settings.strategy; queue = []; arrived = []; settled = None }
   pub empty : shard.files.work ≡ no_work redo
   pub opening : WhereKnown (d.image disk) (d.image shard.files.disk) IsOpening
+  pub makes : WhereKnown (d.image disk) (d.image shard.files.disk) (MakesLog redo)
   pub opens : Opens class (d.image shard.files.disk) shard.desk.table
   pub opened : IsOpened class shard.desk.table
   pub later : d.faults disk ≤ d.faults shard.files.disk

@@ -34,13 +34,21 @@ fn refused_for(alloc: Global, refusal: &(MemDisk, StartFault)) -> Result<Vec<u8>
     Vec::from_slice(alloc, text_of(&refusal.1).as_bytes())
 }
 
+fn paths_of(alloc: Global, shard: Shard<MemDisk>) -> Result<Vec<u8>, AllocError> {
+    paths_in(alloc, &shard)
+}
+
+fn found_by(alloc: Global, disk: MemDisk, rules: Rules) -> Result<Vec<u8>, AllocError> {
+    match start(alloc, disk, rules) {
+        Ok(shard) => paths_of(alloc, shard),
+        Err(refusal) => refused_for(alloc, &refusal),
+    }
+}
+
 // What a start finds: the paths of its metrics, or what it is refused for.
 fn found(alloc: Global, disk: MemDisk) -> Result<Vec<u8>, Fail> {
     let rules = read_rules(alloc, b"")?;
-    match start(alloc, disk, rules) {
-        Ok(shard) => Ok(paths_in(alloc, &shard)?),
-        Err(refusal) => Ok(refused_for(alloc, &refusal)?),
-    }
+    Ok(found_by(alloc, disk, rules)?)
 }
 
 fn assert_found(
@@ -64,7 +72,7 @@ const NONE: &str = "";
 const DAMAGED_FILE: &str = "a/b.ring";
 
 // What the file of `a.b` is, the numbers that it begins with, its size, and what the start finds.
-const HEADS: [(&str, &[u32], usize, &str); 16] = [
+static HEADS: [(&str, &[u32], usize, &str); 16] = [
     ("sound", SOUND, 148, RING),
     ("zero", &[], 28, NONE),
     ("empty", &[], 0, NONE),
@@ -133,7 +141,7 @@ fn heads_of_files(rt: HostRuntime) -> Result<(), Fail> {
 }
 
 // The files, and the name of the first that is damaged, in byte order.
-const NAMES: [(&[Held], &str); 4] = [
+static NAMES: [(&[Held], &str); 4] = [
     (
         &[("a/r.ring", DAMAGED, 148), ("a/b.ring", DAMAGED, 148)],
         "a/b.ring",
@@ -179,7 +187,7 @@ const CUT: &[u32] = &[9];
 
 // The files, and what a start over them finds: a log of which nothing can be laid is told before any
 // head, where the gate is open. Sixteen zeros are the body of nothing.
-const LOGS: [(&[Held], &str); 5] = [
+static LOGS: [(&[Held], &str); 5] = [
     (
         &[
             ("redo.gate", OPEN, 1),
@@ -263,7 +271,7 @@ fn disk_after(alloc: Global, disk: MemDisk) -> Result<MemDisk, Fail> {
 }
 
 // The path `b` is of class 5.
-const OTHERS: [Held; 4] = [
+static OTHERS: [Held; 4] = [
     ("x.txt", DAMAGED, 28),
     ("a.b.ring", DAMAGED, 30),
     ("b.ring", DAMAGED, 148),
@@ -324,15 +332,25 @@ fn a_failed_call_is_counted(rt: HostRuntime) -> Result<(), Fail> {
     Ok(())
 }
 
-// Whether a start that makes the log is refused for the disk, of which one writing call fails.
-fn is_unmade(alloc: Global, call: u64) -> Result<bool, Fail> {
-    let rules = read_rules(alloc, b"")?;
+// A disk of which one writing call fails.
+fn full_disk(alloc: Global, call: u64) -> Result<MemDisk, AllocError> {
     let calls = vec![in alloc; call]?;
-    let disk = MemDisk::new(alloc, 100).failing(calls);
+    Ok(MemDisk::new(alloc, 100).failing(calls))
+}
+
+// Whether a start that makes the log is refused for the disk.
+fn is_refused(alloc: Global, disk: MemDisk, rules: Rules) -> bool {
     match Shard::start(alloc, 12, disk, rules, LIMIT, Strategy::Naive, true) {
-        Ok(_shard) => Ok(false),
-        Err(refusal) => Ok(faults_of_refusal(&refusal) == Some(1)),
+        Ok(_shard) => false,
+        Err(refusal) => faults_of_refusal(&refusal) == Some(1),
     }
+}
+
+// The same over a disk of which one writing call fails.
+fn is_unmade(alloc: Global, call: u64) -> Result<bool, Fail> {
+    let disk = full_disk(alloc, call)?;
+    let rules = read_rules(alloc, b"")?;
+    Ok(is_refused(alloc, disk, rules))
 }
 
 // The log is created and brought to the device, and then the gate.

@@ -72,6 +72,23 @@ fn start_logged(alloc: Global, disk: MemDisk, rules: Rules) -> Result<Shard<MemD
     }
 }
 
+// What owns a shard has few ways out: each of them drops all of it, and a proof pays for that.
+fn shard_over(
+    alloc: Global,
+    disk: MemDisk,
+    schemas: &[u8],
+    limit: u64,
+    strategy: Strategy,
+) -> Result<Shard<MemDisk>, Fail> {
+    let rules = read_rules(alloc, schemas)?;
+    start_over(alloc, disk, rules, limit, strategy)
+}
+
+fn shard_logged(alloc: Global, disk: MemDisk, schemas: &[u8]) -> Result<Shard<MemDisk>, Fail> {
+    let rules = read_rules(alloc, schemas)?;
+    start_logged(alloc, disk, rules)
+}
+
 // ---- what is done
 
 fn put<D: Disk>(shard: &mut Shard<D>, datum: &Datum) -> Result<Put, Fail> {
@@ -227,7 +244,7 @@ const B_4: Act<'static> = Act::Put(b"a.b 4 1700000280", Put::Stored);
 
 const B_5: Act<'static> = Act::Put(b"a.b 5 1700000340", Put::Stored);
 
-const FIVE: [Act<'static>; 5] = [B_1, B_2, B_3, B_4, B_5];
+static FIVE: [Act<'static>; 5] = [B_1, B_2, B_3, B_4, B_5];
 
 // The five minutes by minutes, and the two five minutes up to them: 3 is the average of the second.
 const FINE: Act<'static> = Act::Shown(
@@ -327,9 +344,8 @@ fn drain_failing(
     run: u32,
     is_torn: bool,
 ) -> Result<(u32, u32), Fail> {
-    let rules = read_rules(alloc, drain.schemas)?;
     let disk = failing_disk(alloc, drain.first.saturating_add(run), is_torn)?;
-    let mut shard = start_over(alloc, disk, rules, 100, Strategy::Naive)?;
+    let mut shard = shard_over(alloc, disk, drain.schemas, 100, Strategy::Naive)?;
     drain_over(rt, alloc, &mut shard, drain)
 }
 
@@ -357,7 +373,7 @@ const TWO_ASKED: [Act<'static>; 2] = [FINE, COARSE];
 
 const THREE_ASKED: [Act<'static>; 3] = [FINE, COARSE, OLD];
 
-const DRAINS: [Drain<'static>; 6] = [
+static DRAINS: [Drain<'static>; 6] = [
     Drain {
         schemas: ONE,
         before: &[],
@@ -425,9 +441,8 @@ fn steps_failing(
     step: u32,
     is_torn: bool,
 ) -> Result<(u32, u32), Fail> {
-    let rules = read_rules(alloc, drain.schemas)?;
     let disk = failing_disk(alloc, step.saturating_add(5), is_torn)?;
-    let mut shard = start_logged(alloc, disk, rules)?;
+    let mut shard = shard_logged(alloc, disk, drain.schemas)?;
     drain_over(rt, alloc, &mut shard, drain)
 }
 
@@ -457,31 +472,49 @@ fn a_metric_shows_the_same_between_any_two_steps_of_the_log(rt: HostRuntime) -> 
     Ok(())
 }
 
-// The disk of a shard that was stopped behind so many steps of a drain.
-fn stopped_disk(rt: &impl Abort, alloc: Global, steps: u32) -> Result<MemDisk, Fail> {
-    let rules = read_rules(alloc, ONE)?;
-    let mut shard = start_logged(alloc, MemDisk::new(alloc, 10_000), rules)?;
-    assert_all(rt, alloc, &mut shard, &FIVE)?;
-    assert_all(rt, alloc, &mut shard, &[Act::Plan(NOW, "a.b")])?;
+// So many steps of a drain of the five minutes.
+fn take_steps(
+    rt: &impl Abort,
+    alloc: Global,
+    shard: &mut Shard<MemDisk>,
+    steps: u32,
+) -> Result<(), Fail> {
+    assert_all(rt, alloc, shard, &FIVE)?;
+    assert_all(rt, alloc, shard, &[Act::Plan(NOW, "a.b")])?;
     for _ in 0..steps {
         let _ = shard.write_next();
     }
+    Ok(())
+}
+
+// The disk of a shard that was stopped behind so many steps of a drain.
+fn stopped_disk(rt: &impl Abort, alloc: Global, steps: u32) -> Result<MemDisk, Fail> {
+    let mut shard = shard_logged(alloc, MemDisk::new(alloc, 10_000), ONE)?;
+    take_steps(rt, alloc, &mut shard, steps)?;
     Ok(shard.finish())
 }
 
 // What is kept where the gate was open, which it is behind the fourth step.
-const LAID: [Act<'static>; 2] = [Act::Names(&["a.b"]), FINE];
+static LAID: [Act<'static>; 2] = [Act::Names(&["a.b"]), FINE];
 
-const NOTHING_LAID: [Act<'static>; 1] = [Act::Names(&[])];
+static NOTHING_LAID: [Act<'static>; 1] = [Act::Names(&[])];
+
+fn assert_laid(
+    rt: &impl Abort,
+    alloc: Global,
+    shard: &mut Shard<MemDisk>,
+    steps: u32,
+) -> Result<(), Fail> {
+    if steps < 4 {
+        return assert_all(rt, alloc, shard, &NOTHING_LAID);
+    }
+    assert_all(rt, alloc, shard, &LAID)
+}
 
 fn assert_stopped(rt: &impl Abort, alloc: Global, steps: u32) -> Result<(), Fail> {
-    let rules = read_rules(alloc, ONE)?;
     let disk = stopped_disk(rt, alloc, steps)?;
-    let mut shard = start_over(alloc, disk, rules, 100, Strategy::Naive)?;
-    if steps < 4 {
-        return assert_all(rt, alloc, &mut shard, &NOTHING_LAID);
-    }
-    assert_all(rt, alloc, &mut shard, &LAID)
+    let mut shard = shard_over(alloc, disk, ONE, 100, Strategy::Naive)?;
+    assert_laid(rt, alloc, &mut shard, steps)
 }
 
 // A drain that was stopped is laid whole at the next start, once its gate was open, and is as if it
@@ -497,7 +530,7 @@ fn a_drain_that_was_stopped_is_whole_at_the_next_start(rt: HostRuntime) -> Resul
 // How many files were created, pieces written, and syncs made behind so many steps. The log and the
 // gate are made first, each with a sync; five steps lead to the open gate, three write the file, and
 // three close the gate.
-const CALLS: [[u64; 3]; 12] = [
+static CALLS: [[u64; 3]; 12] = [
     [2, 0, 2],
     [3, 0, 2],
     [3, 1, 2],
@@ -532,15 +565,29 @@ fn each_step_of_the_log_is_one_call(rt: HostRuntime) -> Result<(), Fail> {
     Ok(())
 }
 
+static MINUTE_ASKED: [Act<'static>; 1] = [FINE];
+
+// A drain of one more point: how many steps are taken, and how many fail.
+fn drain_again(
+    rt: &impl Abort,
+    alloc: Global,
+    shard: &mut Shard<MemDisk>,
+) -> Result<(u32, u32), Fail> {
+    assert_all(rt, alloc, shard, &LAID)?;
+    assert_all(rt, alloc, shard, &[B_5, Act::Plan(NOW, "a.b")])?;
+    write_all(rt, alloc, shard, &MINUTE_ASKED)
+}
+
+fn second_drain(rt: &impl Abort, alloc: Global) -> Result<(u32, u32), Fail> {
+    let disk = stopped_disk(rt, alloc, 11)?;
+    let mut shard = shard_logged(alloc, disk, ONE)?;
+    drain_again(rt, alloc, &mut shard)
+}
+
 // The log of the last drain is made anew by the next.
 #[test]
 fn a_second_drain_goes_through_the_same_log(rt: HostRuntime) -> Result<(), Fail> {
-    let rules = read_rules(rt.alloc(), ONE)?;
-    let disk = stopped_disk(&rt, rt.alloc(), 11)?;
-    let mut shard = start_logged(rt.alloc(), disk, rules)?;
-    assert_all(&rt, rt.alloc(), &mut shard, &LAID)?;
-    assert_all(&rt, rt.alloc(), &mut shard, &[B_5, Act::Plan(NOW, "a.b")])?;
-    let ends = write_all(&rt, rt.alloc(), &mut shard, &ONE_ASKED)?;
+    let ends = second_drain(&rt, rt.alloc())?;
     assert!(rt; ends == (9, 0));
     Ok(())
 }
@@ -557,8 +604,7 @@ struct Case<'a> {
 }
 
 fn assert_case(rt: &impl Abort, alloc: Global, disk: MemDisk, case: &Case<'_>) -> Result<(), Fail> {
-    let rules = read_rules(alloc, case.schemas)?;
-    let mut shard = start_over(alloc, disk, rules, case.limit, case.strategy)?;
+    let mut shard = shard_over(alloc, disk, case.schemas, case.limit, case.strategy)?;
     assert_all(rt, alloc, &mut shard, case.acts)
 }
 
@@ -573,7 +619,7 @@ fn assert_without_files(
     assert_case(rt, alloc, disk, case)
 }
 
-const UNREAD: [Act<'static>; 26] = [
+static UNREAD: [Act<'static>; 26] = [
     Act::Put(b"a.b 9 1700000100", Put::Stored),
     Act::Plan(START, "a.b"),
     Act::Plan(START, "busy"),
@@ -615,7 +661,7 @@ fn a_plan_that_cannot_read_leaves_all(rt: HostRuntime) -> Result<(), Fail> {
     assert_without_files(&rt, rt.alloc(), 3, &case)
 }
 
-const BETWEEN: [Act<'static>; 18] = [
+static BETWEEN: [Act<'static>; 18] = [
     B_1,
     B_2,
     Act::Plan(NOW, "a.b"),
@@ -653,7 +699,7 @@ fn points_come_between_two_runs(rt: HostRuntime) -> Result<(), Fail> {
 const SHORT: &[u8] =
     b"[r]\npattern = r$\nretentions = 60:10\n[all]\npattern = .*\nretentions = 60:10,300:12\n";
 
-const PENDING: [Act<'static>; 16] = [
+static PENDING: [Act<'static>; 16] = [
     Act::Put(b"a.r 1 1700000100", Put::Stored),
     Act::Names(&["a.r"]),
     Act::Put(b"a.b 1 1700000100", Put::Stored),
@@ -697,7 +743,7 @@ fn disk_with_two(alloc: Global) -> Result<MemDisk, AllocError> {
     Ok(disk)
 }
 
-const KEPT: [Act<'static>; 12] = [
+static KEPT: [Act<'static>; 12] = [
     Act::Names(&["a.b"]),
     Act::Found(b"a.*", START, NOW, &["a.b"]),
     // the layout is that of the file
@@ -725,7 +771,7 @@ fn kept_metrics_are_found(rt: HostRuntime) -> Result<(), Fail> {
     assert_case(&rt, rt.alloc(), disk_with_two(rt.alloc())?, &case)
 }
 
-const MOVED: [Act<'static>; 9] = [
+static MOVED: [Act<'static>; 9] = [
     B_1,
     Act::Moved(b"a.b", Some(1)),
     Act::Write(Wrote::Run),
@@ -758,7 +804,7 @@ const R_2: Act<'static> = Act::Put(b"a.r 2 1700000160", Put::Stored);
 
 const R_3: Act<'static> = Act::Put(b"a.r 3 1700000220", Put::Stored);
 
-const MOST: [Act<'static>; 7] = [R_1, R_2, R_3, B_1, B_2, B_3, Act::Plan(NOW, "a.b")];
+static MOST: [Act<'static>; 7] = [R_1, R_2, R_3, B_1, B_2, B_3, Act::Plan(NOW, "a.b")];
 
 // Of two metrics with as many points the first in byte order is drained.
 #[test]
@@ -772,7 +818,7 @@ fn the_most_points_are_drained_first(rt: HostRuntime) -> Result<(), Fail> {
     assert_without_files(&rt, rt.alloc(), 0, &case)
 }
 
-const QUEUE: [Act<'static>; 24] = [
+static QUEUE: [Act<'static>; 24] = [
     Act::Put(b"a.b 9 1700000040", Put::Stored),
     Act::Plan(START, "a.b"),
     Act::Write(Wrote::Run),

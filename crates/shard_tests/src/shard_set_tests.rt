@@ -129,7 +129,7 @@ fn assert_refused(
 
 // The damaged files, the class whose disk fails, and the class and the fault that are told; a file of `a`
 // is left alone in other classes.
-const REFUSALS: [(&[Held], u32, u32, &str); 6] = [
+static REFUSALS: [(&[Held], u32, u32, &str); 6] = [
     (&[("a.ring", DAMAGED, 148)], NONE, 12, "a.ring"),
     (&[("d.ring", DAMAGED, 148)], NONE, 3, "d.ring"),
     (
@@ -185,7 +185,7 @@ fn assert_found(
     Ok(())
 }
 
-const FILES: [Held; 3] = [
+static FILES: [Held; 3] = [
     ("a.ring", SOUND, 148),
     ("d.ring", SOUND, 148),
     ("x.txt", DAMAGED, 148),

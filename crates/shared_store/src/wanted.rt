@@ -3,11 +3,20 @@ ghost use Rattle.std.specs.Prelude.{◌≡◌, All, IfOk, map};
 ghost use Rattle.shared_store.specs.Known.{AreInOrder, lists_of, needs_of};
 
 use metric_path::MetricPath;
-use path_glob::{GlobSearch, Work};
+use path_glob::{Glob, GlobSearch, Work};
 use render_need::Need;
 use shard_core::SearchedNames;
 use std::alloc::{AllocError, Global};
 use std::marker::Model;
+
+// What it takes to have a glob held against the names of a class, however few they are, and to look it up there.
+const CLASS_WORK: u64 = 1_024;
+
+// What it takes to compare a name with the front of a glob.
+const FRONT_WORK: u64 = 2;
+
+// What it takes to enter what came of a name.
+const NAME_WORK: u64 = 24;
 
 /// A need of a question, and of the names of each class those that its glob fits, where that was found out before the
 /// locks of all classes are taken.
@@ -86,9 +95,26 @@ fn search_classes<'a>(
     // Nodes that stand in several classes are tried once.
     let mut search = GlobSearch::new(alloc, &need.glob)?;
     for paths in names {
+        work.spend(class_work(&need.glob, paths.as_slice()))?;
         all.push(SearchedNames::of_names(alloc, &need.glob, &mut search, paths, work)?)?;
     }
     Ok(all)
+}
+
+// What it takes to have a glob held against the names of a class, beside what its pattern takes.
+fn class_work(glob: &Glob, names: &[MetricPath]) -> u64 {
+    let fronts = FRONT_WORK.saturating_mul(names.len() as u64);
+    let entered = NAME_WORK.saturating_mul(run_len(names, glob.literal_front()) as u64);
+    CLASS_WORK.saturating_add(fronts).saturating_add(entered)
+}
+
+// How many names begin with these bytes.
+fn run_len(names: &[MetricPath], front: &[u8]) -> usize {
+    let below = names.partition_point(|name| name.text().cmp(front).is_lt());
+    match names.get(below..) {
+        Some(rest) => rest.partition_point(|name| name.text().starts_with(front)),
+        None => 0,
+    }
 }
 
 /// The needs of a question over these names, which are those of each class, or none. No lock is held.

@@ -14,7 +14,7 @@ use std::thread::Threads;
 use std::time::Clock;
 
 // A metric of each class and its file, in order of class.
-const METRICS: [(&str, &str); 16] = [
+static METRICS: [(&str, &str); 16] = [
     ("p.c", "p/c.ring"),
     ("p.h", "p/h.ring"),
     ("p.e", "p/e.ring"),

@@ -11,7 +11,7 @@ use std::test::Fail;
 
 // Each try reads the first cell of the file of `b`, which is of class 5. At its n-th read, from 0 on, the disk puts up
 // the flag 2n, and waits for the next one.
-const STOPS: [Stop; 9] = [
+static STOPS: [Stop; 9] = [
     Stop::Read(5, 0),
     Stop::Next(5),
     Stop::Next(5),
@@ -26,7 +26,7 @@ const STOPS: [Stop; 9] = [
 // ---- the caller that plans
 
 // `b` is drained, and put anew.
-const BEFORE: [Row; 6] = [
+static BEFORE: [Row; 6] = [
     (Deed::Put("b", 0, 1), End::Put(Put::Stored)),
     (Deed::Plan(5), End::Planned("b")),
     (Deed::Write(5), End::Wrote(Wrote::Run)),
@@ -42,7 +42,7 @@ const B: Shown = Shown {
 
 // The plan takes the points of its last try. The point that waited for it is drained then, after the drains of the
 // other classes were written.
-const PLANS: [Row; 5] = [
+static PLANS: [Row; 5] = [
     (Deed::Plan(5), End::Planned("b")),
     (Deed::Write(5), End::Wrote(Wrote::Finished)),
     (Deed::Await(18), End::Up),
@@ -53,7 +53,7 @@ const PLANS: [Row; 5] = [
 // ---- what others do meanwhile
 
 // A metric of each other class.
-const OTHERS: [(u32, &str); 15] = [
+static OTHERS: [(u32, &str); 15] = [
     (0, "e"),
     (1, "n"),
     (2, "c"),
@@ -71,7 +71,7 @@ const OTHERS: [(u32, &str); 15] = [
     (15, "p"),
 ];
 
-const PIECE: &[(&str, u32, u32)] = &[
+static PIECE: &[(&str, u32, u32)] = &[
     ("e", 0, 2),
     ("n", 0, 2),
     ("c", 0, 2),
@@ -130,7 +130,7 @@ fn meanwhile(alloc: Global) -> Result<Vec<Row>, AllocError> {
 }
 
 // A point of the class whose desk is kept.
-const WAITS: [Row; 3] = [
+static WAITS: [Row; 3] = [
     (Deed::Await(16), End::Up),
     (Deed::Put("b", 2, 20), End::Put(Put::Stored)),
     (Deed::Raise(18), End::Up),

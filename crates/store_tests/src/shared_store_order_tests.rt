@@ -11,7 +11,7 @@ use std::test::Fail;
 
 // The disk of `a` waits as each of two tries begins to read its file: a try reads the first cell, and then those
 // that it shows. That of `d` waits as its file is read.
-const STOPS: [Stop; 4] = [
+static STOPS: [Stop; 4] = [
     Stop::Read(12, 0),
     Stop::Next(12),
     Stop::Next(12),
@@ -19,7 +19,7 @@ const STOPS: [Stop; 4] = [
 ];
 
 // All three are drained, and `b` is put anew. Another question reads `d` then.
-const BEFORE: [Row; 18] = [
+static BEFORE: [Row; 18] = [
     (Deed::Put("a", 0, 4), End::Put(Put::Stored)),
     (Deed::Plan(12), End::Planned("a")),
     (Deed::Write(12), End::Wrote(Wrote::Run)),
@@ -61,7 +61,7 @@ const EARLIER_D: Shown = Shown {
 };
 
 // The question has what was put while its third try waited for the files of `d`.
-const ASKS: [Row; 2] = [
+static ASKS: [Row; 2] = [
     (
         Deed::Ask(&[b"a", b"b", b"d"]),
         End::Shown(&[&[A], &[B], &[D]], 3),
@@ -71,7 +71,7 @@ const ASKS: [Row; 2] = [
 
 // While `a` is read at the first and at the second try, `b` is drained. The third one waits for the files of `d`, and
 // meanwhile points of all its classes are put.
-const MEANWHILE: [Row; 14] = [
+static MEANWHILE: [Row; 14] = [
     (Deed::Await(0), End::Up),
     (Deed::Raise(3), End::Up),
     (Deed::Plan(5), End::Planned("b")),
@@ -99,13 +99,13 @@ const THREE_STORED: PutCounts = PutCounts {
 };
 
 // The question that holds the files of `d`. It wants no lock more, so that all go on behind it, whatever is held.
-const READS: [Row; 2] = [
+static READS: [Row; 2] = [
     (Deed::Await(8), End::Up),
     (Deed::Ask(&[b"d"]), End::Shown(&[&[EARLIER_D]], 1)),
 ];
 
 // Who asks whether the next drain of the class makes a file waits for them too.
-const FORESEES: [Row; 4] = [
+static FORESEES: [Row; 4] = [
     (Deed::Await(5), End::Up),
     (Deed::Put("t", 0, 7), End::Put(Put::Stored)),
     (Deed::Raise(11), End::Up),
@@ -113,7 +113,7 @@ const FORESEES: [Row; 4] = [
 ];
 
 // The file of `d` is not read before the points are put.
-const OPENS: [Row; 3] = [
+static OPENS: [Row; 3] = [
     (Deed::Await(5), End::Up),
     (Deed::Expect(10), End::Up),
     (Deed::Raise(7), End::Up),
@@ -140,13 +140,13 @@ fn points_are_put_while_a_third_try_waits_for_files(rt: HostRuntime) -> Result<(
 
 // ---- a reader between two runs of a drain
 
-const BEGUN: [Row; 2] = [
+static BEGUN: [Row; 2] = [
     (Deed::Put("b", 0, 1), End::Put(Put::Stored)),
     (Deed::Plan(5), End::Planned("b")),
 ];
 
 // The step makes the file, and waits. Then it gives the files of the class back, with two runs left.
-const STEPS: [Row; 4] = [
+static STEPS: [Row; 4] = [
     (Deed::Step(5), End::Stepped(Step::Wrote)),
     (Deed::Await(2), End::Up),
     (Deed::Write(5), End::Wrote(Wrote::Run)),
@@ -158,7 +158,7 @@ const NEW_B: Shown = Shown {
     values: &[Some(1_000), None, None, None, None],
 };
 
-const COMES: [Row; 4] = [
+static COMES: [Row; 4] = [
     (Deed::Await(0), End::Up),
     (Deed::Raise(1), End::Up),
     (Deed::Ask(&[b"b"]), End::Shown(&[&[NEW_B]], 1)),

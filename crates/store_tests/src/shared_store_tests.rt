@@ -91,7 +91,7 @@ fn assert_case<R: Abort + Threads + Wait + Clock + Sync>(
 // ---- drains of all
 
 // The metric `p.b` is of class 3, `p.a` and `g` are of class 6, and `a` is of class 12.
-const FOUR: [Row; 6] = [
+static FOUR: [Row; 6] = [
     (Deed::Put("p.a", 0, 1), End::Put(Put::Stored)),
     (Deed::Put("p.b", 0, 2), End::Put(Put::Stored)),
     (Deed::Put("g", 0, 3), End::Put(Put::Stored)),
@@ -101,7 +101,7 @@ const FOUR: [Row; 6] = [
 ];
 
 // The first run of class 6 fails, and comes again.
-const FAILING: [Row; 7] = [
+static FAILING: [Row; 7] = [
     (Deed::Put("p.a", 0, 1), End::Put(Put::Stored)),
     (Deed::Put("p.b", 0, 2), End::Put(Put::Stored)),
     (Deed::Put("g", 0, 3), End::Put(Put::Stored)),
@@ -140,7 +140,7 @@ fn all_that_is_pending_is_drained(rt: HostRuntime) -> Result<(), Fail> {
 // ---- drains that make a file
 
 // While the drain of `p.a` is written, no other of its class can begin.
-const CREATING: [Row; 14] = [
+static CREATING: [Row; 14] = [
     (Deed::MakesFile(6), End::MakesFile(false)),
     (Deed::Put("p.a", 0, 1), End::Put(Put::Stored)),
     (Deed::MakesFile(6), End::MakesFile(true)),
@@ -158,7 +158,7 @@ const CREATING: [Row; 14] = [
 ];
 
 // A metric that has a file goes before one that has none.
-const IN_TURN: [Row; 5] = [
+static IN_TURN: [Row; 5] = [
     (Deed::Put("p.a", 0, 1), End::Put(Put::Stored)),
     (Deed::DrainAll, End::Drained(DrainEnd::Done(1))),
     (Deed::Put("p.a", 1, 2), End::Put(Put::Stored)),
@@ -194,7 +194,7 @@ fn the_first_drain_of_a_metric_makes_its_file(rt: HostRuntime) -> Result<(), Fai
 // ---- files of version 1
 
 // A file of version 1 of ten minutes by minutes, of which the first is known: its head, and its first cell.
-const OLD_FRONT: [u8; 40] = [
+static OLD_FRONT: [u8; 40] = [
     0, 0, 0, 1, 0, 0, 2, 88, 0, 7, 161, 32, 0, 0, 0, 1, 0, 0, 0, 28, 0, 0, 0, 60, 0, 0, 0, 10, 101,
     83, 241, 100, 0, 0, 0, 0, 0, 0, 27, 88,
 ];
@@ -202,7 +202,7 @@ const OLD_FRONT: [u8; 40] = [
 const OLD_LENGTH: u64 = 148;
 
 // It is shown as it is, and the drain of its metric makes it anew with what it held.
-const REMAKING: [Row; 9] = [
+static REMAKING: [Row; 9] = [
     (Deed::MakesFile(6), End::MakesFile(false)),
     (Deed::Ask(&OLD_GLOB), End::Shown(&OLD_ALONE, 1)),
     (Deed::Put("p.a", 1, 2), End::Put(Put::Stored)),
@@ -296,7 +296,7 @@ const GLOBS: [&[u8]; 3] = [b"p.b", b"q.*", b"p.[ac]"];
 const LATER: [&[Shown]; 3] = [&[B], &[], &[LATER_A]];
 
 // The rows are the same while a drain is written. A later point is shown over an earlier one.
-const ASKED: [Row; 12] = [
+static ASKED: [Row; 12] = [
     (Deed::Put("p.a", 0, 1), End::Put(Put::Stored)),
     (Deed::Put("p.a", 1, 2), End::Put(Put::Stored)),
     (Deed::Put("p.b", 0, 5), End::Put(Put::Stored)),
@@ -311,7 +311,7 @@ const ASKED: [Row; 12] = [
     (Deed::Put("p.a", 1, 3), End::Put(Put::Stored)),
 ];
 
-const ASKED_LATER: [Row; 2] = [
+static ASKED_LATER: [Row; 2] = [
     (Deed::Ask(&GLOBS), End::Shown(&LATER, 1)),
     (Deed::Names, End::Names(&["p.a", "p.b"])),
 ];
@@ -338,7 +338,7 @@ fn a_question_has_the_rows_of_all_classes(rt: HostRuntime) -> Result<(), Fail> {
 
 // The start asks for the gate and reads the names of the disk, and the next call that reads is that of
 // the question.
-const UNREAD: [Row; 7] = [
+static UNREAD: [Row; 7] = [
     (Deed::Put("p.a", 0, 1), End::Put(Put::Stored)),
     (Deed::Put("p.a", 1, 2), End::Put(Put::Stored)),
     (Deed::Put("p.a", 2, 3), End::Put(Put::Full)),
@@ -370,7 +370,7 @@ fn a_disk_that_fails_ends_a_question(rt: HostRuntime) -> Result<(), Fail> {
 }
 
 // The next call that reads is that of a plan.
-const UNPLANNED: [Row; 7] = [
+static UNPLANNED: [Row; 7] = [
     (Deed::Put("p.a", 0, 1), End::Put(Put::Stored)),
     (Deed::DrainAll, End::Drained(DrainEnd::Done(1))),
     (Deed::Put("p.a", 1, 2), End::Put(Put::Stored)),
@@ -418,7 +418,7 @@ const SIX: PutCounts = PutCounts {
 };
 
 // Of each class two points may be pending.
-const PUT: [Row; 3] = [
+static PUT: [Row; 3] = [
     (Deed::PutAll(&POINTS), End::PutAll(SIX)),
     (Deed::Ask(&GLOB), End::Shown(&BOTH, 1)),
     (Deed::Names, End::Names(&["a", "p.a", "p.b"])),
@@ -445,7 +445,7 @@ fn a_piece_is_put_point_by_point(rt: HostRuntime) -> Result<(), Fail> {
 }
 
 // Without rules all metrics have minutes.
-const MANY: [Row; 4] = [
+static MANY: [Row; 4] = [
     (Deed::PutMany(0, 10_000), End::PutMany(10_000)),
     (Deed::Ask(&[b"s.*"]), End::Found(10_000)),
     (Deed::PutMany(10_000, 10_001), End::PutMany(1)),

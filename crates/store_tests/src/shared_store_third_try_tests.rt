@@ -11,7 +11,7 @@ use std::test::Fail;
 // The disk of `a` waits as each of three tries begins to read its file, at its reads 0, 2 and 4: a try reads the first
 // cell, and then those that it shows, for which it does not wait, since their flags are up before. That of `i`
 // waits at a create.
-const STOPS: [Stop; 6] = [
+static STOPS: [Stop; 6] = [
     Stop::Read(12, 0),
     Stop::Next(12),
     Stop::Next(12),
@@ -23,7 +23,7 @@ const STOPS: [Stop; 6] = [
 // ---- what is done: the path `a` is of class 12, `b` of class 5, `d` of class 3, and `i` and `y` of class 4
 
 // `a` and `b` are drained, and put anew, and the disk of class 4 hangs.
-const BEFORE: [Row; 15] = [
+static BEFORE: [Row; 15] = [
     (Deed::Put("a", 0, 4), End::Put(Put::Stored)),
     (Deed::Plan(12), End::Planned("a")),
     (Deed::Write(12), End::Wrote(Wrote::Run)),
@@ -42,7 +42,7 @@ const BEFORE: [Row; 15] = [
 ];
 
 // The file of `i` is not made before the flag 11 is up. Nothing of `y`, of the same class, is drained by then.
-const HANGS: [Row; 7] = [
+static HANGS: [Row; 7] = [
     (Deed::Put("i", 0, 11), End::Put(Put::Stored)),
     (Deed::Plan(4), End::Planned("i")),
     (Deed::Put("y", 0, 6), End::Put(Put::Stored)),
@@ -96,7 +96,7 @@ const Y: Shown = Shown {
 
 // The question waits in each of its three tries, and has the rows of the third, while the disk of class 4 hangs.
 // When that is well again and the drain that waited for the question has ended the rest is drained.
-const ASKS: [Row; 6] = [
+static ASKS: [Row; 6] = [
     (
         Deed::Ask(&[b"a", b"b", b"y"]),
         End::Shown(&[&[THIRD_A], &[THIRD_B], &[Y]], 3),
@@ -114,7 +114,7 @@ const ASKS: [Row; 6] = [
 // While `a` is read at the first and at the second try, `b` is drained and put anew. While it is
 // read at the third, nothing waits but a drain of `b`: a class of which the question shows nothing is drained, and
 // what is kept of it is shown to another one.
-const MEANWHILE: [Row; 24] = [
+static MEANWHILE: [Row; 24] = [
     (Deed::Await(0), End::Up),
     (Deed::Plan(5), End::Planned("b")),
     (Deed::Write(5), End::Wrote(Wrote::Finished)),
@@ -160,7 +160,7 @@ const MEANWHILE_COUNTED: Tally = Tally {
 };
 
 // `b` is drained once more, which waits for the third try.
-const DRAINS: [Row; 4] = [
+static DRAINS: [Row; 4] = [
     (Deed::Await(12), End::Up),
     (Deed::Plan(5), End::Planned("b")),
     (Deed::Write(5), End::Wrote(Wrote::Finished)),
@@ -168,7 +168,7 @@ const DRAINS: [Row; 4] = [
 ];
 
 // Each point that was accepted is in its file, with the last of its values.
-const KEPT: [Kept; 5] = [
+static KEPT: [Kept; 5] = [
     Kept {
         class: 12,
         file: "a.ring",

@@ -48,7 +48,7 @@ fn tally(stored: u64, drains: u64) -> Tally {
 }
 
 // `b` is drained, and its first write waits.
-const WRITES: [Row; 5] = [
+static WRITES: [Row; 5] = [
     (Deed::Put("b", 0, 1), End::Put(Put::Stored)),
     (Deed::Plan(5), End::Planned("b")),
     (Deed::Write(5), End::Wrote(Wrote::Run)),
@@ -56,10 +56,10 @@ const WRITES: [Row; 5] = [
     (Deed::Write(5), End::Wrote(Wrote::Finished)),
 ];
 
-const ASKS_BOTH: [Row; 1] = [(Deed::Ask(BOTH), End::Shown(&[&[B], &[D]], 1))];
+static ASKS_BOTH: [Row; 1] = [(Deed::Ask(BOTH), End::Shown(&[&[B], &[D]], 1))];
 
 // `d` is put and drained meanwhile.
-const DRAINS: [Row; 7] = [
+static DRAINS: [Row; 7] = [
     (Deed::Await(0), End::Up),
     (Deed::Put("d", 0, 2), End::Put(Put::Stored)),
     (Deed::Plan(3), End::Planned("d")),
@@ -85,7 +85,7 @@ fn a_class_is_drained_while_the_disk_of_another_writes(rt: HostRuntime) -> Resul
 // ---- a plan that waits
 
 // `b` is drained, and put anew.
-const PUT_AGAIN: [Row; 6] = [
+static PUT_AGAIN: [Row; 6] = [
     (Deed::Put("b", 0, 1), End::Put(Put::Stored)),
     (Deed::Plan(5), End::Planned("b")),
     (Deed::Write(5), End::Wrote(Wrote::Run)),
@@ -95,7 +95,7 @@ const PUT_AGAIN: [Row; 6] = [
 ];
 
 // Its next drain reads the file, and waits.
-const PLANS_AGAIN: [Row; 2] = [
+static PLANS_AGAIN: [Row; 2] = [
     (Deed::Plan(5), End::Planned("b")),
     (Deed::Write(5), End::Wrote(Wrote::Finished)),
 ];
@@ -116,7 +116,7 @@ fn a_point_is_put_while_a_plan_waits(rt: HostRuntime) -> Result<(), Fail> {
 // ---- questions that wait
 
 // `b` is drained, and `d` is put.
-const PUT: [Row; 6] = [
+static PUT: [Row; 6] = [
     (Deed::Put("b", 0, 1), End::Put(Put::Stored)),
     (Deed::Plan(5), End::Planned("b")),
     (Deed::Write(5), End::Wrote(Wrote::Run)),
@@ -126,12 +126,12 @@ const PUT: [Row; 6] = [
 ];
 
 // The first question reads `b`, and waits. It has the point of `d` alone that was put before.
-const ASKS: [Row; 2] = [
+static ASKS: [Row; 2] = [
     (Deed::Ask(BOTH), End::Shown(&[&[B], &[D]], 1)),
     (Deed::Ask(BOTH), End::Shown(&[&[B], &[LATER_D]], 1)),
 ];
 
-const PUTS: [Row; 3] = [
+static PUTS: [Row; 3] = [
     (Deed::Await(0), End::Up),
     (Deed::Put("d", 1, 3), End::Put(Put::Stored)),
     (Deed::Raise(1), End::Up),
@@ -151,7 +151,7 @@ fn a_question_that_waits_has_the_rows_of_its_entry(rt: HostRuntime) -> Result<()
 }
 
 // A drain of `d` that was put anew is begun meanwhile.
-const PLANS: [Row; 7] = [
+static PLANS: [Row; 7] = [
     (Deed::Await(0), End::Up),
     (Deed::Put("d", 1, 3), End::Put(Put::Stored)),
     (Deed::Plan(3), End::Planned("d")),
@@ -162,10 +162,10 @@ const PLANS: [Row; 7] = [
 ];
 
 // The question enters once more.
-const ASKS_AGAIN: [Row; 1] = [(Deed::Ask(BOTH), End::Shown(&[&[B], &[LATER_D]], 2))];
+static ASKS_AGAIN: [Row; 1] = [(Deed::Ask(BOTH), End::Shown(&[&[B], &[LATER_D]], 2))];
 
 // `d` is drained, put anew and drained again.
-const DRAINS_TWICE: [Row; 9] = [
+static DRAINS_TWICE: [Row; 9] = [
     (Deed::Await(0), End::Up),
     (Deed::Plan(3), End::Planned("d")),
     (Deed::Write(3), End::Wrote(Wrote::Run)),
@@ -195,7 +195,7 @@ fn a_question_whose_metric_is_drained_meanwhile_enters_again(rt: HostRuntime) ->
 }
 
 // `a`, `b` and `d` are drained.
-const DRAINED: [Row; 15] = [
+static DRAINED: [Row; 15] = [
     (Deed::Put("a", 0, 4), End::Put(Put::Stored)),
     (Deed::Plan(12), End::Planned("a")),
     (Deed::Write(12), End::Wrote(Wrote::Run)),
@@ -214,9 +214,9 @@ const DRAINED: [Row; 15] = [
 ];
 
 // The question waits as it reads `b`, and as it reads `a` once more.
-const ASKS_TWICE: [Row; 1] = [(Deed::Ask(ALL), End::Shown(&[&[A, B, LAST_D]], 3))];
+static ASKS_TWICE: [Row; 1] = [(Deed::Ask(ALL), End::Shown(&[&[A, B, LAST_D]], 3))];
 
-const MOVES_TWICE: [Row; 10] = [
+static MOVES_TWICE: [Row; 10] = [
     (Deed::Await(0), End::Up),
     (Deed::Put("d", 1, 3), End::Put(Put::Stored)),
     (Deed::Plan(3), End::Planned("d")),
@@ -263,13 +263,13 @@ const ONLY_B: &[&[u8]] = &[b"b"];
 
 const B_AND_R: &[&[u8]] = &[b"b", b"r"];
 
-const ASKS_B_AND_R: [Row; 1] = [(Deed::Ask(B_AND_R), End::Shown(&[&[LATER_B], &[R]], 1))];
+static ASKS_B_AND_R: [Row; 1] = [(Deed::Ask(B_AND_R), End::Shown(&[&[LATER_B], &[R]], 1))];
 
 const ONLY_R: &[&[u8]] = &[b"r"];
 
 // Points of the drained metric and of another one are put meanwhile, and their names are asked for, the series
 // of the other one, of which nothing is kept, and one that is not there.
-const PUTS_HERE: [Row; 7] = [
+static PUTS_HERE: [Row; 7] = [
     (Deed::Await(0), End::Up),
     (Deed::Put("b", 1, 2), End::Put(Put::Stored)),
     (Deed::PutAll(&[("r", 0, 3)]), End::PutAll(ONE_STORED)),
@@ -306,14 +306,14 @@ fn points_of_a_class_are_put_and_shown_while_its_disk_makes_or_writes_a_file(
 
 // The next drain reads the file, and waits. The point that comes meanwhile is drained with it. Meanwhile a metric of
 // which nothing is kept is asked for.
-const PLANS_WITH_LATER: [Row; 4] = [
+static PLANS_WITH_LATER: [Row; 4] = [
     (Deed::Plan(5), End::Planned("b")),
     (Deed::Write(5), End::Wrote(Wrote::Finished)),
     (Deed::Plan(5), End::Planned("r")),
     (Deed::Ask(ONLY_B), End::Shown(&[&[LAST_B]], 1)),
 ];
 
-const PUTS_LATER: [Row; 6] = [
+static PUTS_LATER: [Row; 6] = [
     (Deed::Await(0), End::Up),
     (Deed::Put("b", 2, 7), End::Put(Put::Stored)),
     (Deed::Names, End::Names(&["b"])),
@@ -336,12 +336,12 @@ fn a_point_is_put_while_the_plan_of_its_metric_reads(rt: HostRuntime) -> Result<
 }
 
 // The first question reads `b`, and waits. The point that comes meanwhile is the next one's.
-const ASKS_B: [Row; 2] = [
+static ASKS_B: [Row; 2] = [
     (Deed::Ask(ONLY_B), End::Shown(&[&[B]], 1)),
     (Deed::Ask(ONLY_B), End::Shown(&[&[LATER_B]], 1)),
 ];
 
-const PUTS_B: [Row; 3] = [
+static PUTS_B: [Row; 3] = [
     (Deed::Await(0), End::Up),
     (Deed::Put("b", 1, 2), End::Put(Put::Stored)),
     (Deed::Raise(1), End::Up),
@@ -363,7 +363,7 @@ fn a_point_is_put_while_a_question_reads_its_metric(rt: HostRuntime) -> Result<(
 // ---- each call of a class's disk that may wait
 
 // `a` is drained. The drain of `b` has begun, and `b` is put again.
-const BEGUN: [Row; 8] = [
+static BEGUN: [Row; 8] = [
     (Deed::Put("a", 0, 4), End::Put(Put::Stored)),
     (Deed::Plan(12), End::Planned("a")),
     (Deed::Write(12), End::Wrote(Wrote::Run)),
@@ -375,7 +375,7 @@ const BEGUN: [Row; 8] = [
 ];
 
 // The same, where the drain of `b` is written.
-const WRITTEN: [Row; 11] = [
+static WRITTEN: [Row; 11] = [
     (Deed::Put("a", 0, 4), End::Put(Put::Stored)),
     (Deed::Plan(12), End::Planned("a")),
     (Deed::Write(12), End::Wrote(Wrote::Run)),
@@ -407,7 +407,7 @@ const TWO_R: Shown = Shown {
 
 // Points of the class are put meanwhile, and one of another. Of the metrics that are asked for one is all pending in
 // the class that waits, one is all pending in another class, one is in its file there, and one is not there.
-const MEANWHILE: [Row; 10] = [
+static MEANWHILE: [Row; 10] = [
     (Deed::Await(0), End::Up),
     (Deed::Put("b", 2, 2), End::Put(Put::Stored)),
     (Deed::Put("b", 1, 6), End::Put(Put::Replaced)),
@@ -444,7 +444,7 @@ const SEVEN_AND_TWO: Tally = Tally {
 const ALL_SHOWN: End = End::Shown(&[&[A, MOST_B, D, TWO_R]], 1);
 
 // The file of `b` is made and written; then all that came is drained and shown.
-const WRITES_ON: [Row; 5] = [
+static WRITES_ON: [Row; 5] = [
     (Deed::Write(5), End::Wrote(Wrote::Run)),
     (Deed::Write(5), End::Wrote(Wrote::Run)),
     (Deed::Write(5), End::Wrote(Wrote::Finished)),
@@ -453,21 +453,21 @@ const WRITES_ON: [Row; 5] = [
 ];
 
 // The drain of `b` takes what came meanwhile.
-const PLANS_ON: [Row; 4] = [
+static PLANS_ON: [Row; 4] = [
     (Deed::Plan(5), End::Planned("b")),
     (Deed::Write(5), End::Wrote(Wrote::Finished)),
     (Deed::DrainAll, End::Drained(DrainEnd::Done(2))),
     (Deed::Ask(ALL), ALL_SHOWN),
 ];
 
-const ASKS_ON: [Row; 3] = [
+static ASKS_ON: [Row; 3] = [
     (Deed::Ask(ONLY_B), End::Shown(&[&[HELD_B]], 1)),
     (Deed::DrainAll, End::Drained(DrainEnd::Done(3))),
     (Deed::Ask(ALL), ALL_SHOWN),
 ];
 
 // Each point that was accepted is in its file, with the last of its values.
-const ALL_KEPT: [Kept; 4] = [
+static ALL_KEPT: [Kept; 4] = [
     Kept {
         class: 12,
         file: "a.ring",
@@ -524,7 +524,7 @@ fn points_of_a_class_are_put_shown_and_counted_whatever_its_disk_waits_for(
 
 // Of the ten points that may be pending in the class there is one. What is full takes new values of its pending
 // points, and other classes take theirs.
-const FILLS: [Row; 6] = [
+static FILLS: [Row; 6] = [
     (Deed::Await(0), End::Up),
     (Deed::PutAll(NINE), End::PutAll(NINE_STORED)),
     (Deed::Put("r", 1, 9), End::Put(Put::Full)),
@@ -570,7 +570,7 @@ const FULL_TWICE: Tally = Tally {
 };
 
 // Once all is drained there is room again.
-const WRITES_FULL: [Row; 6] = [
+static WRITES_FULL: [Row; 6] = [
     (Deed::Write(5), End::Wrote(Wrote::Run)),
     (Deed::Write(5), End::Wrote(Wrote::Run)),
     (Deed::Write(5), End::Wrote(Wrote::Finished)),
@@ -579,7 +579,7 @@ const WRITES_FULL: [Row; 6] = [
     (Deed::DrainAll, End::Drained(DrainEnd::Done(1))),
 ];
 
-const PLANS_FULL: [Row; 5] = [
+static PLANS_FULL: [Row; 5] = [
     (Deed::Plan(5), End::Planned("b")),
     (Deed::Write(5), End::Wrote(Wrote::Finished)),
     (Deed::DrainAll, End::Drained(DrainEnd::Done(3))),
@@ -587,7 +587,7 @@ const PLANS_FULL: [Row; 5] = [
     (Deed::DrainAll, End::Drained(DrainEnd::Done(1))),
 ];
 
-const ASKS_FULL: [Row; 4] = [
+static ASKS_FULL: [Row; 4] = [
     (Deed::Ask(ONLY_B), End::Shown(&[&[HELD_B]], 1)),
     (Deed::DrainAll, End::Drained(DrainEnd::Done(4))),
     (Deed::Put("r", 1, 8), End::Put(Put::Stored)),
@@ -595,7 +595,7 @@ const ASKS_FULL: [Row; 4] = [
 ];
 
 // No value that found its class full is in a file.
-const FULL_KEPT: [Kept; 5] = [
+static FULL_KEPT: [Kept; 5] = [
     Kept {
         class: 12,
         file: "a.ring",

@@ -50,7 +50,7 @@ struct Story {
     told: &'static str,
 }
 
-const STORIES: [Story; 20] = [
+static STORIES: [Story; 20] = [
     Story {
         title: "no folder has no names",
         steps: &[Step::Names, Step::Length("c")],
@@ -353,7 +353,7 @@ const STORIES: [Story; 20] = [
 ];
 
 // What others do to files that are in use, and what is in the way.
-const CHANGED: [Story; 9] = [
+static CHANGED: [Story; 9] = [
     Story {
         title: "a file that is removed while it is open takes no more, until it is there again",
         steps: &[
@@ -470,7 +470,7 @@ const CHANGED: [Story; 9] = [
 ];
 
 // A disk whose folder takes no files is told at once.
-const TRIED: [Story; 2] = [
+static TRIED: [Story; 2] = [
     Story {
         title: "a folder that is tried is made, and has no names",
         steps: &[
@@ -497,7 +497,7 @@ const TRIED: [Story; 2] = [
     },
 ];
 
-const LINKED: [Story; 1] = [Story {
+static LINKED: [Story; 1] = [Story {
     title: "settings are read behind a link, and data is not",
     steps: &[
         Step::Folder("inner"),
@@ -516,7 +516,7 @@ const LINKED: [Story; 1] = [Story {
 }];
 
 // What a sync that fails tells, and one that succeeds; that a device then has the bytes, no test sees.
-const SYNCED: [Story; 11] = [
+static SYNCED: [Story; 11] = [
     Story {
         title: "where there is no folder and nothing was written, nothing awaits a sync",
         steps: &[Step::Sync, Step::Names, Step::Sync],
@@ -668,7 +668,7 @@ const SYNCED: [Story; 11] = [
 const DEEP: &str = "a/b/c.ring";
 
 // It has 5,000 bytes that differ, from place 100 on, and 7 around them.
-const LONG: [Story; 1] = [Story {
+static LONG: [Story; 1] = [Story {
     title: "the next disk finds a long and deep file",
     steps: &[
         Step::Create(DEEP, 8_000),

@@ -203,7 +203,7 @@ fn assert_turns<D: Disk>(rt: &impl Abort, disk: &mut D, turns: &[Turn]) {
 }
 
 // The second goes beyond the room, and the third makes the first one shorter.
-const MADE: [Turn; 5] = [
+static MADE: [Turn; 5] = [
     Turn::Makes("b/c", 6),
     Turn::MakesNot("a", 5),
     Turn::Makes("b/c", 3),
@@ -211,7 +211,7 @@ const MADE: [Turn; 5] = [
     Turn::Faults(1),
 ];
 
-const KEPT: [Turn; 3] = [
+static KEPT: [Turn; 3] = [
     Turn::Has("b/c", Some(3)),
     Turn::Has("d", None),
     Turn::Lists(&["a", "b/c", "c"]),
@@ -235,7 +235,7 @@ fn failing_disk(alloc: Global) -> Result<MemDisk, AllocError> {
     Ok(MemDisk::new(alloc, 10).failing(calls).failing_reads(reads))
 }
 
-const FAILED: [Turn; 6] = [
+static FAILED: [Turn; 6] = [
     Turn::Makes("a", 4),
     Turn::MakesNot("b", 4),
     Turn::Untold("a"),
@@ -244,7 +244,7 @@ const FAILED: [Turn; 6] = [
     Turn::Faults(3),
 ];
 
-const MENDED: [Turn; 1] = [Turn::Lists(&["a"])];
+static MENDED: [Turn; 1] = [Turn::Lists(&["a"])];
 
 #[test]
 fn listed_calls_of_a_disk_fail_and_are_counted(rt: HostRuntime) -> Result<(), Fail> {

@@ -4,7 +4,9 @@ ghost use Rattle.std.specs.Prelude.{◌<◌};
 use crate::head_end::{LineEnd, count_behind_head};
 use std::time::Duration;
 
-// How long it may take that bytes move.
+const NANOS_A_SECOND: u64 = 1_000_000_000;
+
+// How long it may take that bytes come.
 #[derive(Clone, Copy)]
 pub(crate) struct Allowance {
     // however few they are
@@ -28,6 +30,33 @@ impl Allowance {
     }
 }
 
+// How long writes may wait for room. Bytes that the system took may lie in its buffers, however large these are, and be
+// read by nobody: so a piece that it took at once gives no more than the most.
+#[derive(Clone, Copy)]
+pub(crate) struct Credit {
+    // behind a read
+    pub(crate) at_first: Duration,
+    // at any moment
+    pub(crate) most: Duration,
+    // a second more for each so many bytes that the system takes
+    pub(crate) bytes_a_second: u64,
+
+    ghost positive: { 0 < bytes_a_second },
+}
+
+impl Credit {
+    ghost use Rattle.std.specs.Prelude.{◌≡◌, ◌*◌, ◌/◌, ◌^◌, ◌-◌, min};
+    ghost use Rattle.std.specs.Duration.{as_nanos};
+
+    // How much longer writes may wait for so many bytes.
+    pub(crate) fn for_bytes(self, bytes: u64) -> Duration
+        ensures { as_nanos result
+            ≡ min (bytes * 1_000_000_000) (2 ^ 64 - 1) / self.bytes_a_second }
+    {
+        Duration::from_nanos(bytes.saturating_mul(NANOS_A_SECOND) / self.bytes_a_second)
+    }
+}
+
 // How long the parts of a request and its reply may take.
 #[derive(Clone, Copy)]
 pub(crate) struct ExchangeTimes {
@@ -35,8 +64,8 @@ pub(crate) struct ExchangeTimes {
     pub(crate) head: Duration,
     // from there, for what comes behind the head
     pub(crate) body: Allowance,
-    // for the waits of writes with no read between them
-    pub(crate) reply: Allowance,
+    // for the waits of writes
+    pub(crate) reply: Credit,
 }
 
 // How far a request and its reply are. All moments are of one clock.
@@ -48,8 +77,8 @@ enum Phase {
     Head { since: Duration, end: LineEnd },
     // The head is whole since this moment. So many bytes came behind it.
     Body { since: Duration, bytes: u64 },
-    // Replies are written. The writes have waited so long, and so many bytes were taken.
-    Reply { waited: Duration, bytes: u64 },
+    // Replies are written. The writes may wait so much longer.
+    Reply { left: Duration },
 }
 
 // What a link that brings requests knows of its other end's pace.
@@ -110,33 +139,23 @@ impl Pace {
 
     // A write waited so long for room.
     pub(crate) fn note_wait(&mut self, time: Duration) {
-        let (waited, bytes) = self.written();
-        self.phase = Phase::Reply {
-            waited: waited.saturating_add(time),
-            bytes,
-        };
+        let left = self.wait_left().saturating_sub(time);
+        self.phase = Phase::Reply { left };
     }
 
     // A write took so many bytes.
     pub(crate) fn note_write(&mut self, count: usize) {
-        let (waited, bytes) = self.written();
-        self.phase = Phase::Reply {
-            waited,
-            bytes: bytes.saturating_add(count as u64),
-        };
+        let credit = self.times.reply;
+        let more = credit.for_bytes(count as u64);
+        let left = self.wait_left().saturating_add(more).min(credit.most);
+        self.phase = Phase::Reply { left };
     }
 
     // How much longer writes may wait for room.
     pub(crate) fn wait_left(&self) -> Duration {
-        let (waited, bytes) = self.written();
-        self.times.reply.for_bytes(bytes).saturating_sub(waited)
-    }
-
-    // How long the writes since the last read have waited, and how many bytes they took.
-    fn written(&self) -> (Duration, u64) {
         match self.phase {
-            Phase::Reply { waited, bytes } => (waited, bytes),
-            _ => (Duration::ZERO, 0),
+            Phase::Reply { left } => left,
+            Phase::Quiet | Phase::Head { .. } | Phase::Body { .. } => self.times.reply.at_first,
         }
     }
 }

@@ -1,8 +1,11 @@
 // How long a link waits for its other end.
-use crate::pace::{Allowance, ExchangeTimes};
+use crate::pace::{Allowance, Credit, ExchangeTimes};
 use std::time::Duration;
 
 const SILENCE_SECONDS: u64 = 75;
+
+// How fast bodies come at least, and replies are taken.
+const BYTES_A_SECOND: u64 = 1_024;
 
 // How often a link that brings no request looks whether its thread is wanted for another connection.
 #[derive(Clone, Copy)]
@@ -45,21 +48,20 @@ impl Patience {
             for_room: Duration::from_secs(SILENCE_SECONDS),
             for_exchange: Some(ExchangeTimes {
                 head: Duration::from_secs(20),
-                body: kilobytes_after(60),
-                reply: kilobytes_after(20),
+                body: Allowance {
+                    at_once: Duration::from_secs(60),
+                    bytes_a_second: BYTES_A_SECOND,
+                },
+                reply: Credit {
+                    at_first: Duration::from_secs(20),
+                    most: Duration::from_secs(SILENCE_SECONDS),
+                    bytes_a_second: BYTES_A_SECOND,
+                },
             }),
             idle: Some(IdleLooks {
                 first: Duration::from_millis(250),
                 next: Duration::from_secs(1),
             }),
         }
-    }
-}
-
-// So many seconds, and one more for each 1,024 bytes.
-fn kilobytes_after(seconds: u64) -> Allowance {
-    Allowance {
-        at_once: Duration::from_secs(seconds),
-        bytes_a_second: 1_024,
     }
 }

@@ -22,9 +22,11 @@ use std::time::Clock;
 /// - and where the link goes on to bring bytes behind the head, with no write, for more than 60 seconds and one more
 ///   for each 1,024 bytes.
 ///
-/// **Replies.** A write fails where the other end takes no byte for 75 seconds, and on a link for HTTP where the
-/// writes, with no read between them, have waited for more than 20 seconds and one more for each 1,024 bytes that were
-/// taken. So a reply is taken at a kilobyte a second at least. The time that carbon itself takes does not count.
+/// **Replies.** A write fails where the other end takes no byte for 75 seconds. On a link for HTTP writes may wait for 20
+/// seconds behind a read, and for one more for each 1,024 bytes that the system takes of them, but never for more than 75
+/// from any moment on: one that has to wait longer fails. So a reply is taken at a kilobyte a second at least, and what
+/// lies in the buffers of the system counts as 75 seconds at most, however large they are. The time that carbon itself
+/// takes does not count.
 ///
 /// **Questions without memory.** Where the reply to a request has the status 503, standard error is told so with the
 /// first 200 bytes of its first line and its body, at most once a minute for all links of a net.

@@ -19,6 +19,9 @@ use std::time::{Clock, Duration};
 // How soon a link looks again where a connection waits that another thread is about to take.
 const SOON_MILLIS: u64 = 5;
 
+// How often a write that waits for room tries anew.
+const ROOM_SECONDS: u64 = 1;
+
 // Its calls give up where the other end has been waited for too long, and all after the hang-up.
 #[derive(Drop)]
 pub(crate) struct TimedStream<R: Clock + Copy> {
@@ -146,23 +149,18 @@ impl<R: Clock + Copy> TimedStream<R> {
         Some(&self.exchange.as_ref()?.pace)
     }
 
-    // Sends a front of the piece. After a wait that was too long it tries once more, since the system says that there
-    // is room only once there is much of it.
+    // Sends a front of the piece. Where there is no time left to wait for room it has tried once more.
     pub(crate) fn send(&mut self, piece: &[u8]) -> io::Result<usize>
         ensures { WritesAtMost result piece.now }
     {
-        let mut may_wait = true;
+        let mut left = self.patience.for_room;
         for _ in 0..u64::MAX {
             match (&self.stream).write(piece) {
                 Ok(count) => return Ok(self.count_sent(count)),
-                Err(fault) if may_wait && fault.kind() == ErrorKind::WouldBlock => {}
+                Err(fault) if fault.kind() == ErrorKind::WouldBlock && !left.is_zero() => {}
                 Err(fault) => return Err(fault),
             }
-            match self.wait_for_room()? {
-                Readiness::Ready => {}
-                Readiness::TimedOut => may_wait = false,
-                Readiness::Failed => break,
-            }
+            left = self.wait_for_room(left)?;
         }
         Err(io::Error::from(ErrorKind::Other))
     }
@@ -176,27 +174,38 @@ impl<R: Clock + Copy> TimedStream<R> {
         count
     }
 
-    // Waits until the system takes bytes again, or the hang-up where that is still to come, and counts the time.
-    fn wait_for_room(&mut self) -> io::Result<Readiness> {
+    // Waits so long at most until the system takes bytes again, or the hang-up where that is still to come, and no longer
+    // than a second, since the system says that there is room only once there is much of it. Tells how long may be waited
+    // still.
+    fn wait_for_room(&mut self, left: Duration) -> io::Result<Duration> {
         let begun = self.rt.monotonic()?;
-        let limit = match self.pace() {
-            Some(pace) => pace.wait_left().min(self.patience.for_room),
-            None => self.patience.for_room,
-        };
-        let room = asked_for(&self.stream, POLLOUT);
-        let hang_up = &self.shared.hang_up;
-        let readiness = match hang_up.deadline() {
-            Some(deadline) => {
-                let left = deadline.saturating_sub(begun);
-                wait_for(&mut [room], Some(limit.min(left)))
-            }
-            None => wait_for(&mut [room, hang_up.watched()], Some(limit)),
-        };
+        let limit = least(Some(left), self.time_to_write(begun)).unwrap_or(left);
+        let readiness = self.poll_room(limit.min(Duration::from_secs(ROOM_SECONDS)));
+        if readiness == Readiness::Failed {
+            return Err(io::Error::from(ErrorKind::Other));
+        }
+        let waited = self.rt.monotonic()?.saturating_sub(begun);
         if let Some(exchange) = &mut self.exchange {
-            let waited = self.rt.monotonic()?.saturating_sub(begun);
             exchange.pace.note_wait(waited);
         }
-        Ok(readiness)
+        Ok(limit.saturating_sub(waited))
+    }
+
+    fn poll_room(&self, limit: Duration) -> Readiness {
+        let room = asked_for(&self.stream, POLLOUT);
+        let hang_up = &self.shared.hang_up;
+        if hang_up.is_given() {
+            wait_for(&mut [room], Some(limit))
+        } else {
+            wait_for(&mut [room, hang_up.watched()], Some(limit))
+        }
+    }
+
+    // How much longer writes may wait at this moment; none: there is no end to it.
+    fn time_to_write(&self, now: Duration) -> Option<Duration> {
+        let reply = self.pace().map(Pace::wait_left);
+        let deadline = self.shared.hang_up.deadline();
+        least(reply, deadline.map(|deadline| deadline.saturating_sub(now)))
     }
 
     // The link is over.

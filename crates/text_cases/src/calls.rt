@@ -4,7 +4,7 @@ use crate::{
     find, frames, globs, http, journals, lines, names, numbers, paths, patterns, samples, targets,
     times, words,
 };
-use case_lines::{Calls, Case, CaseFault};
+use case_lines::{Calls, Case, CaseFault, Told};
 use std::alloc::Global;
 
 /// The calls that read and write texts.
@@ -13,14 +13,14 @@ pub struct TextCalls;
 
 impl Calls for TextCalls {
     fn tell(&self, alloc: Global, case: &Case) -> Result<String, CaseFault> {
-        let mut told = String::new(alloc);
-        tell_case(alloc, &mut told, case)?;
-        Ok(told)
+        let mut told = Told::new(alloc);
+        tell_case(alloc, &mut told, case);
+        told.finish()
     }
 }
 
 // Numbers and paths.
-fn tell_case(alloc: Global, told: &mut String, case: &Case) -> Result<(), CaseFault> {
+fn tell_case(alloc: Global, told: &mut Told, case: &Case) {
     match case.verb() {
         "whole" => numbers::tell_whole(told, case),
         "milli" => numbers::tell_milli(told, case),
@@ -43,7 +43,7 @@ fn tell_case(alloc: Global, told: &mut String, case: &Case) -> Result<(), CaseFa
 }
 
 // What queries, lines and rules are written in.
-fn tell_query(alloc: Global, told: &mut String, case: &Case) -> Result<(), CaseFault> {
+fn tell_query(alloc: Global, told: &mut Told, case: &Case) {
     match case.verb() {
         "glob" => globs::tell_glob(alloc, told, case),
         "glob-front" => globs::tell_literal_front(alloc, told, case),
@@ -61,7 +61,7 @@ fn tell_query(alloc: Global, told: &mut String, case: &Case) -> Result<(), CaseF
 }
 
 // What comes over a link or from a command line.
-fn tell_service(alloc: Global, told: &mut String, case: &Case) -> Result<(), CaseFault> {
+fn tell_service(alloc: Global, told: &mut Told, case: &Case) {
     match case.verb() {
         "frames" => frames::tell_frames(alloc, told, case),
         "served" => frames::tell_served(alloc, told, case),
@@ -84,7 +84,7 @@ fn tell_service(alloc: Global, told: &mut String, case: &Case) -> Result<(), Cas
 }
 
 // What is found among names.
-fn tell_index(alloc: Global, told: &mut String, case: &Case) -> Result<(), CaseFault> {
+fn tell_index(alloc: Global, told: &mut Told, case: &Case) {
     match case.verb() {
         "hits" => names::tell_hits(alloc, told, case),
         "known-hits" => names::tell_known_hits(alloc, told, case),
@@ -95,6 +95,6 @@ fn tell_index(alloc: Global, told: &mut String, case: &Case) -> Result<(), CaseF
         "expand" => find::tell_expand(alloc, told, case),
         "index" => find::tell_index(alloc, told, case),
         "find-sweep" => find::tell_sweep(alloc, told, case),
-        _ => Err(CaseFault::Malformed),
+        _ => told.malformed(),
     }
 }

@@ -3,51 +3,45 @@ ghost use Rattle.std.specs.Prelude.{⊤};
 
 use crate::given::joined;
 use crate::telling::push_bytes;
-use case_lines::{Case, CaseFault};
+use case_lines::{Case, CaseFault, Told};
 use line_frame::{Framed, Framer};
 use line_service::{LineServer, ServiceEnd, Stop, WaitingServer, serve_each, serve_lines};
 use outside_io::{MemSink, MemSource, Sink, write_all};
 use std::alloc::{AllocError, Global};
 
 /// `frames SIZE STREAM`: the lines of the stream in pieces of this size, a bar behind each and `?` for one that is too long.
-pub fn tell_frames(alloc: Global, told: &mut String, case: &Case) -> Result<(), CaseFault> {
-    let stream = joined(alloc, case, 1)?;
-    Ok(push_framed(alloc, told, &stream, case.number(0)? as usize)?)
-}
-
-fn push_framed(
-    alloc: Global,
-    told: &mut String,
-    stream: &[u8],
-    size: usize,
-) -> Result<(), AllocError> {
+pub fn tell_frames(alloc: Global, told: &mut Told, case: &Case) {
+    let size = case.number_at(0, told) as usize;
+    let stream = joined(alloc, case, 1, told);
     let mut framer = Framer::new(alloc);
     for piece in stream.chunks(size.max(1)) {
-        framer.feed(piece)?;
-        push_lines(&mut framer, told)?;
+        told.keep(framer.feed(piece));
+        push_lines(&mut framer, told);
     }
-    Ok(())
 }
 
 // Hands out all lines that wait.
-fn push_lines(framer: &mut Framer, seen: &mut String) -> Result<(), AllocError> {
+fn push_lines(framer: &mut Framer, told: &mut Told) {
     for _ in 0..u64::MAX {
         match framer.next_line() {
-            Some(Framed::Line) => push_bytes(seen, framer.line())?,
-            Some(Framed::TooLong) => seen.push('?')?,
-            None => return Ok(()),
+            Some(Framed::Line) => push_bytes(told, framer.line()),
+            Some(Framed::TooLong) => told.push('?'),
+            None => return,
         }
-        seen.push('|')?;
+        told.push('|');
     }
-    Ok(())
 }
 
 /// `served MOST READ TEXT`: how the service of the text ends, of which so many bytes come at once at most and of which the read
 /// with that number fails (0: none does), and the replies, which are the lines as `frames` tells them. At the line `stop` it stops.
-pub fn tell_served(alloc: Global, told: &mut String, case: &Case) -> Result<(), CaseFault> {
-    let text = joined(alloc, case, 2)?;
-    let mut input = source_of(alloc, &text, case.number(0)? as usize, case.number(1)?)?;
-    Ok(push_served(alloc, told, &mut input)?)
+pub fn tell_served(alloc: Global, told: &mut Told, case: &Case) {
+    let most = case.number_at(0, told) as usize;
+    let failing = case.number_at(1, told);
+    let text = joined(alloc, case, 2, told);
+    match source_of(alloc, &text, most, failing) {
+        Ok(input) => push_served(alloc, told, input),
+        Err(_) => told.fail(CaseFault::NoMemory),
+    }
 }
 
 fn source_of(
@@ -65,11 +59,12 @@ fn source_of(
     )
 }
 
-fn push_served(alloc: Global, told: &mut String, input: &mut MemSource) -> Result<(), AllocError> {
+fn push_served(alloc: Global, told: &mut Told, input: MemSource) {
+    let mut input = input;
     let mut out = MemSink::new(alloc);
-    let end = serve_lines(&mut Echo, alloc, input, &mut out);
-    told.push_str(end_text(end))?;
-    push_bytes(told, out.bytes())
+    let end = serve_lines(&mut Echo, alloc, &mut input, &mut out);
+    told.push_str(end_text(end));
+    push_bytes(told, out.bytes());
 }
 
 fn end_text(end: ServiceEnd) -> &'static str {

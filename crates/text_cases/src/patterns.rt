@@ -1,19 +1,28 @@
 //! Patterns, as rules and queries search names for them.
 
-use case_lines::{Case, CaseFault, text_in};
-use name_pattern::{NameTest, Pattern};
+use crate::telling::push_string;
+use case_lines::{Case, CaseFault, Told, read_text};
+use name_pattern::{MatchCount, NameTest, Pattern};
 use std::alloc::{AllocError, Global};
 
 /// `found PATTERN NAME..`: for each name `y` where the pattern is found in it and else `n`, or `x` where a rule and a search of
 /// many names differ; `unreadable` of what is no pattern.
-pub fn tell_found(alloc: Global, told: &mut String, case: &Case) -> Result<(), CaseFault> {
-    let Some(test) = NameTest::new(alloc, case.text(0)?)? else {
-        return Ok(told.push_str("unreadable")?);
-    };
-    for name in case.rest(1) {
-        told.push(letter(alloc, &test, text_in(name.as_slice())?)?)?;
+pub fn tell_found(alloc: Global, told: &mut Told, case: &Case) {
+    match NameTest::new(alloc, case.text_at(0, told)) {
+        Ok(Some(test)) => push_letters(alloc, told, &test, case.rest(1)),
+        Ok(None) => told.push_str("unreadable"),
+        Err(_) => told.fail(CaseFault::NoMemory),
     }
-    Ok(())
+}
+
+fn push_letters(alloc: Global, told: &mut Told, test: &NameTest, names: &[Vec<u8>]) {
+    for name in names {
+        let name = read_text(name.as_slice(), told);
+        match letter(alloc, test, name) {
+            Ok(letter) => told.push(letter),
+            Err(_) => told.fail(CaseFault::NoMemory),
+        }
+    }
 }
 
 fn letter(alloc: Global, test: &NameTest, name: &str) -> Result<char, AllocError> {
@@ -27,11 +36,22 @@ fn letter(alloc: Global, test: &NameTest, name: &str) -> Result<char, AllocError
 }
 
 /// `substituted PATTERN REPLACEMENT NAME`: the name with each match replaced; `unreadable` of what is no pattern.
-pub fn tell_substituted(alloc: Global, told: &mut String, case: &Case) -> Result<(), CaseFault> {
-    let Some(pattern) = Pattern::new(alloc, case.text(0)?)? else {
-        return Ok(told.push_str("unreadable")?);
-    };
+pub fn tell_substituted(alloc: Global, told: &mut Told, case: &Case) {
+    let replacement = case.text_at(1, told);
+    let name = case.text_at(2, told);
+    match Pattern::new(alloc, case.text_at(0, told)) {
+        Ok(Some(pattern)) => push_string(told, substituted(alloc, &pattern, replacement, name)),
+        Ok(None) => told.push_str("unreadable"),
+        Err(_) => told.fail(CaseFault::NoMemory),
+    }
+}
+
+fn substituted(
+    alloc: Global,
+    pattern: &Pattern,
+    replacement: &str,
+    name: &str,
+) -> Result<String, AllocError> {
     let mut search = pattern.search(alloc)?;
-    let name = search.substituted(alloc, case.text(2)?, case.text(1)?)?;
-    Ok(told.push_str(name.as_str())?)
+    search.substituted(alloc, name, replacement, &MatchCount::new(1 << 40))
 }

@@ -93,11 +93,25 @@ fn a_reply_has_twenty_seconds_and_one_for_each_kilobyte(rt: HostRuntime) -> Resu
         (&[Write(1_000), Write(24)], 21),
         (&[Read(1, b"G\n\n"), Wait(5), Write(2_048), Wait(6)], 11),
         (&[Wait(20)], 0),
-        (&[Wait(25), Write(5 * 1_024)], 0),
+        (&[Wait(25), Write(5 * 1_024)], 5),
         (
             &[Write(9_999), Wait(9), Read(7, b"G"), Write(1), Wait(1)],
             19,
         ),
+    ];
+    for (reply, wait_left) in replies {
+        assert_allowed(&rt, reply, None, wait_left)?;
+    }
+    Ok(())
+}
+
+#[test]
+fn a_reply_is_never_ahead_by_more_than_75_seconds(rt: HostRuntime) -> Result<(), Fail> {
+    let replies: [(&[Event<'_>], u64); 4] = [
+        (&[Write(55 * 1_024)], 75),
+        (&[Write(1 << 40)], 75),
+        (&[Write(4 << 20), Wait(70)], 5),
+        (&[Write(4 << 20), Wait(70), Write(2_048), Wait(6)], 1),
     ];
     for (reply, wait_left) in replies {
         assert_allowed(&rt, reply, None, wait_left)?;

@@ -1,10 +1,12 @@
 // Other ends that are slow, silent or gone.
+ghost use Rattle.std.specs.Prelude.{◌<◌};
+
 use super::kit::{
     Pair, bind, bound_net, connect, connect_and_send, gives, millis, millis_since, new_net, pause,
     read_out, sip,
 };
 use crate::TcpNet;
-use crate::pace::{Allowance, ExchangeTimes};
+use crate::pace::{Allowance, Credit, ExchangeTimes};
 use crate::patience::Patience;
 use crate::tcp_link::TcpLink;
 use outside_io::{Net, ReadEnd, Sink, Source, WriteEnd, write_all};
@@ -15,18 +17,24 @@ use std::thread::Threads;
 use std::time::Instant;
 use std::{io, thread};
 
-// Of a link for HTTP whose head, body and reply have 200 milliseconds each, however many their bytes are.
-fn short_patience() -> Patience {
-    let at_once = millis(200);
-    let allowance = Allowance {
-        at_once,
-        bytes_a_second: u64::MAX,
-    };
+// Of a link for HTTP whose head and body have 200 milliseconds each, however many their bytes are, and whose writes may
+// never wait longer, though so many bytes that are taken give a second.
+fn short_patience(bytes_a_second: u64) -> Patience
+    requires { 0 < bytes_a_second }
+{
+    let time = millis(200);
     let mut patience = Patience::for_http();
     patience.for_exchange = Some(ExchangeTimes {
-        head: at_once,
-        body: allowance,
-        reply: allowance,
+        head: time,
+        body: Allowance {
+            at_once: time,
+            bytes_a_second: u64::MAX,
+        },
+        reply: Credit {
+            at_first: time,
+            most: time,
+            bytes_a_second,
+        },
     });
     patience
 }
@@ -51,7 +59,7 @@ fn end_of_drips(
         mut client,
         mut link,
         shared: _,
-    } = Pair::new(rt, short_patience(), 0)?;
+    } = Pair::new(rt, short_patience(u64::MAX), 0)?;
     client.write_all(first)?;
     let reading = move || read_out(&mut link);
     let (end, ()) = thread::join(threads, reading, || drip(rt, &client));
@@ -81,34 +89,44 @@ fn write_out<K: Sink>(out: &mut K) {
     }
 }
 
-// Takes 1,000 bytes each 10 milliseconds.
-fn sip_slowly(rt: HostRuntime, client: &TcpStream) {
-    sip(rt, client, &mut [0u8; 1_000], 60, 10);
+// Takes 1,000 bytes so often, each 10 milliseconds.
+fn sip_slowly(rt: HostRuntime, client: &TcpStream, times: u64) {
+    sip(rt, client, &mut [0u8; 1_000], times, 10);
 }
 
-// How many milliseconds a link is written to whose other end sips, and how many faults it then has.
-fn millis_of_sips(threads: &impl Threads, rt: HostRuntime) -> Result<(u128, u64), Fail> {
+// How many milliseconds a link of this patience is written to whose other end sips so often, and how many faults it then
+// has.
+fn millis_of_sips(
+    threads: &impl Threads,
+    rt: HostRuntime,
+    patience: Patience,
+    times: u64,
+) -> Result<(u128, u64), Fail> {
     let Pair {
         client,
         mut link,
         shared: _,
-    } = Pair::new(rt, short_patience(), 0)?;
+    } = Pair::new(rt, patience, 0)?;
     let begun = Instant::now(&rt)?;
     let writing = || {
         write_out(&mut link);
         millis_since(rt, begun)
     };
-    let (elapsed, ()) = thread::join(threads, writing, || sip_slowly(rt, &client));
+    let (elapsed, ()) = thread::join(threads, writing, || sip_slowly(rt, &client, times));
     Ok((elapsed?, link.write_faults()))
 }
 
+// A reply ends in time of which the other end takes a little and none of it counts, or of which it takes nothing and each
+// byte in the buffers of the system counts as a second.
 #[test]
-fn a_reply_that_is_sipped_fails(rt: HostRuntime) -> Result<(), Fail> {
-    let (millis, faults) = millis_of_sips(&rt, rt)?;
-    assert!(rt;
-        (200..10_000).contains(&millis) && faults == 1,
-        "{millis}, {faults}"
-    );
+fn a_reply_that_is_sipped_or_left_fails(rt: HostRuntime) -> Result<(), Fail> {
+    for (patience, times) in [(short_patience(u64::MAX), 60), (short_patience(1), 0)] {
+        let (millis, faults) = millis_of_sips(&rt, rt, patience, times)?;
+        assert!(rt;
+            (200..10_000).contains(&millis) && faults == 1,
+            "{millis}, {faults}"
+        );
+    }
     Ok(())
 }
 

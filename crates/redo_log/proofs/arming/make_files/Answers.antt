@@ -1,8 +1,8 @@
 use Rattle.redo_log.specs.Steps.{gate_name, log_name}
-use Rattle.redo_log.proofs.ArmLemmas.{files_both}
+use Rattle.redo_log.proofs.ArmLemmas.{both_durable, both_made, files_both}
 use Rattle.redo_log.proofs.arming.make_files.Goals as goal
 
-pub returns-in-Ok-clause-moments : goal.returns-in-Ok-clause-moments
+pub returns-in-Ok-make_file-clause-made : goal.returns-in-Ok-make_file-clause-made
 unfolding log_name gate_name
-returns-in-Ok-clause-moments g c = λ only.
-    files_both g.D.Disk c.args.disk.now c.make_file.new.disk c.make_file-in-Ok.new.disk c.requires.shut only c.make_file.ensures.moments c.in-Ok.ensures.ok c.in-Ok.ensures.durable c.make_file-in-Ok.ensures.moments
+returns-in-Ok-make_file-clause-made g c =
+    both_made (g.D.Disk.image c.args.disk.now) (g.D.Disk.image c.make_file.new.disk) (g.D.Disk.image c.make_file-2.new.disk) c.in-Ok.ensures.ok c.in-Ok-make_file.ensures.ok

@@ -1,0 +1,58 @@
+//! How much work functions count as. One is a nanosecond or two, at worst.
+use crate::kinds::Shape;
+use series_set::{Grid, Series};
+
+/// What it is to copy a value, or to make a missing one.
+const COPY: u64 = 4;
+
+/// What it is to go over a value, and to write what becomes of it.
+const VALUE: u64 = 8;
+
+/// What a product with a division is, in 128 bits where 64 do not hold it.
+const QUOTIENT: u64 = 24;
+
+/// What it is to look whether a series has values in a bucket, and to find where it has them.
+const LOOK: u64 = 4;
+
+const PLACE: u64 = 24;
+
+/// How much it is to copy so many values.
+pub(crate) fn of_copies(count: u64) -> u64 {
+    COPY.saturating_mul(count)
+}
+
+/// How much it is to shape so many values.
+pub(crate) fn of_shape(kind: &Shape, count: u64) -> u64 {
+    let each = match *kind {
+        Shape::Scale { .. } | Shape::ScaleToSeconds { .. } => QUOTIENT,
+        Shape::PerSecond => VALUE + QUOTIENT,
+        Shape::OffsetToZero => VALUE + VALUE,
+        _ => VALUE,
+    };
+    each.saturating_mul(count)
+}
+
+/// How much it is to gather so many values in so many buckets, one after the other.
+pub(crate) fn of_summary(values: u64, buckets: u64) -> u64 {
+    VALUE
+        .saturating_mul(values)
+        .saturating_add(PLACE.saturating_mul(buckets))
+}
+
+/// How much it is to have the quotients of two series at so many places.
+pub(crate) fn of_quotients(values: u64, places: u64) -> u64 {
+    let quotients = QUOTIENT.saturating_mul(places);
+    of_summary(values, places).saturating_add(quotients)
+}
+
+/// How much it is to combine series on a grid of so many buckets. Where they have it themselves they are gone over once; else each bucket is looked
+/// for in each of them.
+pub(crate) fn of_combining(series: &[Series], grid: &Grid, buckets: u64) -> u64 {
+    let bucket = LOOK.saturating_mul(series.len() as u64);
+    let mut all = bucket.saturating_mul(buckets);
+    for one in series {
+        let each = if one.has_grid(*grid) { VALUE } else { PLACE };
+        all = all.saturating_add(each.saturating_mul(one.values().len() as u64));
+    }
+    all
+}
