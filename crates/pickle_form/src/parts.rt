@@ -1,6 +1,7 @@
 //! The parts of pickles.
-ghost use Rattle.std.specs.Prelude.{◌≡◌, ◌∷◌, [], ◌++◌, OnOk, pos};
+ghost use Rattle.std.specs.Prelude.{◌≡◌, ◌∷◌, [], ◌++◌, ◌^◌, ◌<◌, OnOk, pos};
 ghost use Rattle.pickle_form.specs.Pickle.{boolean_code, double_code, text_code, whole_code};
+ghost use Rattle.pickle_form.specs.Value.{IsShort};
 
 use std::alloc::AllocError;
 
@@ -14,7 +15,8 @@ pub fn push_head(out: &mut Vec<u8>) -> Result<(), AllocError>
 /// Appends a text. One whose length 32 bits do not hold is want of memory.
 #[tactic(auto, unfolding(crate::specs::Pickle::text_code))]
 pub fn push_text(out: &mut Vec<u8>, text: &[u8]) -> Result<(), AllocError>
-    ensures { OnOk result (out.new.items ≡ out.old.items ++ text_code text.now) }
+    ensures code { OnOk result (out.new.items ≡ out.old.items ++ text_code text.now) }
+    ensures short { OnOk result (IsShort text.now) }
 {
     let Ok(length) = u32::try_from(text.len()) else {
         return Err(AllocError);
@@ -27,7 +29,8 @@ pub fn push_text(out: &mut Vec<u8>, text: &[u8]) -> Result<(), AllocError>
 /// Appends a whole number. One that 64 bits with a sign do not hold is want of memory.
 #[tactic(auto, unfolding(crate::specs::Pickle::whole_code))]
 pub fn push_whole(out: &mut Vec<u8>, number: u64) -> Result<(), AllocError>
-    ensures { OnOk result (out.new.items ≡ out.old.items ++ whole_code (pos number)) }
+    ensures code { OnOk result (out.new.items ≡ out.old.items ++ whole_code (pos number)) }
+    ensures fits { OnOk result (number < 2 ^ 63) }
 {
     if number < 1 << 31 {
         let [a, b, c, d] = (number as u32).to_le_bytes();
@@ -64,8 +67,10 @@ pub fn push_boolean(out: &mut Vec<u8>, is_true: bool) -> Result<(), AllocError>
 
 /// Appends a key and a whole number as its value.
 pub fn push_count(out: &mut Vec<u8>, key: &[u8], number: u64) -> Result<(), AllocError>
-    ensures { OnOk result
+    ensures code { OnOk result
         (out.new.items ≡ out.old.items ++ (text_code key.now ++ whole_code (pos number))) }
+    ensures short { OnOk result (IsShort key.now) }
+    ensures fits { OnOk result (number < 2 ^ 63) }
 {
     push_text(out, key)?;
     push_whole(out, number)
