@@ -514,7 +514,7 @@ Exit status:
   1                   `build` or `try` failed.
   2                   The words are no command.
   3                   A rule file is refused.
-  4                   A ring file is damaged.
+  4                   A ring file is damaged, or the log of a drain.
   5                   A disk failed, at the start or in the drain at the end.
   6                   Standard input could not be read.
   7                   Something could not be written.

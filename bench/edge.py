@@ -1055,6 +1055,57 @@ def a_silent_sender_is_closed_and_its_receiver_goes_on():
 
 
 @case
+def a_silent_sender_stays_where_its_patience_is_0():
+    for patience, stays in ("1", False), ("0", True):
+        with serving("--line-patience", patience) as daemon:
+            silent = socket.create_connection(("127.0.0.1", daemon.line_port))
+            time.sleep(4)
+            with contextlib.suppress(ConnectionError):
+                silent.sendall(point("a.b").encode())
+            told = settled(lambda: daemon.ask("a.b")[1] != "", 1)
+            want(told, stays, "whether a line comes through after four seconds, with a patience of " + patience)
+
+
+def last_values(body):
+    """Of each series its last value."""
+    return {row.split(",", 1)[0]: float(row.rsplit(",", 1)[1].rsplit("|", 1)[-1]) for row in body.splitlines()}
+
+
+@case
+def a_question_over_many_pending_points_shows_one_moment():
+    """Lines of 2,000 metrics come over one connection, in the same order again and again, each time with the next number. What a question shows of a class is
+    the numbers at one moment: none is above that of a metric before it, or more than one below. The classes differ by no more than a batch of lines."""
+    minute, count = int(time.time()) // 60 * 60, 2_000
+    names = ["w.m%04d" % k for k in range(count)]
+    with serving("--creates", "1", "--limit", "1000000") as daemon:
+        for back in range(59, -1, -1):
+            daemon.send("".join("%s 0 %d\n" % (name, minute - 60 * back) for name in names))
+        over, sent = threading.Event(), []
+
+        def send():
+            with socket.create_connection(("127.0.0.1", daemon.line_port)) as link:
+                while not over.is_set():
+                    sent.append(0)
+                    link.sendall("".join("%s %d %d\n" % (name, len(sent), minute) for name in names).encode())
+
+        sender = threading.Thread(target=send, daemon=True)
+        sender.start()
+        query = "GET /render?target=w.*&from=%d&until=%d&format=raw HTTP/1.0\r\n\r\n" % (minute - 3600, minute)
+        for _ in range(20):
+            body = exchange(daemon.http_port, query.encode(), 30).partition(b"\r\n\r\n")[2].decode()
+            shown = last_values(body)
+            want(list(shown), names, "the series")
+            for hashed in range(16):
+                values = [shown[name] for name in names if class_of(name.encode()) == hashed]
+                falls = all(0 <= one - other <= 1 for one, other in zip(values, values[1:])) and values[0] - values[-1] <= 1
+                want(falls, True, "one moment of class %d, %r" % (hashed, values[:3] + values[-3:]))
+            want(max(shown.values()) - min(shown.values()) <= 2, True, "classes of about one moment")
+        over.set()
+        sender.join(10)
+        want(len(sent) > 20, True, "%d rounds of lines meanwhile" % len(sent))
+
+
+@case
 def slow_heads_do_not_keep_the_renderers():
     with serving("--renderers", "2") as daemon:
         slow = [socket.create_connection(("127.0.0.1", daemon.http_port)) for _ in range(2)]

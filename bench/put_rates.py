@@ -50,7 +50,7 @@ def lines_of(path):
 
 
 def crates_in(lines):
-    """The rows of crates.txt by crate, a crate above those that use it."""
+    """The rows of crates.txt by crate."""
     return {line.split(":")[0].split(" ")[0]: line for line in lines if ":" in line}
 
 

@@ -6,8 +6,11 @@ Usage: bench/put_waits.py [SECONDS [NAMES..]]      (10 seconds each, over 100,00
 Runs `carbon serve` in a folder in memory with a library before the system's `recv` (bench/put_waits_c.c), which writes down how long the thread that
 reads a connection of lines is away between two reads: in that time it reads the lines that came and puts their points, and waits for every lock that
 it needs. First all names are put, a point each, and stay pending but for a file a second. Then a process of its own sends a hundred lines a
-millisecond of 10,000 of them, whose points are there and are replaced, and beside it one client asks one of these questions again and again:
+millisecond of 10,000 of them, whose points are there and are replaced, and beside it one client asks one of these questions again and again. Metrics are
+drained as they came first (`--order naive`), but in the first row:
 
+  sorted     no question, by the order without an option: all metrics of a class are sorted when its queue is made, and each time that it is looked
+             whether its next drain makes a file
   nothing    no question
   path       one series by its whole name
   branch     the hundred series of a branch
@@ -17,13 +20,15 @@ millisecond of 10,000 of them, whose points are there and are replaced, and besi
   head       four targets of such patterns, which differ: about the most that a head of 16,384 bytes holds
   form       64 targets of four such patterns each, which differ, in a form of 1 MB
   find       `/metrics/find?query=*`, for which all names are gone over
-  pending    the 10,000 metrics of the lines over an hour, once each of them has sixty points pending: these are copied while all classes are locked
+  pending    the 10,000 metrics of the lines over an hour, once each of them has sixty points pending
+  most       the same metrics over 399 minutes, once each of them has so many points pending: 3,990,000, about the most that a question may find
 
 Printed are the answers and the milliseconds of half of them and of the longest, and of the batches of lines how many there were and the milliseconds that
 half of them, 99 of 100, 999 of 1,000 and the longest took. A batch takes some time of its own, and waits for a processor too: that is what the first row
 shows. Nothing timed here is a test. Wants a C compiler, `cc`. Run ./carbon build first.
 """
 import array
+import contextlib
 import http.client
 import mmap
 import multiprocessing
@@ -74,10 +79,11 @@ def questions(count):
     ]
 
 
-def an_hour(count):
+def pending(count, minutes):
     """The question that finds every so manyth name, so that they are 10,000."""
     node = "m?0" if count // METRICS < 100 else "m00"
-    return "/render?" + urllib.parse.urlencode([("target", "servers.*." + node), ("from", "-61min"), ("format", "raw")])
+    window = [("from", NOW - 60 * minutes), ("until", NOW), ("format", "raw")]
+    return "/render?" + urllib.parse.urlencode([("target", "servers.*." + node), *window])
 
 
 def library(place):
@@ -92,13 +98,13 @@ def free_port():
 
 
 class Daemon:
-    def __init__(self, place, preload):
+    def __init__(self, place, preload, *order):
         self.told = os.path.join(place, "waits")
         with open(self.told, "wb") as file:
             file.truncate(8 + 16 * ROOM)
         self.lines, self.http = free_port(), free_port()
         surroundings = dict(os.environ, LD_PRELOAD=preload, WAITS=self.told, LINE_PORT=str(self.lines))
-        words = ["--line-port", self.lines, "--http-port", self.http, "--limit", 10_000_000, "--creates", 1]
+        words = ["--line-port", self.lines, "--http-port", self.http, "--limit", 10_000_000, "--creates", 1, *order]
         self.process = subprocess.Popen(
             [PROGRAM, "serve", *map(str, words)], stdin=subprocess.PIPE, stdout=subprocess.DEVNULL, stderr=subprocess.PIPE, cwd=place, env=surroundings
         )
@@ -126,10 +132,10 @@ class Daemon:
             link.shutdown(socket.SHUT_WR)
             link.recv(1)
 
-    def put_hour(self, names):
-        """59 points more of each, a minute apart."""
+    def put_minutes(self, names, first, end):
+        """A point of each for each of these minutes ago."""
         with socket.create_connection(("127.0.0.1", self.lines)) as link:
-            for minute in range(1, 60):
+            for minute in range(first, end):
                 link.sendall("".join("%s 1 %d\n" % (name, NOW - 60 * minute) for name in names).encode())
             link.shutdown(socket.SHUT_WR)
             link.recv(1)
@@ -187,23 +193,34 @@ def row(daemon, count, seconds, what, way, form):
     print("%d | %-7s | %s | %d batches: %.2f, %.2f, %.2f, %.2f ms" % told, flush=True)
 
 
+@contextlib.contextmanager
+def fed(names, pieces, preload, *order):
+    """A daemon that has these names and gets lines."""
+    with folder() as place:
+        daemon = Daemon(place, preload, *order)
+        daemon.put(names)
+        sender = multiprocessing.Process(target=send, args=(daemon.lines, pieces), daemon=True)
+        sender.start()
+        time.sleep(1)
+        yield daemon
+        sender.kill()
+        daemon.end()
+
+
 def measure(count, seconds, preload):
     names = names_of(count)
     pieces = [
         "".join("%s 2 %d\n" % (names[k * (count // METRICS)], NOW) for k in range(first, first + LINES)).encode() for first in range(0, METRICS, LINES)
     ]
-    with folder() as place:
-        daemon = Daemon(place, preload)
-        daemon.put(names)
-        sender = multiprocessing.Process(target=send, args=(daemon.lines, pieces), daemon=True)
-        sender.start()
-        time.sleep(1)
+    with fed(names, pieces, preload) as daemon:
+        row(daemon, count, seconds, "sorted", None, None)
+    with fed(names, pieces, preload, "--order", "naive") as daemon:
         for what, way, form in [("nothing", None, None), *questions(count), ("nothing", None, None)]:
             row(daemon, count, seconds, what, way, form)
-        daemon.put_hour([names[k * (count // METRICS)] for k in range(METRICS)])
-        row(daemon, count, seconds, "pending", an_hour(count), None)
-        sender.kill()
-        daemon.end()
+        asked = [names[k * (count // METRICS)] for k in range(METRICS)]
+        for what, first, end in ("pending", 1, 60), ("most", 60, 399):
+            daemon.put_minutes(asked, first, end)
+            row(daemon, count, seconds, what, pending(count, end), None)
 
 
 def main():

@@ -11,6 +11,8 @@ All is done in new folders in FOLDER, one after the other. In a folder in memory
             many seconds after the first byte the last write was seen, when all is drained
   metrics   one point of each of so many metrics, into files that are there: the drained metrics a second from the first write to the last, by 1, 4 and
             16 drainers with --redo, and without it. Without it nothing is waited for: those are for the difference alone
+  syncs     1, 4 and 16 processes write twenty bytes over those of a file of their own, and wait for the device, again and again: their syncs a second. Four
+            of them are the least that a drained metric takes, so the row of 16 over that of 1 is what no number of drainers comes beyond
   SQLite    that of python3, a table of points by metric and time with its rows there already, a transaction for each metric with one point, and
             synchronous=FULL; with a rollback journal, and with a write-ahead log
   Whisper   the same points into files of its format that are there, as whisper.update writes one: open, read the head and the base, write the point,
@@ -23,6 +25,7 @@ drained where a sync takes long. A start waits for no sync, since it writes noth
 
 Nothing timed here is a test. Run ./carbon build first.
 """
+import multiprocessing
 import os
 import shutil
 import sqlite3
@@ -39,6 +42,7 @@ from slow_disk import Daemon, library
 
 RULES = b"[drained]\npattern = ^drained\\.\nretentions = 1s:1h\n"
 DRAINERS = 1, 4, 16
+SYNC_SECONDS = 2
 
 
 class Place:
@@ -140,6 +144,30 @@ def main_slow(delays, above, metrics, count):
             run_slow(place, metrics, count, delay, preload)
 
 
+def sync_on(name, seconds, told):
+    """Writes over one file and syncs it, for so many seconds, and tells how often."""
+    file, count, until = os.open(name, os.O_RDWR | os.O_CREAT), 0, time.monotonic() + seconds
+    os.pwrite(file, bytes(4096), 0)
+    os.fsync(file)
+    while time.monotonic() < until:
+        os.pwrite(file, b"%020d" % count, 0)
+        os.fsync(file)
+        count += 1
+    os.close(file)
+    told.put(count)
+
+
+def run_syncs(place, workers):
+    told = multiprocessing.SimpleQueue()
+    names = [os.path.join(place, "synced%d" % number) for number in range(workers)]
+    crew = [multiprocessing.Process(target=sync_on, args=(name, SYNC_SECONDS, told)) for name in names]
+    for worker in crew:
+        worker.start()
+    row("syncs, %d processes" % workers, sum(told.get() for _ in crew), "syncs", SYNC_SECONDS)
+    for worker in crew:
+        worker.join()
+
+
 def run_sqlite(place, metrics, journal):
     link = sqlite3.connect(os.path.join(place, journal + ".db"), isolation_level=None)
     link.execute("PRAGMA journal_mode=" + journal)
@@ -226,6 +254,9 @@ def main():
             for drainers in DRAINERS:
                 run_metrics(place, metrics, drainers, words)
                 os.sync()
+    with Place(above) as place:
+        for workers in DRAINERS:
+            run_syncs(place, workers)
     for journal in "delete", "wal":
         with Place(above) as place:
             run_sqlite(place, metrics, journal)

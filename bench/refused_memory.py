@@ -1,8 +1,9 @@
 #!/usr/bin/env python3
 """Memory that is refused: the built program runs once for each request for memory that it makes, which is refused, and only that one.
 
-Usage: bench/refused_memory.py [EXAMPLE..]      (all scripts of examples/, and two servers, without a word; `server` is the one without options,
-                                                and `server-redo` the one whose drains go through a log)
+Usage: bench/refused_memory.py [EXAMPLE..]      (all scripts of examples/, and three servers, without a word; `server` is the one without options,
+                                                `server-redo` the one whose drains go through a log, and `server-rules` one with rule
+                                                files, whose lines make another metric by an aggregation rule)
 
 A library that stands before `malloc` and its kin (`bench/refuse_c.c`, for which a C compiler is needed) refuses the first request of a run, in the
 next run the second, and so on, until a run makes no more. A run of a script has to end by itself
@@ -18,9 +19,10 @@ and a run of a server, which takes two lines, answers a question and a request f
   by fault   a reply is 500, or status 5, as above
   unserved   the requests wait for the one renderer until the server is stopped, which drains all, with status 0: there was no memory for its thread
 
-After each run a second one over the same folder has to find its files whole, and behind a server to show just what its last line told as stored where
-that ended with status 0, and else a front of the two points. What ends in another way is told, and makes the exit status 1. Run ./carbon build first.
+After each run a second one over the same folder has to find its files whole, and behind a server to show both points where its last line told all as
+stored and it ended with status 0, none where it told none, and else a front of the two. What ends in another way is told, and makes the exit status 1. Run ./carbon build first.
 """
+import collections
 import contextlib
 import glob
 import os
@@ -32,11 +34,22 @@ import sys
 import tempfile
 import time
 
-from live import HERE, PROGRAM, folder, need_program
+from live import HERE, PROGRAM, folder, need_program, write_rules
 
 TOP = os.path.abspath(os.path.join(HERE, ".."))
 PORTS = re.compile(r"carbon: lines on (\d+), HTTP on (\d+)")
 KINDS = ("whole", "short", "by fault", "unserved")
+
+# (rules: whether it has rule files; stored: how many points its two lines make; names: what may be told of its names, all first)
+Server = collections.namedtuple("Server", "options rules stored names")
+SERVERS = {
+    "server": Server([], False, 2, [b'["a.b"]', b"[]"]),
+    "server-redo": Server(["--redo"], False, 2, [b'["a.b"]', b"[]"]),
+    "server-rules": Server([], True, 4, [b'["a.b", "all.b"]', b'["a.b"]', b'["all.b"]', b"[]"]),
+}
+SCHEMAS = b"[all]\npattern = .*\nretentions = 60s:1d\n"
+AGGREGATIONS = b"[all]\npattern = .*\nxFilesFactor = 0\naggregationMethod = sum\n"
+SUMS = b"all.<what> (60) = sum a.<what>\n"
 
 
 def built(place):
@@ -130,18 +143,20 @@ def send(port, text):
             pass
 
 
-def judge_server(status, replies, allowed, last, said):
+def judge_server(server, status, replies, allowed, last, said):
     """`allowed` has for each reply what may be found: all that was sent first, and then the fronts of it."""
     told = [code for code, _ in replies]
     if any(code == b"200" and body not in bodies for (code, body), bodies in zip(replies, allowed)):
         return None
-    if status == 0 and replies == [(b"200", bodies[0]) for bodies in allowed] and re.fullmatch(b"stored 2 replaced 0 full 0 drains [12]", last):
+    if status == 0 and replies == [(b"200", bodies[0]) for bodies in allowed] and re.fullmatch(
+        b"stored %d replaced 0 full 0 drains [1-4]" % server.stored, last
+    ):
         return "whole"
     if b"out of memory" in said and (b"500" in told or status == 5):
         return "by fault"
     if all(code in (b"200", b"503", None) for code in told) and status in (0, 8, 13):
         return "short"
-    if status == 0 and set(told) == {b"late"} and last.startswith(b"stored 2 "):
+    if status == 0 and set(told) == {b"late"} and last.startswith(b"stored %d " % server.stored):
         return "unserved"
     return None
 
@@ -156,21 +171,31 @@ def shown_later(place, query, moment):
     return b"" if shown == b"\n" else shown
 
 
-def may_show(status, last, fronts):
-    """What a later run may show: just what the last line tells as stored where the server ended well, and else any front. `fronts` begins with both."""
-    stored = re.match(rb"stored ([012]) ", last)
-    if status == 0:
-        return [fronts[2 - int(stored[1])]] if stored else []
-    return fronts
+def may_show(server, status, last, fronts):
+    """What a later run may show: all or nothing where the last line told that as stored and the server ended well. `fronts` begins with all."""
+    stored = re.match(rb"stored (\d) ", last)
+    if status:
+        return fronts
+    if not stored:
+        return []
+    return {0: fronts[-1:], server.stored: fronts[:1]}.get(int(stored[1]), fronts[1:2] if server.stored == 2 else fronts)
 
 
-def run_server(library, number, options):
+def write_all_rules(place):
+    write_rules(place, SCHEMAS, AGGREGATIONS)
+    with open(os.path.join(place, "conf", "aggregation-rules.conf"), "wb") as file:
+        file.write(SUMS)
+
+
+def run_server(library, number, server):
     now = int(time.time()) // 60 * 60 - 60
     ends = now - 60, now + 60
-    allowed = [(b"a.b,%d,%d,60|1.5,2.5\n" % ends, b"a.b,%d,%d,60|1.5,None\n" % ends, b""), (b'["a.b"]', b"[]")]
+    allowed = [(b"a.b,%d,%d,60|1.5,2.5\n" % ends, b"a.b,%d,%d,60|1.5,None\n" % ends, b""), server.names]
     with tempfile.TemporaryDirectory() as beside, folder() as place:
+        if server.rules:
+            write_all_rules(place)
         refusing = Refusing(library, beside, number)
-        words = [PROGRAM, "serve", "--line-port", "0", "--http-port", "0", "--receivers", "1", "--renderers", "1", *options]
+        words = [PROGRAM, "serve", "--line-port", "0", "--http-port", "0", "--receivers", "1", "--renderers", "1", *server.options]
         told = open(os.path.join(beside, "said"), "w+b")
         process = subprocess.Popen(words, cwd=place, env=refusing.words, stdin=subprocess.PIPE, stdout=subprocess.PIPE, stderr=told)
         ports, replies = None, []
@@ -198,11 +223,11 @@ def said(file):
     return file.read()
 
 
-def try_server(library, name, options=()):
+def try_server(library, name, server):
     def once(number):
-        came, status, replies, allowed, last, told, later = run_server(library, number, options)
-        kind = judge_server(status, replies, allowed, last, told)
-        kind = kind if later in may_show(status, last, allowed[0]) else None
+        came, status, replies, allowed, last, told, later = run_server(library, number, server)
+        kind = judge_server(server, status, replies, allowed, last, told)
+        kind = kind if later in may_show(server, status, last, allowed[0]) else None
         return came, kind, "status %d, %r, %r, later %r, standard error %r" % (status, replies, last, later, told[-200:])
 
     return try_each(name, once)
@@ -233,11 +258,10 @@ def try_each(name, once):
 
 def main():
     need_program()
-    servers = {"server": [], "server-redo": ["--redo"]}
-    names = sys.argv[1:] or [*sorted(glob.glob(os.path.join(TOP, "examples", "*.txt"))), *servers]
+    names = sys.argv[1:] or [*sorted(glob.glob(os.path.join(TOP, "examples", "*.txt"))), *SERVERS]
     with tempfile.TemporaryDirectory() as place:
         library = built(place)
-        fine = [try_server(library, name, servers[name]) if name in servers else try_script(library, name) for name in names]
+        fine = [try_server(library, name, SERVERS[name]) if name in SERVERS else try_script(library, name) for name in names]
     sys.exit(0 if all(fine) else 1)
 
 

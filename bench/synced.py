@@ -3,14 +3,15 @@
 
 Usage: bench/synced.py [PROGRAM..]        (the words that run `carbon script --redo`; the built program where none are said)
 
-Two metrics are drained, one of them twice, and the system's calls are looked at in their order. For the folder of each class:
+Two metrics are drained, one of them twice, and the system's calls are looked at in their order. Then the same is run once more over the folder, as if
+all that is there had been left by a process that was killed, with nothing of it on the device. For the folder of each class:
 
   the gate    when its byte is written, or it is made, all else that was written, cut or made there is on the device: each file by an fsync of it,
               each name by one of the folder that has it, and the name of the class's own folder too
   all else    when it is written, cut or made, the gate is on the device
   at the end  everything is
 
-Files that only lie there are no matter. Each breach is printed, then how often a gate was written; the status is 1 where there is a breach, or no gate.
+Files that only lie there are no matter in the first run. Each breach is printed, then how often a gate was written; the status is 1 where there is a breach, or no gate.
 That the device has what an fsync brought is the system's part. Needs strace, and ./carbon build first.
 """
 import os
@@ -58,6 +59,13 @@ class Folder:
         self.path, self.gate = path, path + "/redo.gate"
         self.files, self.names, self.faults = set(), set(), []
 
+    def leave(self):
+        """A process was killed: all that is there awaits the device."""
+        for above, inner, names in os.walk(self.path):
+            self.files.update(os.path.join(above, name) for name in names)
+            self.names.update(os.path.join(above, name) for name in names + inner)
+            self.names.add(self.path)
+
     def touch(self, path, what):
         waits = self.files | self.names
         waits = waits - {self.gate} if path == self.gate else waits & {self.gate}
@@ -94,6 +102,18 @@ class Folder:
             self.faults.append("at the end %s is not on the device" % path)
 
 
+def run(words, above, folders):
+    """One run; how often a gate was written in it."""
+    gates = 0
+    for name, path, given in traced(words, above):
+        gates += name in WRITES.split(",") and path.endswith("/redo.gate") and "write" in name
+        for folder in folders:
+            folder.take(name, path, given)
+    for folder in folders:
+        folder.end()
+    return gates
+
+
 def main():
     words = sys.argv[1:]
     if not words:
@@ -102,13 +122,10 @@ def main():
     with tempfile.TemporaryDirectory() as above:
         above = os.path.realpath(above)
         folders = [Folder("%s/data/%02d" % (above, class_)) for class_ in range(16)]
-        gates = 0
-        for name, path, given in traced(words, above):
-            gates += name in WRITES.split(",") and path.endswith("/redo.gate") and "write" in name
-            for folder in folders:
-                folder.take(name, path, given)
+        gates = run(words, above, folders)
         for folder in folders:
-            folder.end()
+            folder.leave()
+        gates += run(words, above, folders)
     faults = [fault.replace(above + "/", "") for folder in folders for fault in folder.faults]
     for fault in faults:
         print(fault)

@@ -51,9 +51,18 @@ use std::thread::Threads;
 fn main(rt: HostRuntime) -> io::Result<ExitCode> {
     let alloc = rt.alloc();
     let mut cases = Cases::new(alloc)?;
+    take_lines(&rt, alloc, &mut cases)
+}
+
+// Does all lines. It has the cases lent: each way out of what owns them is dear to prove.
+fn take_lines<R: Print + Input + Threads + Wait + Copy + Send + Sync + Drop>(
+    rt: &R,
+    alloc: Global,
+    cases: &mut Cases,
+) -> io::Result<ExitCode> {
     for line in BufReader::new(alloc, rt.reader())?.lines(alloc) {
         let line = line?;
-        if let Err(fault) = take_line(&rt, alloc, &mut cases, line.as_str()) {
+        if let Err(fault) = take_line(rt, alloc, cases, line.as_str()) {
             println!(rt; "{fault}")?;
             return Ok(ExitCode::from(1));
         }

@@ -82,15 +82,33 @@ fn run_cut(
 ) -> Result<(), AllocError> {
     let mut alike: u64 = 0;
     for place in 1..case.input.len() {
-        let ran = run_once(rt, alloc, case, Some(place))?;
-        if has_same_end(uncut, &ran) {
+        if is_alike(rt, alloc, case, uncut, place, page)? {
             alike = alike.saturating_add(1);
-        } else {
-            writeln!(page, "cut at {place}:")?;
-            write_end(page, &ran)?;
         }
     }
     writeln!(page, "the same at each of {alike} cuts")
+}
+
+// Whether a case that is cut at a place ends as the uncut one; where it does not, how it ends is told.
+fn is_alike(
+    rt: &(impl Threads + Wait + Copy + Send + Sync + Drop),
+    alloc: Global,
+    case: &Case,
+    uncut: &Ran,
+    place: usize,
+    page: &mut String,
+) -> Result<bool, AllocError> {
+    let ran = run_once(rt, alloc, case, Some(place))?;
+    tell_cut(page, uncut, &ran, place)
+}
+
+fn tell_cut(page: &mut String, uncut: &Ran, ran: &Ran, place: usize) -> Result<bool, AllocError> {
+    if has_same_end(uncut, ran) {
+        return Ok(true);
+    }
+    writeln!(page, "cut at {place}:")?;
+    write_end(page, ran)?;
+    Ok(false)
 }
 
 fn has_same_end(one: &Ran, other: &Ran) -> bool {

@@ -108,6 +108,12 @@ ReadsAgg (commands.Script said) = ⊥
 ReadsAgg (commands.Sample said more) = ⊥
 ReadsAgg (commands.Serve said more) = Unit {0}
 
+-- for another command nothing is asked of the folder
+abbrev pub AsksFor : {D : Type 0} → Command → D → D → Type 0
+AsksFor (commands.Script said) folder folder' = folder' ≡ folder
+AsksFor (commands.Sample said more) folder folder' = folder' ≡ folder
+AsksFor (commands.Serve said more) folder folder' = Unit {0}
+
 -- the fault is none of the aggregation rules, or the command reads them
 abbrev pub IsFaultFor : Command → ConfFault → Type 0
 IsFaultFor command (conf.Refused file cause) = Unit {0}

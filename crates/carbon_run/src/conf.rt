@@ -5,7 +5,7 @@ ghost use Rattle.schema_rules.specs.RulesOf.{rules_result};
 ghost use Rattle.aggregate_rules.specs.RuleTexts.{file_rules};
 ghost use Rattle.outside_io.specs.Image.{IsWithinFile, ReadsFile};
 ghost use Rattle.carbon_run.specs.Conf.{AnswersAgg, Answers, IsOfReading, IsOfRules, IsRefused, IsRefusedAgg, ReadsFront, agg_rules_in, agg_rules_name, rule_file_name, rules_in};
-ghost use Rattle.carbon_run.specs.Runs.{IsFaultFor, ReadsAgg};
+ghost use Rattle.carbon_run.specs.Runs.{AsksFor, IsFaultFor, ReadsAgg};
 
 use aggregate_rules::{AggCause, AggFault, AggRules};
 use carbon_words::Command;
@@ -112,6 +112,7 @@ fn agg_rules_for<D: Disk>(
         → IfSome (D.image conf.old) (λ image. agg_rules_in image ≡ Ok rules)) }
     ensures refused { IfErr result (λ fault. IfSome (D.image conf.old) (IsRefusedAgg fault)) }
     ensures own { IfErr result (IsFaultFor command.now) }
+    ensures asks { AsksFor command.now conf.old conf.new }
     ensures frame { ReadsOnly D.Disk conf.old conf.new (IsErrOf result ConfFault.DiskFault) }
 {
     match command {

@@ -16,11 +16,11 @@ use outside_io::{Clock, Disk, Net};
 /// seen before. Else the run ended before its first entry. The function does nothing: what it ensures
 /// is the law.
 pub fn a_run_of_a_server_has_one_history<C: Clock, D: Disk, E: Net>()
-    ensures { (clock : C) (net net' : E) (said : Options) (more : ServeOptions)
-        (folder folder' : D) (streams : Streams) (given : List D) (answer : Answer D)
+    ensures { (clock : C) (net served : E) (said : Options) (more : ServeOptions)
+        (folder left : D) (streams : Streams) (given : List D) (answer : Answer D)
         → Outcome D.Disk (beside E.faults (C.moments clock)
-        (telling E.L.Source E.L.Sink) net net') (Serve said more) folder folder'
+        (telling E.L.Source E.L.Sink) net served) (Serve said more) folder left
         streams given answer
         → TellsOneHistory D.Disk (beside E.faults (C.moments clock)
-        (telling E.L.Source E.L.Sink) net net') said more folder answer.history }
+        (telling E.L.Source E.L.Sink) net served) said more folder answer.history }
 {}

@@ -55,7 +55,7 @@ use std::thread::Threads;
 /// | 0 | `script` and `sample`: the input was read to its end, and all that the script says was written. `serve`: the net was closed, and `stored S replaced R full F drains D` was written. All points are in the ring files |
 /// | 2 | the words are no command |
 /// | 3 | a rule file is refused: its first fault, and those of the schema file before those of the aggregation file, those of `aggregation-rules.conf` last |
-/// | 4 | a ring file is damaged: the first of the least class, in byte order of its name |
+/// | 4 | the log of a class is damaged behind its open gate, or else a ring file is: that of the least class, and of its files the first in byte order of its name |
 /// | 5 | a call of a disk failed, in a start or in the drain at the end, or one on the folder `conf` |
 /// | 6 | a read of the input failed |
 /// | 7 | a write failed |

@@ -20,8 +20,12 @@ other_number j k other = elim (eqb_tells j k) [
 ]
 
 -- the pass of an entry has it
-own_front : (e : Entry) (es : List Entry) → of_pass (pass_of e) (e ∷ es) ≡ e ∷ of_pass (pass_of e) es
+pub own_front : (e : Entry) (es : List Entry) → of_pass (pass_of e) (e ∷ es) ≡ e ∷ of_pass (pass_of e) es
 own_front e es = rw (same_number (pass_of e)) refl
+
+-- and no other pass has
+pub other_front : (e : Entry) (es : List Entry) (k : ℕ) → (pass_of e ≡ k → ⊥) → of_pass k (e ∷ es) ≡ of_pass k es
+other_front e es k other = rw (other_number (pass_of e) k other) refl
 
 -- entries of no pass are none
 pub no_entries : (es : List Entry) → ((k : ℕ) → of_pass k es ≡ []) → es ≡ []
@@ -29,7 +33,7 @@ no_entries [] none = refl
 no_entries (e ∷ es) none = let bad : e ∷ of_pass (pass_of e) es ≡ [] = sym (own_front e es) ∙ none (pass_of e) in absurd cc
 
 -- where a test passes none of a list, it passes none of its rest
-none_behind : {X : Type 0} (f : X → Bool) (x : X) (xs : List X) → filter f (x ∷ xs) ≡ [] → filter f xs ≡ []
+pub none_behind : {X : Type 0} (f : X → Bool) (x : X) (xs : List X) → filter f (x ∷ xs) ≡ [] → filter f xs ≡ []
 none_behind {X} f x xs none = by (f x) none
   where
     by : (b : Bool) → cond b (x ∷ filter f xs) (filter f xs) ≡ [] → filter f xs ≡ []

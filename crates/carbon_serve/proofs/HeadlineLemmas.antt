@@ -1,5 +1,5 @@
 -- What the courses of a server's passes say of its one history.
-use Rattle.std.proofs.Common.{◌≡◌, ◌∙◌, ℕ, ◌≤◌, ◌+◌, Bool, true, false, List, [], ◌∷◌, ◌++◌, Option, refl, sym, ap, subst}
+use Rattle.std.proofs.Common.{◌≡◌, ◌∙◌, ℕ, ◌+◌, Bool, true, false, List, [], ◌∷◌, ◌++◌, Option, refl, sym, ap, subst}
 use Rattle.std.specs.Prelude.{All}
 use Rattle.std.proofs.lemmas.List.Elements.{All-cons, All-nil, All-push}
 use mathlib.Core.List.{IsPrefix}
@@ -25,6 +25,7 @@ use Rattle.carbon_serve.specs.declared.workers.Role.{Role}
 use Rattle.carbon_serve.specs.declared.workers.Role.TheVariants as role
 use Rattle.carbon_serve.proofs.PutLemmas.{all_puts}
 use Rattle.carbon_serve.proofs.ReplyLemmas.{all_replies}
+use Rattle.carbon_serve.proofs.WovenLemmas.{woven}
 
 -- ---- the workers
 
@@ -114,6 +115,7 @@ pub one_history : {D L : Type 0} (d : Ghosts D) (staff : Staff L) (told : ℕ �
 one_history d staff told start earlier end history disks serves = record {
   legal = serves.legal;
   names = serves.names;
+  woven = woven staff.passes history serves.names;
   workers = λ number few. worker staff.links (origin_by staff told start) staff.duties number history (serves.courses number few);
   last = last_pass (origin_by staff told start) end history serves.last;
 }

@@ -13,4 +13,5 @@ mod OrderLemmas
 mod MusterLemmas
 mod CrewLemmas
 mod EndLemmas
+mod WovenLemmas
 pub mod HeadlineLemmas

@@ -1,30 +1,26 @@
 -- Passes that come back, one after the other.
-use Rattle.std.proofs.Common.{◌≡◌, ◌∙◌, ◌||◌, ℕ, ◌≤◌, ◌+◌, Bool, true, false, List, [], ◌∷◌, ◌++◌, refl, sym, ap, subst, arith, append-nil, append_assoc, length-append}
+use Rattle.std.proofs.Common.{◌≡◌, ◌⊎◌, inl, inr, ◌∙◌, ◌||◌, ◌≤◌, ◌+◌, Bool, true, false, List, [], ◌∷◌, ◌++◌, refl, sym, ap, subst, arith, append-nil, append_assoc, length-append}
 use Rattle.std.specs.Prelude.{reverse}
 use Rattle.std.specs.List.{list_any}
 use Rattle.std.proofs.lemmas.List.Elements.{All-append, All-cons, All-nil, All-weaker}
 use Rattle.std.proofs.lemmas.List.Folds.{list_any-append}
 use mathlib.Core.List.{IsPrefix}
-use Rattle.carbon_model.specs.State.{State}
-use Rattle.shared_history.specs.Parts.{PassValue, own_entries}
+use Rattle.carbon_history.specs.declared.entry.Entry.{Entry}
+use Rattle.shared_history.specs.Parts.{PassValue, own_entries, pass_seeing}
 use Rattle.shared_history.proofs.ListLemmas.{prefix_self}
-use Rattle.shared_store.specs.Passes.{Enters}
 use Rattle.carbon_serve.specs.Crews.{Adds, HasLearned, MusterValue, Musters, OnlySaw, lacks_room, pass_list, passes_of}
 use Rattle.carbon_serve.specs.declared.workers.Worker.{Worker}
 use Rattle.carbon_serve.proofs.PassLemmas.{prefix_on}
 use Rattle.carbon_serve.proofs.OrderLemmas.{last_first}
-use Rattle.carbon_serve.proofs.OrderLemmas.{last_first}
 
 -- ---- the crew's own pass
 
--- a pass that saw all and entered nothing
-pub only_saw : (start : State) (passes : ℕ) (old new : PassValue) → Enters start passes [] old new → OnlySaw old new
-only_saw start passes old new enters = record {
-  table = enters.table;
-  number = enters.number;
-  begins = enters.begins;
-  none = enters.once ∙ append-nil (own_entries old);
-}
+-- a pass that has seen the longer of what it had seen and of what it was told
+pub only_learned : (list : List Entry) (old new : PassValue) → (new ≡ old) ⊎ (new ≡ pass_seeing old list) → IsPrefix old.seen new.seen → own_entries new ≡ own_entries old → OnlySaw old new
+only_learned list old new (inl same) begins own =
+    record { table = ap (λ (pass : PassValue). pass.table) same; number = ap (λ (pass : PassValue). pass.number) same; begins = begins; none = own }
+only_learned list old new (inr told) begins own =
+    record { table = ap (λ (pass : PassValue). pass.table) told; number = ap (λ (pass : PassValue). pass.number) told; begins = begins; none = own }
 
 saw_none : (pass : PassValue) → OnlySaw pass pass
 saw_none pass = record { table = refl; number = refl; begins = prefix_self pass.seen; none = refl }

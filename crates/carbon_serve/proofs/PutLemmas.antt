@@ -1,12 +1,11 @@
 -- What a receiver's links put is what the history has of its pass.
-use Rattle.std.proofs.Common.{◌≡◌, ◌∙◌, ◌⊎◌, inl, inr, ℕ, List, [], ◌∷◌, ◌++◌, Option, Ok, refl, sym, ap, subst, append-nil, append_assoc}
+use Rattle.std.proofs.Common.{◌≡◌, ◌∙◌, ◌⊎◌, inl, inr, ℕ, List, [], ◌∷◌, ◌++◌, Option, refl, sym, ap, subst, append-nil, append_assoc}
 use mathlib.Core.List.{IsPrefix}
 use Rattle.carbon_history.specs.declared.entry.Entry.{Entry}
 use Rattle.carbon_model.specs.State.{State}
 use Rattle.shared_history.specs.Parts.{PassValue, own_entries}
 use Rattle.shared_history.proofs.ListLemmas.{prefix_nil}
 use Rattle.line_frame.specs.Lines.{Line, Whole, TooLong, lines}
-use Rattle.metric_line.specs.LineDatum.{datum_of}
 use Rattle.metric_line.specs.Point.{Point}
 use Rattle.metric_line.specs.declared.fault.LineFault.{LineFault}
 use Rattle.std.specs.Prelude.{Result}
@@ -17,7 +16,7 @@ use Rattle.line_front.specs.Links.{BringsFront, EndsAs, HandlesFront, HandlesLin
 use Rattle.line_front.specs.declared.ends.LineCause.{LineCause}
 use Rattle.line_front.specs.declared.ends.LineCause.TheVariants as cause
 use Rattle.line_front.proofs.LinkLemmas.{same_pass}
-use Rattle.line_front.proofs.PointLemmas.{Makes, bring_append, gathered_one, makes_append, makes_each, makes_none, makes_point, put_append, put_one}
+use Rattle.line_front.proofs.PointLemmas.{Makes, bring_append, makes_append, makes_each, makes_none, makes_point, put_append, put_one}
 use Rattle.http_front.specs.Origin.{Origin}
 use Rattle.carbon_serve.specs.Deeds.{InTurn, LineLink, ServesLineLink, Telling}
 use Rattle.carbon_serve.specs.OneHistory.{AreFirst, AreHandled, ArePut, PutsOf, PutsOfAll}

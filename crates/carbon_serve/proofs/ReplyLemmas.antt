@@ -32,7 +32,7 @@ use Rattle.http_front.specs.Browses.{ComesOfGlobs, HasNames, IsIndexText, Tells}
 use Rattle.http_front.specs.Entries.{IsEntryOf}
 use Rattle.http_front.specs.Links.{BeginWith, CannotBegin, ComesOfAll, ComesOfItem, EndsAs, RunsShort, Serves, ServesLink, TellsShort}
 use Rattle.http_front.specs.Origin.{At, Origin}
-use Rattle.http_front.specs.Outcomes.{replies_to, reply_to, unavailable_reply}
+use Rattle.http_front.specs.Outcomes.{reply_to, unavailable_reply}
 use Rattle.http_front.specs.Requests.{ComesOfPlan, ComesOfRead, ComesOfRoute, form_of}
 use Rattle.http_front.specs.declared.ends.HttpEnd.{HttpEnd}
 use Rattle.http_front.specs.declared.ends.HttpEnd.TheVariants as end

@@ -137,7 +137,7 @@ impl Crew {
     }
 
     /// Takes all passes back. The crew's own pass learns what they have seen.
-    pub(crate) fn muster<D: Disk, N: Named>(self, rt: &impl Wait, store: &Store<D, N>) -> Muster<N>
+    pub(crate) fn muster<D: Disk, N: Named>(self, store: &Store<D, N>) -> Muster<N>
         requires one { All (λ pass. pass.table ≡ N.table) self.served }
         requires own { self.own.table ≡ N.table }
         ensures musters { Musters self.served self.own result }
@@ -154,7 +154,7 @@ impl Crew {
             own: StorePass::new(own),
             is_spent: false,
         };
-        muster.add_workers(rt, store, workers);
+        muster.add_workers(store, workers);
         muster
     }
 }
@@ -213,30 +213,30 @@ impl<N: Named> Muster<N> {
 
     // The passes of workers, the last worker's first.
     #[tactic(auto, using(crate::proofs::MusterLemmas::behind_none, crate::proofs::MusterLemmas::behind_all))]
-    fn add_workers<D: Disk>(&mut self, rt: &impl Wait, store: &Store<D, N>, workers: Vec<Worker>)
+    fn add_workers<D: Disk>(&mut self, store: &Store<D, N>, workers: Vec<Worker>)
         requires ready { All (IsReady N.table) workers.items }
         requires places { vec_len workers ≤ self.old.places }
         ensures { Adds (in_order workers.items) self.old self.new }
     {
         let mut workers = workers;
         while let Some(worker) = workers.pop() {
-            self.add_worker(rt, store, worker);
+            self.add_worker(store, worker);
         }
     }
 
     #[tactic(auto, using(crate::proofs::MusterLemmas::adds_none, crate::proofs::MusterLemmas::adds_one))]
-    fn add_worker<D: Disk>(&mut self, rt: &impl Wait, store: &Store<D, N>, worker: Worker)
+    fn add_worker<D: Disk>(&mut self, store: &Store<D, N>, worker: Worker)
         requires ready { IsReady N.table worker }
         requires places { 0 < self.old.places }
         ensures { Adds (pass_list worker.pass) self.old self.new }
     {
         if let Some(pass) = worker.pass {
-            self.add(rt, store, pass);
+            self.add(store, pass);
         }
     }
 
     // One pass more, of which the crew's own learns.
-    fn add<D: Disk>(&mut self, rt: &impl Wait, store: &Store<D, N>, pass: Pass)
+    fn add<D: Disk>(&mut self, store: &Store<D, N>, pass: Pass)
         requires one { pass.table ≡ N.table }
         requires places { 0 < self.old.places }
         ensures served { self.new.served ≡ self.old.served ++ pass ∷ [] }
@@ -246,7 +246,7 @@ impl<N: Named> Muster<N> {
         ensures places { self.old.places ≤ self.new.places + 1 }
     {
         let mut pass = StorePass::new(pass);
-        learn_from(rt, store, &mut pass, &mut self.own);
+        learn_from(store, &mut pass, &mut self.own);
         self.is_spent |= is_spent(&pass);
         put_back(&mut self.passes, pass.into_pass());
     }
@@ -288,9 +288,8 @@ impl<N: Named> Muster<N> {
 }
 
 // A pass learns what another one has seen.
-#[tactic(auto, using(crate::proofs::MusterLemmas::only_saw))]
+#[tactic(auto, using(crate::proofs::MusterLemmas::only_learned))]
 fn learn_from<D: Disk, N: Named>(
-    rt: &impl Wait,
     store: &Store<D, N>,
     pass: &mut StorePass<N>,
     own: &mut StorePass<N>,
@@ -300,7 +299,7 @@ fn learn_from<D: Disk, N: Named>(
     ensures own { OnlySaw own.old own.new }
 {
     let note = store.note(pass);
-    store.learn(rt, own, note);
+    store.learn(own, note);
 }
 
 // Whether a pass has no room for the entries of another call.

@@ -24,9 +24,10 @@ where
     ghost use Rattle.carbon_serve.specs.Deeds.{DrainsOnly};
     ghost use Rattle.carbon_serve.specs.Workers.{Works};
 
-    /// Drains what is pending, step by step and within its pace, until no worker serves links any
-    /// more or the pass is spent. A round begins behind the class that last did what is bounded, so that a
-    /// pace comes to all of them. It pauses after a round in which no class got on.
+    /// Drains what is pending, step by step and within its pace, until no worker serves links any more
+    /// and neither this drainer nor another gets on, or the pass is spent: so what is pending at the stop
+    /// is drained by all of them. A round begins behind the class that last did what is bounded, so that
+    /// a pace comes to all of them. It pauses after a round in which no class got on.
     #[tactic(auto, using(crate::proofs::DeedLemmas::only_same, crate::proofs::WorkLemmas::works_same, crate::proofs::DeedLemmas::only_then, crate::proofs::WorkLemmas::works_then))]
     pub(crate) fn drain(&self, pass: &mut StorePass<N>, pace: Pace)
         ensures works { Works (C.moments self.now.clock.now) N.start pass.old pass.new }
@@ -34,14 +35,21 @@ where
     {
         let mut pacer = Pacer::new(pace, moment(self.clock));
         for _round in self.rt.forever() {
-            if self.link_workers.load(Ordering::SeqCst) == 0 || !has_room(pass) {
-                return;
-            }
+            let is_stop = self.link_workers.load(Ordering::SeqCst) == 0;
             if !self.drain_round(pass, &mut pacer) {
+                if self.is_done(pass, is_stop) {
+                    return;
+                }
                 self.clock.pause();
             }
         }
         unreachable!()
+    }
+
+    // Whether a drainer that got on nowhere ends: its pass is spent, or it is the stop and no other
+    // drainer is at a class.
+    fn is_done(&self, pass: &StorePass<N>, is_stop: bool) -> bool {
+        !has_room(pass) || is_stop && self.taken.load(Ordering::SeqCst) == 0
     }
 
     // One turn of each class: whether one got on.

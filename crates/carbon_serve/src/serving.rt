@@ -75,7 +75,7 @@ fn end_service<N: Named, R: Wait, D: Disk + Drop, C: Clock, E: Net>(
         result.closed.history result.closed.disks.items }
     ensures counted { result.closed.tally ≡ tally_of result.closed.history }
 {
-    let mut muster = crew.muster(rt, &store);
+    let mut muster = crew.muster(&store);
     let end = muster.drain(rt, &store, clock);
     Served {
         end,

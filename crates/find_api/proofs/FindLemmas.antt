@@ -14,10 +14,11 @@ use Rattle.path_glob.specs.Faults.{Said}
 use Rattle.path_glob.specs.Glob.{Fits}
 use Rattle.path_glob.specs.Laws.{BeginsWith}
 use Rattle.find_api.specs.Nodes.{IsFound, Tells}
-use Rattle.find_api.specs.Runs.{AddsFound, EndsNodes, IsBehindNode, IsBehindRun, IsEndOfNode, IsRun, TellsAt}
+use Rattle.path_glob.specs.Fronts.{IsBehindRun, IsRun}
+use Rattle.find_api.specs.Runs.{AddsFound, EndsNodes, IsBehindNode, IsEndOfNode, TellsAt}
 use Rattle.find_api.specs.declared.node.Node.{Node}
 use Rattle.find_api.proofs.NodeLemmas.{behind_dot, fits_count, front_is_legal, tells_few, tells_one}
-use Rattle.find_api.proofs.RunLemmas.{order}
+use Rattle.path_glob.proofs.FrontLemmas.{order}
 
 -- ---- where the nodes of a name end
 

@@ -1,20 +1,9 @@
--- Runs of names that begin with the same bytes, and what the nodes of a glob are on the way over them.
+-- What the nodes of a glob are on the way over names in byte order.
 use Rattle.std.specs.Prelude.{◌≡◌, ◌≢◌, ℕ, ◌<◌, ◌↔◌, ◌⊎◌, Bool, List, [], ◌∷◌, ◌++◌, length, All, Contains, Option, Some, None}
 use Rattle.metric_path.specs.Path.{nodes_of}
 use Rattle.path_glob.specs.Faults.{Said}
-use Rattle.path_glob.specs.Laws.{BeginsWith}
 use Rattle.find_api.specs.Nodes.{IsFound, Tells}
 use Rattle.find_api.specs.declared.node.Node.{Node}
-
--- of these names those that begin with the front
-abbrev pub IsRun : List ℕ → List (List ℕ) → List (List ℕ) → Type 0
-IsRun front names run =
-    (before : List (List ℕ)) × (after : List (List ℕ)) × (names ≡ before ++ (run ++ after))
-    × All (λ name. BeginsWith front name → ⊥) before × All (λ name. BeginsWith front name → ⊥) after
-
--- what follows the names that begin with the front
-abbrev pub IsBehindRun : List ℕ → List (List ℕ) → List (List ℕ) → Type 0
-IsBehindRun front names rest = (run : List (List ℕ)) × (names ≡ run ++ rest) × All (BeginsWith front) run
 
 -- The node of so many nodes that a name tells, if it has as many.
 abbrev pub TellsAt : ℕ → List ℕ → Option Node → Type 0

@@ -7,9 +7,8 @@ ghost use Rattle.find_api.specs.Nodes.{Expands, Finds, Tells};
 ghost use Rattle.find_api.specs.Runs.{AddsFound, EndsNodes, IsBehindNode, TellsAt};
 
 use crate::node::Node;
-use crate::run::{behind_run, run_of};
 use metric_path::MetricPath;
-use path_glob::{Glob, GlobSearch, Work, texts_with_one_front_stand_together};
+use path_glob::{Glob, GlobSearch, Work, behind_run, run_of, texts_with_one_front_stand_together};
 use std::alloc::{AllocError, Global};
 
 // What it takes to tell the node of a name, and to pass over the names behind it that tell the same.

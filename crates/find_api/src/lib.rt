@@ -10,7 +10,6 @@ mod find;
 mod laws;
 mod node;
 mod query;
-mod run;
 mod text;
 
 pub use fault::FindFault;

@@ -25,7 +25,7 @@ use std::time::Clock;
 /// there, as it is, when `names` was called last, since a drain reads such a file and then makes it anew. Before the first `names` there is
 /// only the log of an earlier process to be laid, which may have come as far as the head of a file: a ring file of version 1, or one of the
 /// length that is asked for whose bytes are no older than those of the file of the call before, which is the log, is made anew then where it
-/// was there, as it is, when this disk was made. Under any other name a plain file is made anew.
+/// was there, as it is, when this disk was made. Under any other name a plain file is made anew, over the bytes that it has.
 ///
 /// The file of the last call stays open, so that calls for one file in a row open it once. Each write looks whether the name still leads to
 /// that file (it may do so through an inner folder that became a link meanwhile), and so does a read where the last look is a tenth of a

@@ -22,9 +22,9 @@ pub(crate) enum FileFault {
     InTheWay,
     #[error("no file is made for a moment, since one could not be made")]
     Paused,
-    #[error("not brought to the device ({0}); the system may have forgotten what was written, so start again")]
+    #[error("not brought to the device ({0}); the system may have forgotten what was written: stop carbon, and start the machine anew")]
     NotSynced(io::Error),
-    #[error("not brought to the device earlier; the system may have forgotten what was written, so start again")]
+    #[error("not brought to the device earlier; the system may have forgotten what was written: stop carbon, and start the machine anew")]
     Forgotten,
     #[error("out of memory")]
     NoMemory,

@@ -5,7 +5,7 @@ use crate::open_file::{Access, Links, OpenedFile, sync_folder};
 use crate::unsynced::Unsynced;
 use std::alloc::AllocError;
 use std::fs::{self, File, OpenFile, OpenOptions};
-use std::io::{ErrorKind, Write};
+use std::io::{self, ErrorKind, Write};
 use std::rt::Files;
 use std::time::Clock;
 
@@ -39,6 +39,25 @@ pub(crate) struct FolderFiles<R> {
     is_named: bool,
     // whether the system failed to bring something to the device
     has_forgotten: bool,
+}
+
+// A file that is to have zero bytes alone. A name that is taken, but for that of a ring file which is
+// made anew, is on the device with the first sync of the disk, or awaits one with what the disk made.
+#[derive(Drop)]
+struct MadeFile {
+    file: OpenedFile,
+    is_new: bool,
+}
+
+impl MadeFile {
+    // Leaves so many zero bytes. Each drain makes its log anew: were the place of that freed, and
+    // another found, all syncs of the file system would wait for it.
+    fn clear(&self, length: u64) -> io::Result<()> {
+        match self.is_new {
+            true => self.file.clear(length),
+            false => self.file.clear_in_place(length),
+        }
+    }
 }
 
 impl<R: Clock> FolderFiles<R> {
@@ -164,10 +183,10 @@ impl<R: Files<File = File> + AllocGlobal + Clock> FolderFiles<R> {
         if let Some((folder, _)) = path.rsplit_once('/') {
             fs::create_dir_all(&self.rt, folder)?;
         }
-        let file = self.made(name, length, &last)?;
-        self.unsynced.note(&file, true);
-        file.clear(length)?;
-        self.kept = Some(file);
+        let made = self.made(name, length, &last)?;
+        self.unsynced.note(&made.file, made.is_new);
+        made.clear(length)?;
+        self.kept = Some(made.file);
         Ok(())
     }
 
@@ -176,14 +195,15 @@ impl<R: Files<File = File> + AllocGlobal + Clock> FolderFiles<R> {
         name: &str,
         wanted: u64,
         last: &Option<OpenedFile>,
-    ) -> Result<OpenedFile, FileFault> {
+    ) -> Result<MadeFile, FileFault> {
         let path = self.path_of(name)?;
         let own = String::from_str(self.rt.alloc(), name)?;
         match OpenedFile::create(&self.rt, own, path) {
             Err(FileFault::System(error)) if error.kind() == ErrorKind::AlreadyExists => {
                 self.made_anew(name, wanted, last)
             }
-            made => made,
+            Ok(file) => Ok(MadeFile { file, is_new: true }),
+            Err(fault) => Err(fault),
         }
     }
 
@@ -193,12 +213,16 @@ impl<R: Files<File = File> + AllocGlobal + Clock> FolderFiles<R> {
         name: &str,
         wanted: u64,
         last: &Option<OpenedFile>,
-    ) -> Result<OpenedFile, FileFault> {
+    ) -> Result<MadeFile, FileFault> {
         let file = self.open(name, Access::Writing)?;
-        if name.ends_with(RING_END) && !self.may_be_anew(&file, wanted, last)? {
+        let is_ring = name.ends_with(RING_END);
+        if is_ring && !self.may_be_anew(&file, wanted, last)? {
             return Err(FileFault::InTheWay);
         }
-        Ok(file)
+        Ok(MadeFile {
+            file,
+            is_new: is_ring,
+        })
     }
 
     // Whether a ring file may be made anew with a length: it was never whole, or it was there when the names were listed and is of version 1,

@@ -11,6 +11,9 @@ use std::time::{Clock, Duration, Instant};
 // For so long a look at the name of an open file serves the reads behind it.
 const LOOK_MILLIS: u64 = 100;
 
+// So many zero bytes are written at once.
+const ZEROS_BYTES: usize = 4096;
+
 // What an open file may be used for.
 #[derive(Clone, Copy, PartialEq, Eq)]
 pub(crate) enum Access {
@@ -213,6 +216,16 @@ impl OpenedFile {
         self.file.set_len(length)
     }
 
+    // Leaves so many zero bytes, over the bytes that are there: these keep their place on the file system.
+    pub(crate) fn clear_in_place(&self, length: u64) -> io::Result<()> {
+        let held = self.file.metadata()?.len();
+        write_zeros(&self.file, held.min(length))?;
+        if held != length {
+            self.file.set_len(length)?;
+        }
+        Ok(())
+    }
+
     // The bytes that the file begins with, as many as there is room for.
     pub(crate) fn front<'a>(&self, length: u64, room: &'a mut [u8]) -> Result<&'a [u8], FileFault> {
         let count = length.min(room.len() as u64) as usize;
@@ -232,6 +245,17 @@ impl OpenedFile {
     pub(crate) fn was_there(&self, moment: Moment) -> Result<bool, FileFault> {
         Ok(Moment::of_change(&self.file.metadata()?).is_before(moment))
     }
+}
+
+// Writes so many zero bytes at the front of a file.
+fn write_zeros(file: &File, count: u64) -> io::Result<()> {
+    let zeros = [0; ZEROS_BYTES];
+    let pieces = count / ZEROS_BYTES as u64;
+    for piece in 0..pieces {
+        file.write_all_at(&zeros, piece * ZEROS_BYTES as u64)?;
+    }
+    let rest = (count % ZEROS_BYTES as u64) as usize;
+    file.write_all_at(&zeros[..rest], pieces * ZEROS_BYTES as u64)
 }
 
 // What stands under a path; where nothing does, it was removed.

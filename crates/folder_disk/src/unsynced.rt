@@ -125,7 +125,7 @@ impl UnsyncedFile {
     ) -> Result<(), FileFault> {
         let place = self.place.take();
         match kept {
-            Some(open) if open.path() == self.path.as_str() => open.sync(rt, links)?,
+            Some(open) if is_of(open, self.path.as_str(), place) => open.sync(rt, links)?,
             _ => sync_file(rt, self.path.as_str(), links, place)?,
         }
         if self.is_new {
@@ -133,6 +133,11 @@ impl UnsyncedFile {
         }
         Ok(())
     }
+}
+
+// Whether an open file is the one of a path, and of this place where one is known.
+fn is_of(open: &OpenedFile, path: &str, place: Option<Place>) -> bool {
+    open.path() == path && place.unwrap_or(open.place()) == open.place()
 }
 
 // Brings the folders to the device that a file stands in, from the disk's own folder inwards.

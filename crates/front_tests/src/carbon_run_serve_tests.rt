@@ -96,12 +96,13 @@ struct LinkCase {
     reply: &'static [u8],
 }
 
-// Which calls of the disks wait: the first writes of these classes; those of all classes, where each puts up the flag of its class, and that of class
-// 12 waits for that of class 15; or, over disks that a server left which drained a point of class 12, the read of that class behind that of its file's
-// head.
+// Which calls of the disks wait: the first writes of these classes; the first creates of some and the first writes of others; the first writes of all
+// classes, where each puts up the flag of its class, and that of class 12 waits for that of class 15; or, over disks that a server left which drained a
+// point of class 12, the read of that class behind that of its file's head.
 #[derive(Clone, Copy)]
 enum DiskWaits {
     Writes(&'static [(u32, Meeting)]),
+    CreatesAndWrites(&'static [(u32, Meeting)], &'static [(u32, Meeting)]),
     WritesInTurn,
     Read(Meeting),
 }
@@ -329,15 +330,21 @@ impl Replies {
         case: &ServerCase,
     ) -> Result<MemNet<GateLink<R>, R>, AllocError> {
         let lines = links_of(rt, alloc, flags, case.lines, &self.lines)?;
-        let net = MemNet::new(
-            rt,
-            lines,
-            links_of(rt, alloc, flags, case.http, &self.http)?,
-        );
-        if case.ports.is_none() {
-            return Ok(net.failing());
-        }
-        Ok(net)
+        let http = links_of(rt, alloc, flags, case.http, &self.http)?;
+        Ok(net_of(rt, lines, http, case.ports))
+    }
+}
+
+fn net_of<R: Wait + Clock + Copy + Drop>(
+    rt: R,
+    lines: Vec<GateLink<R>>,
+    http: Vec<GateLink<R>>,
+    ports: Option<Bound>,
+) -> MemNet<GateLink<R>, R> {
+    let net = MemNet::new(rt, lines, http);
+    match ports {
+        Some(_) => net,
+        None => net.failing(),
     }
 }
 
@@ -368,19 +375,16 @@ fn run_server<R: Threads + Wait + Clock + Send + Sync + Drop>(
     )
 }
 
-fn serve<R: Threads + Wait + Clock + Send + Sync + Drop>(
-    rt: &R,
+// A network of one link, which brings a line of a point of class 12.
+fn line_net<R: Wait + Clock + Copy + Drop>(
+    rt: R,
     alloc: Global,
-    words: &str,
-    disks: Vec<GateDisk<R>>,
-    net: &mut MemNet<GateLink<R>, R>,
-    out: &mut MemSink,
-) -> Result<Report<GateDisk<R>>, AllocError>
-    requires { vec_len disks ≡ 16 }
-    ensures { IfOk result (λ report. vec_len report.disks ≡ 16) }
-{
-    let words = words_of(alloc, words)?;
-    Ok(run_server(rt, alloc, &words, disks, net, out))
+) -> Result<MemNet<GateLink<R>, R>, AllocError> {
+    let sent = Sent::new(alloc)?;
+    let link = open_link(rt, alloc, LINE.brings, &sent)?;
+    let mut lines = Vec::new(alloc);
+    lines.push(link)?;
+    Ok(MemNet::new(rt, lines, Vec::new(alloc)))
 }
 
 // Disks that a server left which drained a point of class 12.
@@ -390,18 +394,11 @@ fn drained_disks<R: Threads + Wait + Clock + Copy + Send + Sync + Drop>(
 ) -> Result<Vec<GateDisk<R>>, AllocError>
     ensures { IfOk result (λ disks. vec_len disks ≡ 16) }
 {
-    let mut lines = Vec::new(alloc);
-    lines.push(open_link(rt, alloc, LINE.brings, &Sent::new(alloc)?)?)?;
-    let mut net = MemNet::new(rt, lines, Vec::new(alloc));
+    let words = words_of(alloc, "serve")?;
+    let mut net = line_net(rt, alloc)?;
+    let disks = sixteen_disks(alloc)?;
     let mut out = MemSink::new(alloc);
-    let report = serve(
-        &rt,
-        alloc,
-        "serve",
-        sixteen_disks(alloc)?,
-        &mut net,
-        &mut out,
-    )?;
+    let report = run_server(&rt, alloc, &words, disks, &mut net, &mut out);
     Ok(report.disks)
 }
 
@@ -419,13 +416,27 @@ fn reading_disks<R: Clock + Drop>(
     disks
 }
 
+// How a call of a class waits, where it is among these.
+fn meeting_of(calls: &[(u32, Meeting)], class: u32) -> Option<Meeting> {
+    calls
+        .iter()
+        .find(|(own, _)| *own == class)
+        .map(|(_, meeting)| *meeting)
+}
+
+// How the first create of a class waits, where it does.
+fn create_of(waits: DiskWaits, class: u32) -> Option<Meeting> {
+    match waits {
+        DiskWaits::CreatesAndWrites(creates, _) => meeting_of(creates, class),
+        _ => None,
+    }
+}
+
 // How the first write of a class waits, where it does.
 fn write_of(waits: DiskWaits, class: u32) -> Option<Meeting> {
     match waits {
-        DiskWaits::Writes(writes) => writes
-            .iter()
-            .find(|(own, _)| *own == class)
-            .map(|(_, meeting)| *meeting),
+        DiskWaits::Writes(writes) => meeting_of(writes, class),
+        DiskWaits::CreatesAndWrites(_, writes) => meeting_of(writes, class),
         DiskWaits::WritesInTurn => Some(in_turn(class)),
         DiskWaits::Read(_) => None,
     }
@@ -443,7 +454,21 @@ fn in_turn(class: u32) -> Meeting {
     }
 }
 
-// The disk of a class, without files, whose first write may wait.
+// A disk without files, whose first create may wait.
+fn creating<R: Clock + Copy + Drop>(
+    rt: R,
+    alloc: Global,
+    flags: &Flags,
+    create: Option<Meeting>,
+) -> Result<GateDisk<R>, AllocError> {
+    let disk = GateDisk::new(MemDisk::new(alloc, 10_000_000));
+    match create {
+        Some(meeting) => Ok(disk.creating_at(flags.gate(rt, meeting)?)),
+        None => Ok(disk),
+    }
+}
+
+// The disk of a class, without files, whose first create and first write may wait.
 fn disk_of<R: Clock + Copy + Drop>(
     rt: R,
     alloc: Global,
@@ -451,7 +476,7 @@ fn disk_of<R: Clock + Copy + Drop>(
     class: u32,
     waits: DiskWaits,
 ) -> Result<GateDisk<R>, AllocError> {
-    let disk = GateDisk::new(MemDisk::new(alloc, 10_000_000));
+    let disk = creating(rt, alloc, flags, create_of(waits, class))?;
     match write_of(waits, class) {
         Some(meeting) => Ok(disk.writing_at(flags.gate(rt, meeting)?)),
         None => Ok(disk),
@@ -504,10 +529,11 @@ fn run_case<R: Threads + Wait + Clock + Copy + Send + Sync + Drop>(
     replies: &Replies,
     out: &mut MemSink,
 ) -> Result<Left<R>, AllocError> {
+    let words = words_of(alloc, case.words)?;
     let flags = Flags::new(alloc)?;
     let mut net = replies.net(*rt, alloc, &flags, case)?;
     let disks = disks_of(*rt, alloc, &flags, case.disk)?;
-    let report = serve(rt, alloc, case.words, disks, &mut net, out)?;
+    let report = run_server(rt, alloc, &words, disks, &mut net, out);
     Ok(Left {
         report,
         ports: net.bound(),
@@ -545,11 +571,21 @@ fn assert_served<R: Threads + Wait + Abort + Clock + Copy + Send + Sync + Drop>(
     case: &ServerCase,
 ) -> Result<(), Fail> {
     let replies = Replies::new(alloc, case)?;
-    let mut out = MemSink::new(alloc);
-    let left = run_case(rt, alloc, case, &replies, &mut out)?;
-    assert_left(rt, &left, &out, case);
+    assert_case(rt, alloc, case, &replies)?;
     assert_sent(rt, &replies.lines, case.lines);
     assert_sent(rt, &replies.http, case.http);
+    Ok(())
+}
+
+fn assert_case<R: Threads + Wait + Abort + Clock + Copy + Send + Sync + Drop>(
+    rt: &R,
+    alloc: Global,
+    case: &ServerCase,
+    replies: &Replies,
+) -> Result<(), Fail> {
+    let mut out = MemSink::new(alloc);
+    let left = run_case(rt, alloc, case, replies, &mut out)?;
+    assert_left(rt, &left, &out, case);
     Ok(())
 }
 
@@ -842,6 +878,129 @@ fn one_drainer_drains_all_other_classes_while_another_waits_for_a_disk(
     rt: HostRuntime,
 ) -> Result<(), Fail> {
     assert_served(&rt, rt.alloc(), &OTHERS_DRAINED)
+}
+
+// ---- two drainers at the stop
+
+const LINES_OF_12_AND_13: LinkCase = LinkCase {
+    brings: b"a.b 1.5 1700000000\np.l 1 1700000000\n",
+    waits: LinkWaits::Never,
+    reply: b"",
+};
+
+// A link that brings nothing, and is there until the left flag is up.
+const OPEN_UNTIL_LEFT: LinkCase = LinkCase {
+    brings: b"",
+    waits: LinkWaits::Behind(Sign::Left),
+    reply: b"",
+};
+
+// A link that brings lines of the classes 3 and 5 once a run of class 13 waits.
+const LINES_OF_3_AND_5: LinkCase = LinkCase {
+    brings: b"d 2 1700000000\np.d 3 1700000000\n",
+    waits: LinkWaits::Behind(Sign::Class(13)),
+    reply: b"",
+};
+
+const TELLS_13_BEHIND_RIGHT: Meeting = Meeting {
+    tells: Sign::Class(13),
+    waits_for: Sign::Right,
+};
+
+const BEHIND_5: Meeting = Meeting {
+    tells: Sign::Unheard,
+    waits_for: Sign::Class(5),
+};
+
+const TELLS_5: Meeting = Meeting {
+    tells: Sign::Class(5),
+    waits_for: Sign::Open,
+};
+
+// Each drainer waits for a disk, of class 12 and of class 13, until the last points were put, those of the classes 3 and 5. At the stop the first write
+// of class 3 goes on once that of class 5 has begun.
+static DRAINED_AT_THE_STOP: ServerCase = ServerCase {
+    words: "serve --receivers 1 --drainers 2",
+    disk: DiskWaits::Writes(&[
+        (12, LEFT_MEETS),
+        (13, TELLS_13_BEHIND_RIGHT),
+        (3, BEHIND_5),
+        (5, TELLS_5),
+    ]),
+    lines: &[
+        LINES_OF_12_AND_13,
+        OPEN_UNTIL_LEFT,
+        LINES_OF_3_AND_5,
+        BEHIND_LATE,
+    ],
+    http: &[],
+    ports: PORTS,
+    text: b"stored 4 replaced 0 full 0 drains 4\n",
+};
+
+#[test]
+fn what_is_pending_at_the_stop_is_drained_by_all_drainers(rt: HostRuntime) -> Result<(), Fail> {
+    assert_served(&rt, rt.alloc(), &DRAINED_AT_THE_STOP)
+}
+
+// ---- the turns of one drainer
+
+// The file of class 13 is made once that of class 12 has its first run.
+const MADE_BEHIND_A_RUN: Meeting = Meeting {
+    tells: Sign::Class(0),
+    waits_for: Sign::Class(12),
+};
+
+// The first run of class 13 is written once the file of class 3 was made.
+const WRITTEN_BEHIND_A_FILE: Meeting = Meeting {
+    tells: Sign::Class(13),
+    waits_for: Sign::Class(3),
+};
+
+const TELLS_3: Meeting = Meeting {
+    tells: Sign::Class(3),
+    waits_for: Sign::Open,
+};
+
+const TELLS_12: Meeting = Meeting {
+    tells: Sign::Class(12),
+    waits_for: Sign::Open,
+};
+
+// A link that brings lines of the classes 3 and 13 once the left flag is up.
+const LATE_LINES: LinkCase = LinkCase {
+    brings: b"d 2 1700000000\np.l 3 1700000000\n",
+    waits: LinkWaits::Read(BEHIND_LEFT),
+    reply: b"",
+};
+
+// A drain is begun, makes its file, and writes it by two runs. While the file of class 12 is made, points of the classes 3 and 13 come. Each of the
+// three has one step then before another one has its next: the file of class 13 is made once that of class 12 has its first run, and has
+// its own first run once that of class 3 was made.
+static STEP_BY_STEP: ServerCase = ServerCase {
+    words: "serve --receivers 1",
+    disk: DiskWaits::CreatesAndWrites(
+        &[(12, LEFT_MEETS), (13, MADE_BEHIND_A_RUN), (3, TELLS_3)],
+        &[(12, TELLS_12), (13, WRITTEN_BEHIND_A_FILE)],
+    ),
+    lines: &[
+        LINE,
+        LATE_LINES,
+        BEHIND_LATE,
+        LinkCase {
+            brings: b"",
+            waits: LinkWaits::Behind(Sign::Class(13)),
+            reply: b"",
+        },
+    ],
+    http: &[],
+    ports: PORTS,
+    text: b"stored 3 replaced 0 full 0 drains 3\n",
+};
+
+#[test]
+fn a_drainer_takes_one_step_of_a_class_in_a_round(rt: HostRuntime) -> Result<(), Fail> {
+    assert_served(&rt, rt.alloc(), &STEP_BY_STEP)
 }
 
 // ---- puts beside a disk that waits

@@ -1,15 +1,17 @@
 -- Names that a glob was held against.
 use Rattle.std.proofs.Common.{◌≡◌, inl, inr, ◌⊎◌, ◌∙◌, ℕ, zero, suc, ◌≤◌, Less, Greater, List, [], ◌∷◌, ◌++◌, length, get_or, Contains, Some, refl, sym, ap, subst, arith}
-use Rattle.std.specs.List.{AllByRecursion}
+use Rattle.std.specs.List.{All, AllByRecursion}
 use Rattle.std.specs.List.Sorted.{IsStrictlySortedBy}
 use Rattle.std.specs.Option.{IsSome}
 use Rattle.std.specs.Ordering.{ordering_reverse}
 use Rattle.std.proofs.lemmas.Cmp.{nat_list_cmp_total}
-use Rattle.std.proofs.lemmas.List.Elements.{All-contains, All-contains_itself, All-push}
+use Rattle.std.proofs.lemmas.List.Elements.{All-contains, All-contains_itself, All-head, All-push, All-tail, All-weaker}
 use Rattle.std.proofs.lemmas.List.{map_push}
 use Rattle.std.proofs.lemmas.Map.Keys.{sorted_tail}
 use Rattle.std.proofs.lemmas.Map.Views.{All-after_first}
 use Rattle.path_glob.specs.Faults.{Said}
+use Rattle.path_glob.specs.Fronts.{IsRun}
+use Rattle.path_glob.specs.Laws.{BeginsWith}
 use Rattle.metric_index.specs.Found.{Finds, IsFitted}
 use Rattle.metric_index.specs.Index.{entry_of, paths_of}
 use Rattle.metric_index.specs.Searched.{AreHits, AreKnown, PicksNames, Sifts}
@@ -45,6 +47,28 @@ module _ (fits : List ℕ → Type 0) where
   picks_pass [] picked name is no_fit = inr (no_fit, is)
   picks_pass (n ∷ names) picked name (inl (fit', rest, is, picks)) no_fit = inl (fit', rest, is, picks_pass names rest name picks no_fit)
   picks_pass (n ∷ names) picked name (inr (none, picks)) no_fit = inr (none, picks_pass names picked name picks no_fit)
+
+  -- names that do not fit stand before and behind the others
+  pass_before : (before names picked : List (List ℕ)) → All (λ name. fits name → ⊥) before → PicksNames fits names picked → PicksNames fits (before ++ names) picked
+  pass_before [] names picked none picks = picks
+  pass_before (n ∷ before) names picked none picks =
+      inr (All-head (λ name. fits name → ⊥) n before none, pass_before before names picked (All-tail (λ name. fits name → ⊥) n before none) picks)
+
+  pass_all : (names picked : List (List ℕ)) → All (λ name. fits name → ⊥) names → picked ≡ [] → PicksNames fits names picked
+  pass_all [] picked none is = is
+  pass_all (n ∷ names) picked none is = inr (All-head (λ name. fits name → ⊥) n names none, pass_all names picked (All-tail (λ name. fits name → ⊥) n names none) is)
+
+  pass_behind : (names after picked : List (List ℕ)) → All (λ name. fits name → ⊥) after → PicksNames fits names picked → PicksNames fits (names ++ after) picked
+  pass_behind [] after picked none is = pass_all after picked none is
+  pass_behind (n ∷ names) after picked none (inl (fit, rest, is, picks)) = inl (fit, rest, is, pass_behind names after rest none picks)
+  pass_behind (n ∷ names) after picked none (inr (no_fit, picks)) = inr (no_fit, pass_behind names after picked none picks)
+
+  -- of names that begin with a front, which all have that fit, and all names the same are picked
+  pub picks_run : (front : List ℕ) → ((path : List ℕ) → fits path → BeginsWith front path) → (names run picked : List (List ℕ)) → IsRun front names run → PicksNames fits run picked → PicksNames fits names picked
+  picks_run front begins names run picked (before, after, is, ahead, behind) picks =
+      let none : (xs : List (List ℕ)) → All (λ name. BeginsWith front name → ⊥) xs → All (λ name. fits name → ⊥) xs =
+      All-weaker (λ name. BeginsWith front name → ⊥) (λ name. fits name → ⊥) (λ name no_front fit. no_front (begins name fit)) in
+      subst (λ (l : List (List ℕ)). PicksNames fits l picked) (sym is) (pass_before before (run ++ after) picked (none before ahead) (pass_behind run after picked (none after behind) picks))
 
   picked_below : (P : List ℕ → Type 0) (names picked : List (List ℕ)) → PicksNames fits names picked → AllByRecursion P names → AllByRecursion P picked
   picked_below P [] picked is below = subst (AllByRecursion P) (sym is) tt

@@ -1,11 +1,14 @@
 //! The known names, as a glob was held against them.
 ghost use Rattle.std.specs.Prelude.{◌≡◌, IfOk, map};
+ghost use Rattle.std.specs.Cmp.Lexicographic.{slice_cmp};
+ghost use Rattle.std.specs.List.Sorted.{IsStrictlySortedBy};
+ghost use Rattle.std.specs.Ordering.{nat_cmp};
 ghost use Rattle.metric_index.specs.Found.{IsFitted};
 ghost use Rattle.metric_index.specs.Searched.{PicksNames};
 
 use crate::verdicts::Verdicts;
 use metric_path::MetricPath;
-use path_glob::{Glob, GlobSearch, Work};
+use path_glob::{Glob, GlobSearch, Work, run_of};
 use std::alloc::{AllocError, Global};
 use std::marker::Model;
 
@@ -104,8 +107,23 @@ impl<'a> SearchedNames<'a> {
     }
 }
 
-// Those of these names that the glob fits.
+// Those of these names that the glob fits. The others than those that begin with its literal front are not looked at.
 fn fitting_of<'a>(
+    alloc: Global,
+    verdicts: &Verdicts<'_>,
+    names: &'a [MetricPath],
+) -> Result<Vec<&'a MetricPath>, AllocError>
+    requires { IsStrictlySortedBy (slice_cmp nat_cmp) names.now }
+    ensures { IfOk result (λ fitting. PicksNames (IsFitted verdicts.now) names.now
+        (map (λ path. path.now) fitting.items)) }
+{
+    let front = verdicts.glob().literal_front();
+    let fitting = fitting_in(alloc, verdicts, run_of(names, front))?;
+    Ok(fitting)
+}
+
+// The same, where each is looked at.
+fn fitting_in<'a>(
     alloc: Global,
     verdicts: &Verdicts<'_>,
     names: &'a [MetricPath],

@@ -14,3 +14,4 @@ mod RunLemmas
 mod TableLemmas
 mod KnownLemmas
 mod GroupLemmas
+pub mod FrontLemmas

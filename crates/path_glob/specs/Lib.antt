@@ -13,3 +13,4 @@ pub mod Bits
 pub mod Tables
 pub mod Known
 pub mod Groups
+pub mod Fronts

@@ -6,6 +6,10 @@ use Rattle.metric_path.specs.Path.{nodes_of}
 use Rattle.path_glob.specs.Glob.{NodeCovers}
 use Rattle.path_glob.specs.Reading.{pieces_of}
 
+-- what came of a node is whether these pieces cover it
+abbrev pub IsVerdict : List ℕ → List ℕ → Bool → Type 0
+IsVerdict pieces node verdict = IsTrue verdict ↔ NodeCovers (pieces_of pieces) node
+
 -- What is remembered of a node is whether these pieces cover it.
 abbrev pub AreVerdicts : {A : Type 0} → List ℕ → List (Vec ℕ A × Bool) → Type 0
 AreVerdicts pieces tried =

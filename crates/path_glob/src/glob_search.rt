@@ -13,8 +13,9 @@ use metric_path::MetricPath;
 use std::alloc::{AllocError, Global};
 use std::marker::Model;
 
-/// One glob over many paths: a long pattern of a node is made ready once and then goes over the bytes of each node;
-/// of one with many short parts what came of each node that was tried is remembered; and the work is counted.
+/// One glob over many paths: a long pattern of a node is made ready once and then goes over the bytes of each node that
+/// is another one than the last; of one with many short parts what came of each node that was tried is remembered; and the
+/// work is counted.
 #[derive(Drop)]
 pub struct GlobSearch<'a> {
     glob: &'a Glob,

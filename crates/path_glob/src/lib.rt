@@ -29,6 +29,7 @@ mod laws;
 mod node_search;
 mod places;
 mod positions;
+mod run;
 mod states;
 mod tables;
 mod work;
@@ -41,4 +42,5 @@ pub use laws::{
     globs_are_whole_stretches, lists_stand_for_one_byte, texts_with_one_front_stand_together,
     values_are_closed, wildcards_stay_within_a_node,
 };
+pub use run::{behind_run, run_of};
 pub use work::Work;

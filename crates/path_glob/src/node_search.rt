@@ -1,5 +1,5 @@
 //! One node of a glob over many nodes of paths.
-ghost use Rattle.std.specs.Prelude.{◌≡◌, ◌+◌, ◌≤◌, ◌↔◌, IfOk, OnOk, IsTrue, length};
+ghost use Rattle.std.specs.Prelude.{◌≡◌, ◌+◌, ◌≤◌, ◌↔◌, IfOk, IfSome, OnOk, IsTrue, length};
 ghost use Rattle.path_glob.specs.Glob.{NodeCovers};
 ghost use Rattle.path_glob.specs.Reading.{pieces_of};
 
@@ -21,7 +21,8 @@ const NODE_WORK: u64 = 4;
 const TRIED_WORK: u64 = 32;
 
 /// A node of a glob. Where trying takes long, the long groups of its pattern are made ready for many nodes of
-/// paths; where it has none, what came of those that were tried is kept.
+/// paths; where it has none, what came of those that were tried is kept. What came of the last one is kept in both cases,
+/// since paths in byte order have a node many times in a row.
 #[derive(Drop)]
 pub(crate) struct NodeSearch<'a> {
     alloc: Global,
@@ -31,20 +32,24 @@ pub(crate) struct NodeSearch<'a> {
     work: HoldWork,
     groups: Option<Groups<'a>>,
     tried: HashMap<Vec<u8>, bool>,
+    last: Vec<u8>,
+    // what came of the last node, with `None` where there was none
+    last_covers: Option<bool>,
 }
 
 impl<'a> Model for NodeSearch<'a> {
     ghost use Rattle.std.specs.Prelude.{IfSome, List, ℕ};
     ghost use Rattle.path_glob.specs.Groups.{AreGroups};
     ghost use Rattle.path_glob.specs.Reading.{pieces_of};
-    ghost use Rattle.path_glob.specs.Search.{AreVerdicts};
+    ghost use Rattle.path_glob.specs.Search.{AreVerdicts, IsVerdict};
 
     ghost Value = { List ℕ };
 
     ghost view = { λ s. s.pieces.now };
 
     ghost invariant = { λ s. AreVerdicts s.pieces.now s.tried.entries
-        × IfSome s.groups (λ groups. AreGroups groups (pieces_of s.pieces.now)) };
+        × (IfSome s.groups (λ groups. AreGroups groups (pieces_of s.pieces.now))
+        × IfSome s.last_covers (λ covers. IsVerdict s.pieces.now s.last.items covers)) };
 }
 
 impl<'a> NodeSearch<'a> {
@@ -62,6 +67,8 @@ impl<'a> NodeSearch<'a> {
             work: HoldWork::of_node(pieces),
             groups: None,
             tried: HashMap::new(alloc),
+            last: Vec::new(alloc),
+            last_covers: None,
         }
     }
 
@@ -78,14 +85,53 @@ impl<'a> NodeSearch<'a> {
         ensures spends { OnOk result (work.new.left + 4 ≤ work.old.left) }
     {
         work.spend(work_of(node))?;
+        if !self.is_long && !self.is_kept {
+            return self.hold(work, node);
+        }
+        work.spend(TRIED_WORK)?;
+        if let Some(covers) = self.covers_again(node) {
+            return Ok(covers);
+        }
+        let covers = self.covers_next(work, node)?;
+        self.keep_last(node, covers)?;
+        Ok(covers)
+    }
+
+    // What came of the last node, if it is this one.
+    fn covers_again(&self, node: &[u8]) -> Option<bool>
+        ensures { IfSome result (λ covers. IsTrue covers
+            ↔ NodeCovers (pieces_of self.now) node.now) }
+    {
+        if self.last.as_slice() == node {
+            return self.last_covers;
+        }
+        None
+    }
+
+    // This came of a node, which is the last one now.
+    fn keep_last(&mut self, node: &[u8], covers: bool) -> Result<(), AllocError>
+        requires { IsTrue covers ↔ NodeCovers (pieces_of self.old) node.now }
+        ensures { self.new ≡ self.old }
+    {
+        self.last_covers = None;
+        self.last.clear();
+        self.last.extend_from_slice(node)?;
+        self.last_covers = Some(covers);
+        Ok(())
+    }
+
+    // Whether the pieces cover another node than the last one.
+    fn covers_next(&mut self, work: &mut Work, node: &[u8]) -> Result<bool, AllocError>
+        requires { length node.now ≤ 240 }
+        ensures covers { IfOk result (λ covers. IsTrue covers
+            ↔ NodeCovers (pieces_of self.old) node.now) }
+        ensures same { self.new ≡ self.old }
+        ensures falls { work.new.left ≤ work.old.left }
+    {
         if self.is_long {
             self.make_ready(work)?;
             return self.hold_groups(work, node);
         }
-        if !self.is_kept {
-            return self.hold(work, node);
-        }
-        work.spend(TRIED_WORK)?;
         if let Some(covers) = self.tried.get(node) {
             return Ok(*covers);
         }

@@ -1,8 +1,8 @@
 //! The verbs of the cases.
 
 use crate::{
-    answers, choices, combining, grids, groups, plans, read_json, refusals, shapes, slow_json,
-    texts, values,
+    answers, choices, combining, grids, groups, pickles, plans, read_json, refusals, shapes,
+    slow_json, texts, values,
 };
 use case_lines::{Calls, Case, CaseFault, Told};
 use std::alloc::Global;
@@ -35,6 +35,9 @@ fn tell_case(alloc: Global, told: &mut Told, case: &Case) {
         "regroup" => groups::tell_groups(alloc, told, case),
         "choose" => choices::tell_choice(alloc, told, case),
         "json" | "raw" | "csv" => texts::tell(alloc, told, case),
+        "pickle" => pickles::tell_pickle(alloc, told, case),
+        "found" => pickles::tell_found(alloc, told, case),
+        "double" => pickles::tell_double(told, case),
         "slow-json" => slow_json::tell_sweep(alloc, told, case),
         "read-json" => read_json::tell_read(alloc, told, case),
         _ => told.malformed(),

@@ -11,6 +11,7 @@ mod early;
 mod grids;
 mod groups;
 mod notation;
+mod pickles;
 mod plans;
 mod read_json;
 mod refusals;

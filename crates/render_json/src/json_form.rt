@@ -3,9 +3,12 @@ ghost use Rattle.std.specs.Prelude.{◌≡◌, ◌+◌, ◌-◌, ◌*◌, ◌/�
 ghost use Rattle.json.specs.Print.{quoted};
 ghost use Rattle.render_json.specs.Json.{datapoints_text, json_of, null_text, point_text, points_text, no_text, series_json, target_text, time_tail};
 ghost use Rattle.render_json.specs.Values.{joined, separator, value_or};
+ghost use Rattle.series_set.specs.OnGrid.{points_from};
+ghost use Rattle.series_set.specs.Series.{latest_end};
 
 use crate::backward::{put, put_number, set_pair};
 use crate::parts::{number_room, push_separator, put_value_or, values_room};
+use crate::remaining::Remaining;
 use fixed_num::Milli;
 use serde_json::Value;
 use series_set::{Allowance, Series, SeriesSet, Size};
@@ -20,7 +23,7 @@ const TEXT_ROOM: usize = 128;
 /// Series as JSON: a list of objects with the `target`, which is the series' name, and the `datapoints`,
 /// each `[value, time]` with `null` for a missing value and the time in seconds since the Unix epoch.
 /// Where there are no series it is `[]`; a series without values has the datapoints `[]`. A text for which there is no room is want of memory.
-/// Each series goes as soon as its text stands.
+/// Each series goes as soon as its text stands, and the values of a long one piece by piece.
 pub fn json_text(alloc: Global, set: SeriesSet, room: &Allowance) -> Result<Vec<u8>, AllocError>
     ensures { IfOk result (λ text. text.items ≡ json_of set) }
 {
@@ -60,19 +63,27 @@ fn push_list(alloc: Global, out: &mut Vec<u8>, set: SeriesSet) -> Result<(), All
     for series in set.into_vec() {
         push_separator(out, b", ", is_first)?;
         is_first = false;
-        push_series(alloc, out, &series)?;
+        push_series(alloc, out, series)?;
     }
     Ok(())
 }
 
-fn push_series(alloc: Global, out: &mut Vec<u8>, series: &Series) -> Result<(), AllocError>
-    ensures { OnOk result (out.new.items ≡ out.old.items ++ series_json series.now) }
+fn push_series(alloc: Global, out: &mut Vec<u8>, series: Series) -> Result<(), AllocError>
+    ensures { OnOk result (out.new.items ≡ out.old.items ++ series_json series) }
 {
-    push_target(out)?;
-    push_quoted(alloc, out, series.name())?;
-    push_datapoints(out)?;
+    push_head(alloc, out, series.name())?;
     push_points(out, series)?;
     out.extend_from_slice(b"]}")
+}
+
+// What stands before the points of a series with this name.
+fn push_head(alloc: Global, out: &mut Vec<u8>, name: &str) -> Result<(), AllocError>
+    ensures { OnOk result
+        (out.new.items ≡ out.old.items ++ (target_text ++ (quoted name.now ++ datapoints_text))) }
+{
+    push_target(out)?;
+    push_quoted(alloc, out, name)?;
+    push_datapoints(out)
 }
 
 #[tactic(auto, unfolding(crate::specs::Json::target_text))]
@@ -98,18 +109,35 @@ fn push_datapoints(out: &mut Vec<u8>) -> Result<(), AllocError>
 }
 
 // The points with `, ` between each two.
-fn push_points(out: &mut Vec<u8>, series: &Series) -> Result<(), AllocError>
-    ensures { OnOk result (out.new.items ≡ out.old.items ++ points_text series.now) }
+fn push_points(out: &mut Vec<u8>, series: Series) -> Result<(), AllocError>
+    ensures { OnOk result (out.new.items ≡ out.old.items ++ points_text series) }
+{
+    let mut series = series;
+    let (start, step) = (series.start(), series.step());
+    let mut values = Remaining::new(series.take_values());
+    push_remaining(out, start, step, &mut values)
+}
+
+// The points of these values, each a step behind the one before.
+fn push_remaining(
+    out: &mut Vec<u8>,
+    start: u64,
+    step: u64,
+    values: &mut Remaining,
+) -> Result<(), AllocError>
+    requires early { start + length values.old * step ≤ latest_end }
+    ensures { OnOk result (out.new.items
+        ≡ out.old.items ++ joined (codes ", ") (map point_text (points_from start step values.old))) }
 {
     let mut text = empty_text();
     let mut is_first = true;
-    let mut time = series.start();
+    let mut time = start;
     let mut base = time - time % 10_000;
     let mut end = put_time(&mut text, time);
-    for value in series.values() {
+    while let Some(value) = values.next() {
         push_point(out, &mut text, end, time, value.get(), is_first)?;
         is_first = false;
-        let next = time + series.step();
+        let next = time + step;
         let tail = put_next_time(&mut text, end, time, base, next);
         end = tail.end;
         base = tail.base;

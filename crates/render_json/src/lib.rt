@@ -6,6 +6,7 @@ mod csv_form;
 mod json_form;
 mod parts;
 mod raw_form;
+mod remaining;
 
 pub use csv_form::{LATEST_CSV_END, csv_text};
 pub use json_form::json_text;

@@ -28,10 +28,10 @@ const ROWS: [Row; 16] = [
     (LONG, 148, b"xd", true, 2),
     (LONG, 184, b"xd", true, 3),
     (LONG, 184, b"xe", false, 3),
-    (LONGER, 9925, b"xd", true, 0),
-    (LONGER, 9926, b"xd", true, 1),
-    (LONGER, 9938, b"xd", true, 3),
-    (LONGER, 9938, b"xe", false, 3),
+    (LONGER, 9957, b"xd", true, 0),
+    (LONGER, 9958, b"xd", true, 1),
+    (LONGER, 10_030, b"xd", true, 3),
+    (LONGER, 10_030, b"xe", false, 3),
 ];
 
 fn count_answered(search: &mut GlobSearch<'_>, work: u64, path: &MetricPath, fits: bool) -> u32 {

@@ -66,7 +66,7 @@ pub(crate) fn combined_series(
 {
     let grid = common_grid(set)?;
     room.bear(Size::of_values(grid.value_count()))?;
-    room.spend(work::of_combining(set.as_slice(), &grid, grid.value_count()))?;
+    room.spend(work::of_combining(kind, set.as_slice(), &grid, grid.value_count()))?;
     let series = combined_on(alloc, kind, set, name, path, &grid)?;
     room.take(series.size())?;
     Ok(series)

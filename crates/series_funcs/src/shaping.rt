@@ -164,7 +164,7 @@ fn shaped_series(
 {
     let name = call_text(alloc, call.function, series.name(), call.tail)?;
     room.take_name(name.len(), series.name().len())?;
-    room.spend(work::of_shape(kind, series.values().len() as u64))?;
+    room.spend(work::of_shape(kind, series.values()))?;
     let step = series.step();
     let values = shaped_values(alloc, kind, step, series.take_values(), room)?;
     Ok(series.with_values(values).renamed(name))

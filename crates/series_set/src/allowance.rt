@@ -68,14 +68,14 @@ pub struct Allowance {
 // The part of the bytes that is for names.
 const NAMES_PART: u64 = 16;
 
-/// How much may be done for one question: about a second of a processor. One is a nanosecond or two.
-pub const MOST_WORK: u64 = 500_000_000;
+/// How much may be done for one question: at most about a second of a processor. One is mostly a nanosecond, and two and a half at worst.
+pub const MOST_WORK: u64 = 400_000_000;
 
 impl Allowance {
     /// So many bytes, of which a sixteenth is for names, and [`MOST_WORK`].
     pub fn new(bytes: u64) -> Allowance
         ensures left { result.left ≡ shares_of bytes }
-        ensures work { result.work ≡ 500_000_000 }
+        ensures work { result.work ≡ 400_000_000 }
     {
         Allowance::with_work(bytes, MOST_WORK)
     }

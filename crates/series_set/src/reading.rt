@@ -38,6 +38,9 @@ impl Model for Reading {
 // The high half of a missing one.
 const MISSING: u64 = 1 << 63;
 
+// How many values are taken before their memory is given back.
+const PIECE: usize = 65_536;
+
 // A half is counted in so many.
 const HALF: u128 = 18_446_744_073_709_551_616;
 
@@ -105,14 +108,19 @@ pub fn flattened(found: Option<Reading>) -> Option<Milli>
     value.get()
 }
 
-/// Values that may be missing, in the same order.
-pub fn readings(alloc: Global, values: &[Option<Milli>]) -> Result<Vec<Reading>, AllocError>
-    ensures { IfOk result (λ readings. readings.items ≡ values.now) }
+/// Values that may be missing, in the same order. Where they are many, those that were taken leave their memory in pieces.
+pub fn readings(alloc: Global, values: Vec<Option<Milli>>) -> Result<Vec<Reading>, AllocError>
+    ensures { IfOk result (λ readings. readings.items ≡ values.items) }
 {
+    let mut values = values;
     let mut readings = Vec::with_capacity(alloc, values.len())?;
-    for value in values {
-        readings.push(Reading::of(*value))?;
+    while let Some(value) = values.pop() {
+        readings.push(Reading::of(value))?;
+        if values.len() % PIECE == 0 {
+            values.shrink_to_fit();
+        }
     }
+    readings.reverse();
     Ok(readings)
 }
 

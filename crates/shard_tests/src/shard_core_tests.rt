@@ -7,6 +7,7 @@ use crate::shard_kit::{SOUND, file_of, read_rules};
 use drain_order::Strategy;
 use fixed_num::{Milli, milli_of};
 use metric_line::{Datum, read_line};
+use metric_path::MetricPath;
 use outside_io::{Disk, MemDisk};
 use path_glob::Glob;
 use point_cache::Put;
@@ -91,16 +92,19 @@ fn shard_logged(alloc: Global, disk: MemDisk, schemas: &[u8]) -> Result<Shard<Me
 
 // ---- what is done
 
-fn put<D: Disk>(shard: &mut Shard<D>, datum: &Datum) -> Result<Put, Fail> {
+// Whether the metric is of the class, and its put ends so.
+fn put<D: Disk>(shard: &mut Shard<D>, datum: &Datum, end: Put) -> bool {
     if datum.path.class() != shard.class() {
-        return Err(Fail::new("the metric is of the class"));
+        return false;
     }
-    Ok(shard.put(datum))
+    shard.put(datum) == end
 }
 
-fn puts<D: Disk>(alloc: Global, shard: &mut Shard<D>, line: &[u8], end: Put) -> Result<bool, Fail> {
-    let datum = read_line(alloc, line, START)?;
-    Ok(put(shard, &datum)? == end)
+fn puts<D: Disk>(alloc: Global, shard: &mut Shard<D>, line: &[u8], end: Put) -> bool {
+    match read_line(alloc, line, START) {
+        Ok(datum) => put(shard, &datum, end),
+        Err(_fault) => false,
+    }
 }
 
 fn has_end(planned: &Planned, end: &str) -> bool {
@@ -117,16 +121,24 @@ fn plans<D: Disk>(shard: &mut Shard<D>, now: u32, end: &str) -> bool {
     has_end(&shard.plan(now), end)
 }
 
-fn are_names<D: Disk>(shard: &Shard<D>, paths: &[&'static str]) -> Result<bool, Fail> {
-    let names = shard.names()?;
-    Ok(
-        names.len() == paths.len()
-            && names
-                .iter()
-                .zip(paths.iter())
-                .all(|(name, path)| name.as_str() == *path),
-    )
+fn has_names<D: Disk>(shard: &Shard<D>, paths: &[&'static str]) -> bool {
+    match shard.names() {
+        Ok(names) => are_names(names.as_slice(), paths),
+        Err(_fault) => false,
+    }
 }
+
+fn are_names(names: &[MetricPath], paths: &[&'static str]) -> bool {
+    names.len() == paths.len()
+        && names
+            .iter()
+            .zip(paths.iter())
+            .all(|(name, path)| name.as_str() == *path)
+}
+
+// Nothing could be looked at: no test of this kind wants that.
+#[derive(Clone, Copy)]
+struct NotLooked;
 
 // What a glob finds in a question from a moment until another, asked at `NOW`.
 fn look<D: Disk>(
@@ -135,17 +147,22 @@ fn look<D: Disk>(
     glob: &[u8],
     from: u32,
     until: u32,
-) -> Result<Vec<Looked>, Fail>
+) -> Result<Vec<Looked>, NotLooked>
     ensures { IfOk result (λ looked. All (MayRead (inside_of shard.now)) looked.items) }
 {
-    let glob = Glob::new(alloc, glob)?;
+    let Ok(glob) = Glob::new(alloc, glob) else {
+        return Err(NotLooked);
+    };
     let until = u64::from(until);
-    Ok(shard.look(
+    match shard.look(
         &Verdicts::none(alloc, &glob),
         until.min(u64::from(from)),
         until,
         u64::from(NOW),
-    )?)
+    ) {
+        Ok(looked) => Ok(looked),
+        Err(_fault) => Err(NotLooked),
+    }
 }
 
 fn are_found(looked: &[Looked], paths: &[&'static str]) -> bool {
@@ -163,26 +180,30 @@ fn finds<D: Disk>(
     from: u32,
     until: u32,
     paths: &[&'static str],
-) -> Result<bool, Fail> {
-    let looked = look(alloc, shard, glob, from, until)?;
-    Ok(are_found(looked.as_slice(), paths))
+) -> bool {
+    match look(alloc, shard, glob, from, until) {
+        Ok(looked) => are_found(looked.as_slice(), paths),
+        Err(_fault) => false,
+    }
 }
 
-// The values of the first metric that a glob finds.
+// Whether the first metric that a glob finds has these values.
 fn shows<D: Disk>(
     alloc: Global,
     shard: &mut Shard<D>,
     glob: &[u8],
     from: u32,
     values: &[Option<i64>],
-) -> Result<bool, Fail> {
-    let looked = look(alloc, shard, glob, from, NOW)?;
+) -> bool {
+    let Ok(looked) = look(alloc, shard, glob, from, NOW) else {
+        return false;
+    };
     let Some(one) = looked.first() else {
-        return Err(Fail::new("the metric is found"));
+        return false;
     };
     match shard.read(one) {
-        Ok(read) => Ok(are_values(read.list(), values)),
-        Err(_fault) => Err(Fail::new("the metric is read")),
+        Ok(read) => are_values(read.list(), values),
+        Err(_fault) => false,
     }
 }
 
@@ -194,10 +215,14 @@ fn are_values(values: &[Option<Milli>], thousandths: &[Option<i64>]) -> bool {
 }
 
 // What a read tells of the drains of a metric, where one is planned since it was looked at.
-fn moved<D: Disk>(alloc: Global, shard: &mut Shard<D>, glob: &[u8]) -> Result<Option<u64>, Fail> {
+fn moved<D: Disk>(
+    alloc: Global,
+    shard: &mut Shard<D>,
+    glob: &[u8],
+) -> Result<Option<u64>, NotLooked> {
     let looked = look(alloc, shard, glob, START, NOW)?;
     let Some(one) = looked.first() else {
-        return Err(Fail::new("the metric is found"));
+        return Err(NotLooked);
     };
     let _ = shard.plan(NOW);
     match shard.read(one) {
@@ -206,29 +231,37 @@ fn moved<D: Disk>(alloc: Global, shard: &mut Shard<D>, glob: &[u8]) -> Result<Op
     }
 }
 
-// Whether what comes of an act is what is to come.
-fn obey<D: Disk>(alloc: Global, shard: &mut Shard<D>, act: Act<'_>) -> Result<bool, Fail> {
-    match act {
-        Act::Put(line, end) => puts(alloc, shard, line, end),
-        Act::Plan(now, end) => Ok(plans(shard, now, end)),
-        Act::Write(end) => Ok(shard.write_next() == end),
-        Act::Names(paths) => are_names(shard, paths),
-        Act::Found(glob, from, until, paths) => finds(alloc, shard, glob, from, until, paths),
-        Act::Shown(glob, from, values) => shows(alloc, shard, glob, from, values),
-        Act::Moved(glob, drains) => Ok(moved(alloc, shard, glob)? == drains),
+fn are_drains(told: Result<Option<u64>, NotLooked>, drains: Option<u64>) -> bool {
+    match told {
+        Ok(told) => told == drains,
+        Err(_fault) => false,
     }
 }
 
-fn assert_all<D: Disk>(
-    rt: &impl Abort,
-    alloc: Global,
-    shard: &mut Shard<D>,
-    acts: &[Act<'_>],
-) -> Result<(), Fail> {
-    for (n, act) in acts.iter().enumerate() {
-        assert!(rt; obey(alloc, shard, *act)?, "act {n}");
+// Whether what comes of an act is what is to come.
+fn obey<D: Disk>(alloc: Global, shard: &mut Shard<D>, act: Act<'_>) -> bool {
+    match act {
+        Act::Put(line, end) => puts(alloc, shard, line, end),
+        Act::Plan(now, end) => plans(shard, now, end),
+        Act::Write(end) => shard.write_next() == end,
+        Act::Names(paths) => has_names(shard, paths),
+        Act::Found(glob, from, until, paths) => finds(alloc, shard, glob, from, until, paths),
+        Act::Shown(glob, from, values) => shows(alloc, shard, glob, from, values),
+        Act::Moved(glob, drains) => are_drains(moved(alloc, shard, glob), drains),
     }
-    Ok(())
+}
+
+fn assert_all<D: Disk>(rt: &impl Abort, alloc: Global, shard: &mut Shard<D>, acts: &[Act<'_>]) {
+    for (n, act) in acts.iter().enumerate() {
+        assert!(rt; obey(alloc, shard, *act), "act {n}");
+    }
+}
+
+// The same over a shard that is given, which is given back.
+fn assert_done(rt: &impl Abort, alloc: Global, shard: Shard<MemDisk>, acts: &[Act<'_>]) {
+    let mut shard = shard;
+    assert_all(rt, alloc, &mut shard, acts);
+    let _ = shard.finish();
 }
 
 // ---- drains
@@ -300,7 +333,7 @@ fn write_all<D: Disk>(
     let mut runs = 0u32;
     let mut faults = 0u32;
     for _ in 0..20u32 {
-        assert_all(rt, alloc, shard, asks)?;
+        assert_all(rt, alloc, shard, asks);
         match shard.write_next() {
             Wrote::Run | Wrote::Finished => runs = runs.saturating_add(1),
             Wrote::DiskFault => faults = faults.saturating_add(1),
@@ -316,11 +349,25 @@ fn drain_over(
     shard: &mut Shard<MemDisk>,
     drain: &Drain<'_>,
 ) -> Result<(u32, u32), Fail> {
-    assert_all(rt, alloc, shard, drain.before)?;
-    assert_all(rt, alloc, shard, &FIVE)?;
-    assert_all(rt, alloc, shard, drain.asks)?;
-    assert_all(rt, alloc, shard, &[Act::Plan(NOW, "a.b")])?;
+    assert_all(rt, alloc, shard, drain.before);
+    assert_all(rt, alloc, shard, &FIVE);
+    assert_all(rt, alloc, shard, drain.asks);
+    assert_all(rt, alloc, shard, &[Act::Plan(NOW, "a.b")]);
     write_all(rt, alloc, shard, drain.asks)
+}
+
+// The same over a shard that is given, which is given back, since one that is dropped costs a
+// proof three times as much.
+fn drain_whole(
+    rt: &impl Abort,
+    alloc: Global,
+    shard: Shard<MemDisk>,
+    drain: &Drain<'_>,
+) -> Result<(u32, u32), Fail> {
+    let mut shard = shard;
+    let ends = drain_over(rt, alloc, &mut shard, drain);
+    let _ = shard.finish();
+    ends
 }
 
 fn torn(disk: MemDisk, is_torn: bool) -> MemDisk {
@@ -345,8 +392,8 @@ fn drain_failing(
     is_torn: bool,
 ) -> Result<(u32, u32), Fail> {
     let disk = failing_disk(alloc, drain.first.saturating_add(run), is_torn)?;
-    let mut shard = shard_over(alloc, disk, drain.schemas, 100, Strategy::Naive)?;
-    drain_over(rt, alloc, &mut shard, drain)
+    let shard = shard_over(alloc, disk, drain.schemas, 100, Strategy::Naive)?;
+    drain_whole(rt, alloc, shard, drain)
 }
 
 // A run that fails comes again. Behind the last run no call fails.
@@ -442,8 +489,8 @@ fn steps_failing(
     is_torn: bool,
 ) -> Result<(u32, u32), Fail> {
     let disk = failing_disk(alloc, step.saturating_add(5), is_torn)?;
-    let mut shard = shard_logged(alloc, disk, drain.schemas)?;
-    drain_over(rt, alloc, &mut shard, drain)
+    let shard = shard_logged(alloc, disk, drain.schemas)?;
+    drain_whole(rt, alloc, shard, drain)
 }
 
 fn assert_each_step(
@@ -473,25 +520,24 @@ fn a_metric_shows_the_same_between_any_two_steps_of_the_log(rt: HostRuntime) -> 
 }
 
 // So many steps of a drain of the five minutes.
-fn take_steps(
-    rt: &impl Abort,
-    alloc: Global,
-    shard: &mut Shard<MemDisk>,
-    steps: u32,
-) -> Result<(), Fail> {
-    assert_all(rt, alloc, shard, &FIVE)?;
-    assert_all(rt, alloc, shard, &[Act::Plan(NOW, "a.b")])?;
+fn take_steps(rt: &impl Abort, alloc: Global, shard: &mut Shard<MemDisk>, steps: u32) {
+    assert_all(rt, alloc, shard, &FIVE);
+    assert_all(rt, alloc, shard, &[Act::Plan(NOW, "a.b")]);
     for _ in 0..steps {
         let _ = shard.write_next();
     }
-    Ok(())
 }
 
 // The disk of a shard that was stopped behind so many steps of a drain.
 fn stopped_disk(rt: &impl Abort, alloc: Global, steps: u32) -> Result<MemDisk, Fail> {
-    let mut shard = shard_logged(alloc, MemDisk::new(alloc, 10_000), ONE)?;
-    take_steps(rt, alloc, &mut shard, steps)?;
-    Ok(shard.finish())
+    let shard = shard_logged(alloc, MemDisk::new(alloc, 10_000), ONE)?;
+    Ok(disk_behind(rt, alloc, shard, steps))
+}
+
+fn disk_behind(rt: &impl Abort, alloc: Global, shard: Shard<MemDisk>, steps: u32) -> MemDisk {
+    let mut shard = shard;
+    take_steps(rt, alloc, &mut shard, steps);
+    shard.finish()
 }
 
 // What is kept where the gate was open, which it is behind the fourth step.
@@ -499,22 +545,16 @@ static LAID: [Act<'static>; 2] = [Act::Names(&["a.b"]), FINE];
 
 static NOTHING_LAID: [Act<'static>; 1] = [Act::Names(&[])];
 
-fn assert_laid(
-    rt: &impl Abort,
-    alloc: Global,
-    shard: &mut Shard<MemDisk>,
-    steps: u32,
-) -> Result<(), Fail> {
-    if steps < 4 {
-        return assert_all(rt, alloc, shard, &NOTHING_LAID);
-    }
-    assert_all(rt, alloc, shard, &LAID)
-}
-
 fn assert_stopped(rt: &impl Abort, alloc: Global, steps: u32) -> Result<(), Fail> {
     let disk = stopped_disk(rt, alloc, steps)?;
-    let mut shard = shard_over(alloc, disk, ONE, 100, Strategy::Naive)?;
-    assert_laid(rt, alloc, &mut shard, steps)
+    let shard = shard_over(alloc, disk, ONE, 100, Strategy::Naive)?;
+    let acts = if steps < 4 {
+        NOTHING_LAID.as_slice()
+    } else {
+        LAID.as_slice()
+    };
+    assert_done(rt, alloc, shard, acts);
+    Ok(())
 }
 
 // A drain that was stopped is laid whole at the next start, once its gate was open, and is as if it
@@ -545,13 +585,12 @@ static CALLS: [[u64; 3]; 12] = [
     [4, 5, 6],
 ];
 
-fn assert_calls(rt: &impl Abort, disk: &MemDisk, steps: u32, want: &[u64; 3]) -> Result<(), Fail> {
+fn assert_calls(rt: &impl Abort, disk: &MemDisk, steps: u32, want: &[u64; 3]) {
     let calls = disk.calls();
     assert!(rt;
         calls.creates == want[0] && calls.writes == want[1] && calls.syncs == want[2],
         "behind {steps} steps"
     );
-    Ok(())
 }
 
 #[test]
@@ -559,7 +598,7 @@ fn each_step_of_the_log_is_one_call(rt: HostRuntime) -> Result<(), Fail> {
     let mut steps = 0u32;
     for want in CALLS.iter() {
         let disk = stopped_disk(&rt, rt.alloc(), steps)?;
-        assert_calls(&rt, &disk, steps, want)?;
+        assert_calls(&rt, &disk, steps, want);
         steps = steps.saturating_add(1);
     }
     Ok(())
@@ -568,20 +607,19 @@ fn each_step_of_the_log_is_one_call(rt: HostRuntime) -> Result<(), Fail> {
 static MINUTE_ASKED: [Act<'static>; 1] = [FINE];
 
 // A drain of one more point: how many steps are taken, and how many fail.
-fn drain_again(
-    rt: &impl Abort,
-    alloc: Global,
-    shard: &mut Shard<MemDisk>,
-) -> Result<(u32, u32), Fail> {
-    assert_all(rt, alloc, shard, &LAID)?;
-    assert_all(rt, alloc, shard, &[B_5, Act::Plan(NOW, "a.b")])?;
-    write_all(rt, alloc, shard, &MINUTE_ASKED)
+fn drain_again(rt: &impl Abort, alloc: Global, shard: Shard<MemDisk>) -> Result<(u32, u32), Fail> {
+    let mut shard = shard;
+    assert_all(rt, alloc, &mut shard, &LAID);
+    assert_all(rt, alloc, &mut shard, &[B_5, Act::Plan(NOW, "a.b")]);
+    let ends = write_all(rt, alloc, &mut shard, &MINUTE_ASKED);
+    let _ = shard.finish();
+    ends
 }
 
 fn second_drain(rt: &impl Abort, alloc: Global) -> Result<(u32, u32), Fail> {
     let disk = stopped_disk(rt, alloc, 11)?;
-    let mut shard = shard_logged(alloc, disk, ONE)?;
-    drain_again(rt, alloc, &mut shard)
+    let shard = shard_logged(alloc, disk, ONE)?;
+    drain_again(rt, alloc, shard)
 }
 
 // The log of the last drain is made anew by the next.
@@ -604,8 +642,9 @@ struct Case<'a> {
 }
 
 fn assert_case(rt: &impl Abort, alloc: Global, disk: MemDisk, case: &Case<'_>) -> Result<(), Fail> {
-    let mut shard = shard_over(alloc, disk, case.schemas, case.limit, case.strategy)?;
-    assert_all(rt, alloc, &mut shard, case.acts)
+    let shard = shard_over(alloc, disk, case.schemas, case.limit, case.strategy)?;
+    assert_done(rt, alloc, shard, case.acts);
+    Ok(())
 }
 
 // The same over a disk without files, of which one reading call fails, if it comes so far.
@@ -737,9 +776,11 @@ fn pending_metrics_are_found(rt: HostRuntime) -> Result<(), Fail> {
 
 // A disk with an empty ring file of `a.b`, of ten minutes by minutes, and a zero file of `a.r`.
 fn disk_with_two(alloc: Global) -> Result<MemDisk, AllocError> {
+    let sound = file_of(alloc, SOUND, 148)?;
+    let zeros = file_of(alloc, &[], 28)?;
     let mut disk = MemDisk::new(alloc, 1_000);
-    disk.put_file("a/b.ring", file_of(alloc, SOUND, 148)?)?;
-    disk.put_file("a/r.ring", file_of(alloc, &[], 28)?)?;
+    disk.put_file("a/b.ring", sound)?;
+    disk.put_file("a/r.ring", zeros)?;
     Ok(disk)
 }
 

@@ -179,9 +179,19 @@ fn assert_found(
     shards: &[Shard<MemDisk>],
 ) -> Result<(), AllocError> {
     for (class, shard) in (0..CLASSES).zip(shards.iter()) {
-        let found = paths_in(alloc, shard)?;
-        assert!(rt; found.as_slice() == found_in(class), "{class}");
+        assert_found_in(rt, alloc, class, shard)?;
     }
+    Ok(())
+}
+
+fn assert_found_in(
+    rt: &impl Abort,
+    alloc: Global,
+    class: u32,
+    shard: &Shard<MemDisk>,
+) -> Result<(), AllocError> {
+    let found = paths_in(alloc, shard)?;
+    assert!(rt; found.as_slice() == found_in(class), "{class}");
     Ok(())
 }
 

@@ -3,6 +3,7 @@ use Rattle.std.proofs.Common.{◌≡◌, ◌≢◌, ◌⊎◌, inl, inr, ◌∙�
 use Rattle.std.specs.Prelude.{filter, Result, Ok, Err}
 use Rattle.std.proofs.lemmas.List.{append-nil, append_cancel_left, append_cancel_right}
 use Rattle.std.proofs.lemmas.List.Elements.{filter-append}
+use Rattle.std.proofs.lemmas.Bool.{cases_order}
 use Rattle.std.proofs.lemmas.Bool.Decides.{eqb_tells, nat_tests}
 use mathlib.Core.List.{IsPrefix}
 use Rattle.metric_path.specs.Class.{class_of}
@@ -21,7 +22,7 @@ use Rattle.shared_store.specs.declared.drain_end.Stop.TheVariants as stop
 use Rattle.shared_store.specs.declared.drain_end.DrainEnd.TheVariants as done
 use Rattle.shared_store.specs.Passes.{Enters, HasRoom, IsNoLess, IsSettled, IsUnderWay, LooksAgain, LooksOn, SameLooks, planned_in, settled_in}
 use Rattle.shared_store.specs.Steps.{FailedPlan, NeedsNoWrite, TookMetric, WasIdle}
-use Rattle.shared_store.specs.Drains.{AreDrainsOf, DrainsFailing, DrainsHere, DrainsNext, DrainsOne, DrainsPart, DrainsPartly, DrainsTo, DrainsToFault, EndsUnwritten, FailedRun, HasPlanned, IsOwed, IsWhole, LooksIn, RiseWithin, StoodAlone, StopsIn, StopsWriting, WritesTo, WritesWhole, end_of}
+use Rattle.shared_store.specs.Drains.{AreDrainsOf, DrainsFailing, DrainsFew, DrainsHere, DrainsNext, DrainsOne, DrainsPart, DrainsPartly, DrainsTo, DrainsToFault, EndsUnwritten, FailedRun, HasPlanned, IsOwed, IsWhole, LooksIn, RiseWithin, StoodAlone, StopsIn, StopsWriting, WritesTo, WritesWhole, drained_in, end_of}
 use Rattle.shared_store.proofs.LookLemmas.{prefix_both}
 
 -- ---- looks
@@ -209,6 +210,118 @@ none_owed planned settled all is even lt = omega (arith, is, even, lt)
 
 room_kept : (old new : PassValue) → Leads [] old new → HasRoom old → HasRoom new
 room_kept old new leads room = subst (λ (l : List Entry). length l + 4 ≤ 2 ^ 48) (sym (leads.once ∙ append-nil (own_entries old))) room
+
+-- a list of no elements
+no_more : {A : Type 0} (xs : List A) → length xs ≡ 0 → xs ≡ []
+no_more [] none = refl
+no_more (x ∷ xs) none = absurd (omega (arith, none))
+
+-- ---- how many metrics of a class were drained
+
+-- a pass that made entries drained those among them
+drained_more : (class : ℕ) (made : List Entry) (old new : PassValue) → Leads made old new → drained_in class new ≡ drained_in class old + drains (about_class class made)
+drained_more class made old new leads =
+    let own : List Entry = about_class class (own_entries old) in
+    ap (λ (l : List Entry). drains (about_class class l)) leads.once
+    ∙ (ap drains (filter-append (is_about class) (own_entries old) made)
+    ∙ (ap length (filter-append is_drain own (about_class class made)) ∙ length-append (filter is_drain own) (filter is_drain (about_class class made))))
+
+plus_none : (n : ℕ) (xs : List Entry) → filter is_drain xs ≡ [] → n + drains xs ≡ n
+plus_none n xs none = subst (λ (l : List Entry). n + length l ≡ n) (sym none) (omega arith)
+
+-- those of no other class, and no fault of a disk
+drained_apart : (class : ℕ) (made : List Entry) (old new : PassValue) → Leads made old new → about_class class made ≡ [] → drained_in class new ≡ drained_in class old
+drained_apart class made old new leads none =
+    drained_more class made old new leads ∙ plus_none (drained_in class old) (about_class class made) (ap (filter is_drain) none)
+
+drained_fault : (class k pass : ℕ) (old new : PassValue) → Leads (entry.Fault pass class ∷ []) old new → drained_in k new ≡ drained_in k old
+drained_fault class k pass old new leads =
+    drained_more k (entry.Fault pass class ∷ []) old new leads ∙ plus_none (drained_in k old) (about_class k (entry.Fault pass class ∷ [])) (fault_none pass class k)
+
+one_entry : (class : ℕ) (e : Entry) → drains (about_class class (e ∷ [])) ≤ 1
+one_entry class e = by (is_about class e)
+  where
+    only : (b : Bool) → length (cond b (e ∷ []) []) ≤ 1
+    only true = omega arith
+    only false = omega arith
+
+    by : (b : Bool) → length (filter is_drain (cond b (e ∷ []) [])) ≤ 1
+    by true = only (is_drain e)
+    by false = omega arith
+
+-- a pass has seen more
+pub record Follows (old new : PassValue) : Type 0 where
+  pub number : new.number ≡ old.number
+  pub begins : IsPrefix old.seen new.seen
+
+-- one number is below another, or not
+ltb_or : (k n : ℕ) → (k < n) ⊎ (n ≤ k)
+ltb_or k n = elim (cases_order k n) [
+  | inl same ↦ inr (omega (arith, same))
+  | inr differs ↦ elim differs [
+    | inl below ↦ inl below
+    | inr above ↦ inr (omega (arith, above))
+  ]
+]
+
+-- Of a class so many metrics were drained at most, of those that were pending when the call came to it.
+pub record DrainsMost (start : State) (class most turns : ℕ) (old new : PassValue) : Type 0 where
+  pub came : List Entry
+  pub behind : IsPrefix old.seen came
+  pub begins : IsPrefix came new.seen
+  pub none : drains (about_class class (of_pass old.number came)) ≡ drained_in class old
+  pub count : most ≡ length ((replay start came).pending class)
+  pub few : drained_in class new ≤ drained_in class old + turns
+
+-- of the first classes no more were drained than were pending, and of the others none was
+pub record DrainsFewFirst (start : State) (count : ℕ) (old new : PassValue) : Type 0 where
+  pub few : (k : ℕ) → k < count → DrainsFew start k old new
+  pub none : (k : ℕ) → count ≤ k → drained_in k new ≡ drained_in k old
+
+module _ (start : State) where
+  pub most_more : (class most turns : ℕ) (old mid new : PassValue) → DrainsMost start class most turns old mid → IsPrefix mid.seen new.seen → drained_in class new ≤ drained_in class mid + 1
+      → DrainsMost start class most (turns + 1) old new
+  most_more class most turns old mid new first begins one = record {
+    came = first.came;
+    behind = first.behind;
+    begins = prefix_both first.came mid.seen new.seen first.begins begins;
+    none = first.none;
+    count = first.count;
+    few = omega (arith, first.few, one);
+  }
+
+  pub most_few : (class most turns : ℕ) (old new : PassValue) → turns ≤ most → DrainsMost start class most turns old new → DrainsFew start class old new
+  most_few class most turns old new within first = record {
+    came = first.came;
+    behind = first.behind;
+    begins = first.begins;
+    none = first.none;
+    few = omega (arith, first.few, first.count, within);
+  }
+
+  -- no metric of a class was drained
+  few_none : (k : ℕ) (old new : PassValue) → IsPrefix old.seen new.seen → drained_in k new ≡ drained_in k old → DrainsFew start k old new
+  few_none k old new begins same = record { came = old.seen; behind = prefix_self old.seen; begins = begins; none = refl; few = omega (arith, same) }
+
+  -- nor behind those that were
+  few_more : (k : ℕ) (old mid new : PassValue) → DrainsFew start k old mid → IsPrefix mid.seen new.seen → drained_in k new ≡ drained_in k mid → DrainsFew start k old new
+  few_more k old mid new first begins same = record {
+    came = first.came;
+    behind = first.behind;
+    begins = prefix_both first.came mid.seen new.seen first.begins begins;
+    none = first.none;
+    few = omega (arith, first.few, same);
+  }
+
+  -- nor before them
+  few_behind : (k : ℕ) (old mid new : PassValue) → IsPrefix old.seen mid.seen → mid.number ≡ old.number → drained_in k mid ≡ drained_in k old → DrainsFew start k mid new → DrainsFew start k old new
+  few_behind k old mid new begins number same next = record {
+    came = next.came;
+    behind = prefix_both old.seen mid.seen next.came begins next.behind;
+    begins = next.begins;
+    none = ap (λ (n : ℕ). drains (about_class k (of_pass n next.came))) (sym number) ∙ (next.none ∙ same);
+    few = omega (arith, next.few, same);
+  }
 
 -- ---- calls so far
 
@@ -538,19 +651,14 @@ module _ (start : State) (passes : ℕ) where
     room = next.room;
   }
 
-  -- one more than were pending, and so none where the call stood alone
-  pub here_last : (class now most turns : ℕ) (some : Bool) (old mid new : PassValue) → turns ≡ most → DrainsTurns start passes class now most turns old mid
-      → DrainsNext start passes class now (Ok some) mid new → DrainsHere start passes class now old new
-  here_last class now most turns true old mid new all first next = record {
-    part = part_both class now old mid new first.part next.part;
-    none = λ alone.
-        let parts = alone_parts first.part.made next.part.made old mid new (leads_of first.part.made old mid first.part.enters)
-        (leads_of next.part.made mid new next.part.enters) alone in
-        absurd (omega (arith, all, first.left parts.0, next.fewer parts.1));
-    whole = next.whole;
-    room = next.room;
+  -- as many as were pending, and so none is left where the call stood alone
+  pub here_all : (class now most turns : ℕ) (old new : PassValue) → most ≤ turns → DrainsTurns start passes class now most turns old new → DrainsHere start passes class now old new
+  here_all class now most turns old new all first = record {
+    part = first.part;
+    none = λ alone. no_more ((replay start new.seen).pending class) (omega (arith, all, first.left alone));
+    whole = first.whole;
+    room = first.room;
   }
-  here_last class now most turns false old mid new all first next = here_more class now old mid new first.part next
 
   -- ---- all classes
 
@@ -723,3 +831,117 @@ module _ (start : State) (passes : ℕ) where
   all_stop now class stop.DiskFault old mid new within first on next looks = to_fault now class old mid new within first on next looks
   all_stop now class stop.Spent old mid new within first on next looks = (partly now class old mid new within first next.0, next.1)
   all_stop now class stop.NoMemory old mid new within first on next looks = (partly now class old mid new within first next.0, next.1)
+
+  -- ---- how many were drained
+
+  pub undrained : (class : ℕ) (old mid new : PassValue) → Leads [] old mid → Enters start passes [] mid new → drained_in class new ≡ drained_in class old
+  undrained class old mid new first next = drained_apart class [] old new (leads_both [] [] old mid new first (leads_of [] mid new next)) refl
+
+  pub undrained_fault : (class : ℕ) (old mid new : PassValue) → Leads [] old mid → Enters start passes (entry.Fault mid.number class ∷ []) mid new → drained_in class new ≡ drained_in class old
+  undrained_fault class old mid new first next =
+      drained_fault class class mid.number old new (leads_both [] (entry.Fault mid.number class ∷ []) old mid new first (leads_of (entry.Fault mid.number class ∷ []) mid new next))
+
+  -- a step, and then none
+  pub drained_none : (class : ℕ) (old mid new : PassValue) → Enters start passes [] old mid → drained_in class new ≡ drained_in class mid → drained_in class new ≤ drained_in class old + 1
+  drained_none class old mid new enters same = omega (arith, same, drained_apart class [] old mid (leads_of [] old mid enters) refl)
+
+  pub drained_one : (class : ℕ) (e : Entry) (old mid new : PassValue) → Enters start passes (e ∷ []) old mid → drained_in class new ≡ drained_in class mid
+      → drained_in class new ≤ drained_in class old + 1
+  drained_one class e old mid new enters same = omega (arith, same, drained_more class (e ∷ []) old mid (leads_of (e ∷ []) old mid enters), one_entry class e)
+
+  -- a call comes to a class
+  came_to : (class most : ℕ) (old mid new : PassValue) → Enters start passes [] old mid → most ≡ length ((replay start mid.seen).pending class) → IsPrefix mid.seen new.seen
+      → drained_in class new ≡ drained_in class mid → DrainsMost start class most 0 old new
+  came_to class most old mid new enters count begins same =
+      let none : drained_in class mid ≡ drained_in class old = drained_apart class [] old mid (leads_of [] old mid enters) refl in record {
+        came = mid.seen;
+        behind = enters.begins;
+        begins = begins;
+        none = ap (λ (n : ℕ). drains (about_class class (of_pass n mid.seen))) (sym enters.number) ∙ none;
+        count = count;
+        few = omega (arith, same, none);
+      }
+
+  pub most_begin : (class most : ℕ) (old mid new : PassValue) → Enters start passes [] old mid → most ≡ length ((replay start mid.seen).pending class) → WritesWhole start passes class mid new
+      → drained_in class new ≡ drained_in class mid → DrainsMost start class most 0 old new
+  most_begin class most old mid new enters count writes same = came_to class most old mid new enters count writes.enters.begins same
+
+  stops_begin : (class : ℕ) (stop : Stop) (old new : PassValue) → StopsWriting start passes class stop old new → IsPrefix old.seen new.seen
+  stops_begin class stop.DiskFault old new writes = (writes 0).enters.begins
+  stops_begin class stop.Spent old new writes = subst (λ (pass : PassValue). IsPrefix old.seen pass.seen) (sym writes.0) (prefix_self old.seen)
+  stops_begin class stop.NoMemory old new writes = absurd writes
+
+  pub few_unwritten : (class most : ℕ) (stop : Stop) (old mid new : PassValue) → Enters start passes [] old mid → most ≡ length ((replay start mid.seen).pending class)
+      → StopsWriting start passes class stop mid new → drained_in class new ≡ drained_in class mid → DrainsFew start class old new
+  few_unwritten class most stop old mid new enters count writes same =
+      most_few start class most 0 old new (omega arith) (came_to class most old mid new enters count (stops_begin class stop mid new writes) same)
+
+  pub most_next : (class now most turns : ℕ) (old mid new : PassValue) → DrainsMost start class most turns old mid → DrainsOne start passes class now mid new
+      → drained_in class new ≤ drained_in class mid + 1 → DrainsMost start class most (turns + 1) old new
+  most_next class now most turns old mid new first next one = most_more start class most turns old mid new first next.part.enters.begins one
+
+  pub few_here : (class now most turns : ℕ) (old mid new : PassValue) → turns < most → DrainsMost start class most turns old mid → DrainsHere start passes class now mid new
+      → drained_in class new ≤ drained_in class mid + 1 → DrainsFew start class old new
+  few_here class now most turns old mid new within first next one =
+      most_few start class most (turns + 1) old new (omega (arith, within)) (most_more start class most turns old mid new first next.part.enters.begins one)
+
+  stop_begins : (class now : ℕ) (stop : Stop) (old new : PassValue) → StopsIn start passes class now stop old new → IsPrefix old.seen new.seen
+  stop_begins class now stop.DiskFault old new stops = stops.enters.begins
+  stop_begins class now stop.Spent old new stops = stops.0.enters.begins
+  stop_begins class now stop.NoMemory old new stops = stops.0.enters.begins
+
+  pub few_stopped : (class now most turns : ℕ) (stop : Stop) (old mid new : PassValue) → turns < most → DrainsMost start class most turns old mid → StopsIn start passes class now stop mid new
+      → drained_in class new ≤ drained_in class mid + 1 → DrainsFew start class old new
+  few_stopped class now most turns stop old mid new within first stops one =
+      most_few start class most (turns + 1) old new (omega (arith, within)) (most_more start class most turns old mid new first (stop_begins class now stop mid new stops) one)
+
+  -- ---- of all classes
+
+  here_kept : (class now k : ℕ) (old new : PassValue) → DrainsHere start passes class now old new → k ≢ class → drained_in k new ≡ drained_in k old
+  here_kept class now k old new here apart =
+      let made : List Entry = here.part.made in
+      drained_apart k made old new (leads_of made old new here.part.enters) (are_apart old.number class now k made here.part.each apart)
+
+  stop_kept : (class now k : ℕ) (stop : Stop) (old new : PassValue) → StopsIn start passes class now stop old new → k ≢ class → drained_in k new ≡ drained_in k old
+  stop_kept class now k stop.DiskFault old new stops apart =
+      let made : List Entry = stops.made in
+      let fault : List Entry = entry.Fault old.number class ∷ [] in
+      drained_apart k (made ++ fault) old new (leads_of (made ++ fault) old new stops.enters)
+      (filter-append (is_about k) made fault ∙ (λ i. are_apart old.number class now k made stops.each apart i ++ fault_apart old.number class k apart i))
+  stop_kept class now k stop.Spent old new stops apart =
+      let made : List Entry = stops.0.made in drained_apart k made old new (leads_of made old new stops.0.enters) (are_apart old.number class now k made stops.0.each apart)
+  stop_kept class now k stop.NoMemory old new stops apart =
+      let made : List Entry = stops.0.made in drained_apart k made old new (leads_of made old new stops.0.enters) (are_apart old.number class now k made stops.0.each apart)
+
+  pub few_first : (pass : PassValue) → DrainsFewFirst start 0 pass pass
+  few_first pass = record { few = λ k lt. absurd (omega (arith, lt)); none = λ k le. refl }
+
+  -- one class more
+  few_with : (class : ℕ) (old mid new : PassValue) → Follows old mid → DrainsFewFirst start class old mid → IsPrefix mid.seen new.seen → DrainsFew start class mid new
+      → ((k : ℕ) → k ≢ class → drained_in k new ≡ drained_in k mid) → DrainsFewFirst start (suc class) old new
+  few_with class old mid new leads first begins here kept = record {
+    few = λ k lt. elim (below_or_here k class lt) [
+      | inl same ↦ subst (λ (c : ℕ). DrainsFew start c old new) (sym same) (few_behind start class old mid new leads.begins leads.number (first.none class (omega arith)) here)
+      | inr below ↦ few_more start k old mid new (first.few k below) begins (kept k (not_below k class below))
+    ];
+    none = λ k le. kept k (λ same. omega (arith, le, same)) ∙ first.none k (omega (arith, le));
+  }
+
+  pub few_class : (now class : ℕ) (old mid new : PassValue) → DrainsFirst start passes now class old mid → DrainsFewFirst start class old mid → DrainsHere start passes class now mid new
+      → DrainsFew start class mid new → DrainsFewFirst start (suc class) old new
+  few_class now class old mid new so_far first next here =
+      few_with class old mid new (record { number = so_far.leads.number; begins = so_far.leads.begins }) first next.part.enters.begins here (λ k apart. here_kept class now k mid new next apart)
+
+  pub few_all : (class : ℕ) (old new : PassValue) → class ≡ 16 → DrainsFewFirst start class old new → (k : ℕ) → k < 16 → DrainsFew start k old new
+  few_all class old new all first k lt = first.few k (subst (λ (n : ℕ). k < n) (sym all) lt)
+
+  pub few_at_stop : (now class : ℕ) (stop : Stop) (old mid new : PassValue) → DrainsFirst start passes now class old mid → DrainsFewFirst start class old mid
+      → StopsIn start passes class now stop mid new → DrainsFew start class mid new → (k : ℕ) → k < 16 → DrainsFew start k old new
+  few_at_stop now class stop old mid new so_far first stops here k lt =
+      let begins : IsPrefix mid.seen new.seen = stop_begins class now stop mid new stops in
+      let all : DrainsFewFirst start (suc class) old new =
+      few_with class old mid new (record { number = so_far.leads.number; begins = so_far.leads.begins }) first begins here (λ k apart. stop_kept class now k stop mid new stops apart) in
+      elim (ltb_or k (suc class)) [
+        | inl below ↦ all.few k below
+        | inr above ↦ few_none start k old new (prefix_both old.seen mid.seen new.seen so_far.leads.begins begins) (all.none k above)
+      ]

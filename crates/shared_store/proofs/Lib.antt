@@ -15,7 +15,6 @@ mod AskCountLemmas
 mod AskChainLemmas
 mod AskReadLemmas
 mod AskSeriesLemmas
-mod NoteLemmas
 mod NameLemmas
 mod PieceLemmas
 mod RoomLemmas

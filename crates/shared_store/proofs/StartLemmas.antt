@@ -1,6 +1,8 @@
 -- What a store starts from stands for the opening state.
 use Rattle.std.proofs.Common.{◌≡◌, ◌∙◌, ℕ, zero, suc, ◌<◌, ◌≤◌, ◌+◌, ◌-◌, ◌*◌, List, [], ◌∷◌, ◌++◌, length, Option, Some, IfSome, refl, sym, ap, subst, arith, length-append}
-use Rattle.std.specs.Prelude.{count_by, slice_get}
+use Rattle.std.specs.Prelude.{count_by, get_or, slice_get}
+use Rattle.std.specs.List.{ReversedBelow}
+use Rattle.std.proofs.lemmas.Option.{get_or_from_slice_get, slice_get-get_or, slice_get_within}
 use Rattle.atomic_table.specs.Seated.{TableId}
 use Rattle.outside_io.specs.Image.{Image}
 use Rattle.outside_io.specs.declared.disk.Disk.{Ghosts}
@@ -19,7 +21,7 @@ use Rattle.write_shelf.specs.Shelf.{DrainValue}
 use Rattle.shared_history.specs.Parts.{IsNewTail, TailValue}
 use Rattle.shared_store.specs.Desks.{KeepsClass, LastDrains}
 use Rattle.shared_store.specs.Locks.{KeepsDesk, KeepsFiles}
-use Rattle.shared_store.specs.Starts.{AreFreshClasses, AreHalves, IsFresh, IsFreshClass, halves_at}
+use Rattle.shared_store.specs.Starts.{AreFreshClasses, AreFreshFalling, AreHalves, IsFresh, IsFreshClass, halves_at}
 use Rattle.shared_store.proofs.BothLemmas.{desk_keeps, files_keep}
 use Rattle.shared_store.specs.declared.start.Parts.{Parts}
 use Rattle.shared_store.specs.Tallies.{capped, is_fault}
@@ -74,6 +76,10 @@ module _ {D : Type 0} {d : Ghosts D} (table : TableId) (half_of : ℕ → TableI
   half_of_class : half.table ≡ half_of desk.class
   half_of_class = tied ∙ (fresh.half ∙ ap half_of (sym class_of_desk))
 
+  -- the files are of the class of the tail
+  pub files_of_class : AreHalvesOfShard desk files → files.class ≡ tail.class
+  files_of_class are = are.one ∙ (class_of_desk ∙ sym fresh.new.number)
+
   pub fresh_desk : KeepsDesk table half_of start desk half tail
   fresh_desk =
       subst (λ (h : HalfValue). KeepsDesk table half_of start desk h tail) (half_new tail half fresh.new.list fresh.new.settled fresh.new.runs none)
@@ -109,32 +115,63 @@ rest_are : {A : Type 0} (P : ℕ → A → Type 0) (xs ys : List A) (x : A) → 
     → (k : ℕ) (y : A) → slice_get xs k ≡ Some y → P k y
 rest_are {A} P xs ys x is each k y e = each k y (ap (λ (l : List A). slice_get l k) is ∙ get_more xs (x ∷ []) k y e)
 
-module _ {D : Type 0} {d : Ghosts D} (table : TableId) (half_of : ℕ → TableId) (told : ℕ → Option Image) (start : State) (earlier : ℕ → ℕ) (k : ℕ)
+-- ---- in falling order
+
+-- what holds of each of a list of sixteen holds of them turned round, by their places from the back
+turned : {A : Type 0} (P : ℕ → A → Type 0) (xs ys : List A) → length xs ≡ 16 → length ys ≡ 16 → ReversedBelow xs ys 16 → ((k : ℕ) (x : A) → slice_get xs k ≡ Some x → P k x)
+    → (k : ℕ) (y : A) → slice_get ys k ≡ Some y → P (15 - k) y
+turned {A} P xs ys all all' round each k y at =
+    let few : k < 16 = subst (λ (n : ℕ). k < n) all' (slice_get_within ys k y at) in
+    let there : slice_get xs (15 - k) ≡ Some (get_or xs (15 - k) y) = slice_get-get_or xs (15 - k) y (omega (arith, few, all)) in
+    subst (P (15 - k)) (sym (round k y few) ∙ get_or_from_slice_get ys k y y at) (each (15 - k) (get_or xs (15 - k) y) there)
+
+pub classes_fall : {D : Type 0} {d : Ghosts D} (table : TableId) (half_of : ℕ → TableId) (told : ℕ → Option Image) (start : State) (earlier : ℕ → ℕ) (tails tails' : List TailValue)
+    (pairs pairs' : List TableId) (shards shards' : List (Shard D d)) → AreFreshClasses {d = d} table half_of told start earlier 16 tails pairs shards → length tails' ≡ 16 → length pairs' ≡ 16
+    → length shards' ≡ 16 → ReversedBelow tails tails' 16 → ReversedBelow pairs pairs' 16 → ReversedBelow shards shards' 16
+    → AreFreshFalling {d = d} table half_of told start earlier 16 tails' pairs' shards'
+classes_fall {D} {d} table half_of told start earlier tails tails' pairs pairs' shards shards' fresh tail_count pair_count shard_count tails_turn pairs_turn shards_turn = record {
+  tail_count = tail_count;
+  new_tails = turned (IsNewTail table) tails tails' fresh.tail_count tail_count tails_turn fresh.new_tails;
+  pair_count = pair_count;
+  halves = turned (λ k t. t ≡ half_of k) pairs pairs' fresh.pair_count pair_count pairs_turn fresh.halves;
+  shard_count = shard_count;
+  fresh_shards = turned (λ k s. IsReadyShard {d = d} told start earlier k s) shards shards' fresh.shard_count shard_count shards_turn fresh.fresh_shards;
+}
+
+module _ {D : Type 0} {d : Ghosts D} (table : TableId) (half_of : ℕ → TableId) (told : ℕ → Option Image) (start : State) (earlier : ℕ → ℕ) (class : ℕ)
     (tails tails' : List TailValue) (tail : TailValue) (pairs pairs' : List TableId) (pair : TableId) (shards shards' : List (Shard D d)) (shard : Shard D d)
-    (fresh : AreFreshClasses {d = d} table half_of told start earlier (16 - k) tails' pairs' shards') (few : k < 16)
+    (fresh : AreFreshFalling {d = d} table half_of told start earlier (16 - class) tails' pairs' shards') (few : class < 16)
     (tails_are : tails' ≡ tails ++ tail ∷ []) (pairs_are : pairs' ≡ pairs ++ pair ∷ []) (shards_are : shards' ≡ shards ++ shard ∷ []) where
-  one_before : AreFreshClasses {d = d} table half_of told start earlier ((15 - k) + 1) tails' pairs' shards'
-  one_before = subst (λ (n : ℕ). AreFreshClasses {d = d} table half_of told start earlier n tails' pairs' shards') (omega (arith, few)) fresh
+  one_before : AreFreshFalling {d = d} table half_of told start earlier ((15 - class) + 1) tails' pairs' shards'
+  one_before = subst (λ (n : ℕ). AreFreshFalling {d = d} table half_of told start earlier n tails' pairs' shards') (omega (arith, few)) fresh
+
+  -- the last of them is the first that is left
+  here : 15 - (15 - class) ≡ class
+  here = omega (arith, few)
+
+  pub new_tail : IsNewTail table class tail
+  new_tail = subst (λ (k : ℕ). IsNewTail table k tail) here (last_is (λ k t. IsNewTail table (15 - k) t) tails tails' tail (15 - class) tails_are one_before.tail_count one_before.new_tails)
 
   pub fresh_here : IsFreshClass {d = d} table half_of told start earlier tail pair shard
   fresh_here = record {
-    place = 15 - k;
-    within = omega (arith, few);
-    new = last_is (IsNewTail table) tails tails' tail (15 - k) tails_are one_before.tail_count one_before.new_tails;
-    half = last_is (λ n t. t ≡ half_of n) pairs pairs' pair (15 - k) pairs_are one_before.pair_count one_before.halves;
-    fresh = last_is (λ n s. IsReadyShard {d = d} told start earlier n s) shards shards' shard (15 - k) shards_are one_before.shard_count one_before.fresh_shards;
+    place = class;
+    within = few;
+    new = new_tail;
+    half = subst (λ (k : ℕ). pair ≡ half_of k) here (last_is (λ k t. t ≡ half_of (15 - k)) pairs pairs' pair (15 - class) pairs_are one_before.pair_count one_before.halves);
+    fresh = subst (λ (k : ℕ). IsReadyShard {d = d} told start earlier k shard) here
+        (last_is (λ k s. IsReadyShard {d = d} told start earlier (15 - k) s) shards shards' shard (15 - class) shards_are one_before.shard_count one_before.fresh_shards);
   }
 
-  pub fresh_left : AreFreshClasses {d = d} table half_of told start earlier (16 - (k + 1)) tails pairs shards
+  pub fresh_left : AreFreshFalling {d = d} table half_of told start earlier (16 - (class + 1)) tails pairs shards
   fresh_left =
-      subst (λ (n : ℕ). AreFreshClasses {d = d} table half_of told start earlier n tails pairs shards) (omega (arith, few))
+      subst (λ (n : ℕ). AreFreshFalling {d = d} table half_of told start earlier n tails pairs shards) (omega (arith, few))
       (record {
-        tail_count = less_one tails tails' tail (15 - k) tails_are one_before.tail_count;
-        new_tails = rest_are (IsNewTail table) tails tails' tail tails_are one_before.new_tails;
-        pair_count = less_one pairs pairs' pair (15 - k) pairs_are one_before.pair_count;
-        halves = rest_are (λ n t. t ≡ half_of n) pairs pairs' pair pairs_are one_before.halves;
-        shard_count = less_one shards shards' shard (15 - k) shards_are one_before.shard_count;
-        fresh_shards = rest_are (λ n s. IsReadyShard {d = d} told start earlier n s) shards shards' shard shards_are one_before.fresh_shards;
+        tail_count = less_one tails tails' tail (15 - class) tails_are one_before.tail_count;
+        new_tails = rest_are (λ k t. IsNewTail table (15 - k) t) tails tails' tail tails_are one_before.new_tails;
+        pair_count = less_one pairs pairs' pair (15 - class) pairs_are one_before.pair_count;
+        halves = rest_are (λ k t. t ≡ half_of (15 - k)) pairs pairs' pair pairs_are one_before.halves;
+        shard_count = less_one shards shards' shard (15 - class) shards_are one_before.shard_count;
+        fresh_shards = rest_are (λ k s. IsReadyShard {d = d} told start earlier (15 - k) s) shards shards' shard shards_are one_before.fresh_shards;
       })
 
 pub classes_of : {D : Type 0} {d : Ghosts D} (table : TableId) (passes : ℕ) (half_of : ℕ → TableId) (told : ℕ → Option Image) (start : State) (earlier : ℕ → ℕ) (parts : Parts D d)

@@ -1,10 +1,11 @@
 -- What the drain of all that is pending tells.
 use Rattle.std.specs.Prelude.{◌≡◌, ◌≢◌, ◌⊎◌, ◌<◌, ◌≤◌, ◌+◌, ℕ, Bool, true, false, List, [], ◌∷◌, ◌++◌, length, Result, Ok, Err}
+use mathlib.Core.List.{IsPrefix}
 use Rattle.carbon_history.specs.declared.entry.Entry.{Entry}
 use Rattle.carbon_history.specs.declared.entry.Entry.TheVariants.{Drain, Fault}
-use Rattle.carbon_history.specs.Entries.{about_class, drains}
+use Rattle.carbon_history.specs.Entries.{about_class, drains, of_pass}
 use Rattle.metric_path.specs.Class.{class_of}
-use Rattle.shared_history.specs.Parts.{PassValue}
+use Rattle.shared_history.specs.Parts.{PassValue, own_entries}
 use Rattle.shared_history.specs.Views.{look_at}
 use Rattle.carbon_model.specs.State.{State}
 use Rattle.carbon_model.specs.Replay.{DrainsAll, DrainsUpTo, IsDrainOf, replay}
@@ -84,6 +85,18 @@ pub record DrainsPartly (start : State) (passes now : ℕ) (old new : PassValue)
   pub enters : Enters start passes made old new
   pub rise : RiseWithin old.number now 0 16 made
   pub alone : StoodAlone made old new → DrainsUpTo (replay start old.seen) old.number class now made
+
+-- how many metrics of a class the pass drained
+abbrev pub drained_in : ℕ → PassValue → ℕ
+drained_in class pass = drains (about_class class (own_entries pass))
+
+-- Of a class no more metrics were drained in the call than were pending when it came to the class: the pass had seen this then, and drained none of it before.
+pub record DrainsFew (start : State) (class : ℕ) (old new : PassValue) : Type 0 where
+  pub came : List Entry
+  pub behind : IsPrefix old.seen came
+  pub begins : IsPrefix came new.seen
+  pub none : drains (about_class class (of_pass old.number came)) ≡ drained_in class old
+  pub few : drained_in class new ≤ drained_in class old + length ((replay start came).pending class)
 
 -- What each answer tells. The pass is spent where it has not the room that a call needs, and a fault is told also where it took the last of that room.
 abbrev pub DrainsTo : State → ℕ → ℕ → DrainEnd → PassValue → PassValue → Type 0

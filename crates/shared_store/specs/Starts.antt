@@ -1,5 +1,5 @@
 -- What a store starts from.
-use Rattle.std.specs.Prelude.{◌≡◌, ◌<◌, ℕ, zero, suc, List, [], ◌∷◌, Option, Some, length, slice_get}
+use Rattle.std.specs.Prelude.{◌≡◌, ◌<◌, ◌-◌, ℕ, zero, suc, List, [], ◌∷◌, Option, Some, length, slice_get}
 use Rattle.atomic_table.specs.Seated.{TableId}
 use Rattle.outside_io.specs.Image.{Image}
 use Rattle.outside_io.specs.declared.disk.Disk.{Ghosts}
@@ -44,7 +44,7 @@ pub record IsFreshClass {D : Type 0} {d : Ghosts D} (table : TableId) (half_of :
   pub half : pair ≡ half_of place
   pub fresh : IsReadyShard told start earlier place shard
 
--- those of the first classes, so many
+-- those of so many classes, in order
 pub record AreFreshClasses {D : Type 0} {d : Ghosts D} (table : TableId) (half_of : ℕ → TableId) (told : ℕ → Option Image) (start : State) (earlier : ℕ → ℕ) (count : ℕ) (tails : List TailValue) (pairs : List TableId) (shards : List (Shard D d)) : Type 0 where
   pub tail_count : length tails ≡ count
   pub new_tails : AreNewTails table tails
@@ -52,3 +52,12 @@ pub record AreFreshClasses {D : Type 0} {d : Ghosts D} (table : TableId) (half_o
   pub halves : AreHalves half_of pairs
   pub shard_count : length shards ≡ count
   pub fresh_shards : AreReadyShards told start earlier shards
+
+-- those of the last classes, so many, in falling order
+pub record AreFreshFalling {D : Type 0} {d : Ghosts D} (table : TableId) (half_of : ℕ → TableId) (told : ℕ → Option Image) (start : State) (earlier : ℕ → ℕ) (count : ℕ) (tails : List TailValue) (pairs : List TableId) (shards : List (Shard D d)) : Type 0 where
+  pub tail_count : length tails ≡ count
+  pub new_tails : (k : ℕ) (tail : TailValue) → slice_get tails k ≡ Some tail → IsNewTail table (15 - k) tail
+  pub pair_count : length pairs ≡ count
+  pub halves : (k : ℕ) (pair : TableId) → slice_get pairs k ≡ Some pair → pair ≡ half_of (15 - k)
+  pub shard_count : length shards ≡ count
+  pub fresh_shards : (k : ℕ) (shard : Shard D d) → slice_get shards k ≡ Some shard → IsReadyShard told start earlier (15 - k) shard

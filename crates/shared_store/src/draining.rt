@@ -36,17 +36,18 @@ impl<N: Named> ClassDesk<N> {
 }
 
 impl<D: Disk, N: Named> Store<D, N> {
-    ghost use Rattle.std.specs.Prelude.{◌≡◌, ◌<◌, [], length};
+    ghost use Rattle.std.specs.Prelude.{◌≡◌, ◌<◌, ◌≤◌, ◌+◌, ℕ, [], length};
     ghost use Rattle.carbon_model.specs.Replay.{replay};
-    ghost use Rattle.shared_store.specs.Drains.{DrainsClassTo, DrainsNext, DrainsTo, Finishes, IsWhole, LooksIn, WritesTo};
+    ghost use Rattle.shared_store.specs.Drains.{DrainsClassTo, DrainsFew, DrainsNext, DrainsTo, Finishes, IsWhole, LooksIn, WritesTo, drained_in};
     ghost use Rattle.shared_store.specs.Passes.{Enters, HasRoom, LooksOn, SameLooks};
 
     /// Drains all that is pending at the moment `now`: for the classes in order it finishes the
     /// drain that is being written, and then drains as many metrics as were pending when it came to
-    /// the class, and one more if one is left. It stops at the first fault.
+    /// the class. What other passes put meanwhile it leaves. It stops at the first fault.
     pub fn drain_all(&self, rt: &impl Wait, pass: &mut StorePass<N>, now: u32) -> DrainEnd
         requires room { HasRoom pass.old }
         ensures drains { DrainsTo N.start N.passes now result pass.old pass.new }
+        ensures few { (class : ℕ) → class < 16 → DrainsFew N.start class pass.old pass.new }
         ensures looks { LooksOn pass.old pass.new }
     {
         let before = pass.left();
@@ -60,7 +61,7 @@ impl<D: Disk, N: Named> Store<D, N> {
     }
 
     // Finishes the drain of a class that is being written. Then it drains as many metrics as were
-    // pending, and tries one more, where another pass may have put points of it.
+    // pending.
     fn drain_class(
         &self,
         rt: &impl Wait,
@@ -71,6 +72,7 @@ impl<D: Disk, N: Named> Store<D, N> {
         requires class { class < 16 }
         requires room { HasRoom pass.old }
         ensures drains { DrainsClassTo N.start N.passes class now result pass.old pass.new }
+        ensures few { DrainsFew N.start class pass.old pass.new }
         ensures looks { LooksIn class pass.old pass.new }
     {
         let most = self.pending(rt, pass, class);
@@ -85,10 +87,7 @@ impl<D: Disk, N: Named> Store<D, N> {
                 Err(stop) => return Err(stop),
             }
         }
-        match self.drain_next(rt, pass, class, now) {
-            Ok(_) => Ok(()),
-            Err(stop) => Err(stop),
-        }
+        Ok(())
     }
 
     // How many metrics of a class have pending points.
@@ -103,6 +102,7 @@ impl<D: Disk, N: Named> Store<D, N> {
     }
 
     // Drains the metric of a class that goes next, and writes it whole: whether there was one.
+    #[tactic(auto, using(crate::proofs::DrainLemmas::drained_none, crate::proofs::DrainLemmas::drained_one))]
     fn drain_next(
         &self,
         rt: &impl Wait,
@@ -114,6 +114,7 @@ impl<D: Disk, N: Named> Store<D, N> {
         requires room { HasRoom pass.old }
         requires whole { IsWhole class pass.old }
         ensures drains { DrainsNext N.start N.passes class now result pass.old pass.new }
+        ensures one { drained_in class pass.new ≤ drained_in class pass.old + 1 }
         ensures looks { LooksIn class pass.old pass.new }
     {
         match self.plan_step(rt, pass, class, now) {
@@ -129,6 +130,7 @@ impl<D: Disk, N: Named> Store<D, N> {
     fn write_whole(&self, rt: &impl Wait, pass: &mut StorePass<N>, class: u32) -> Result<bool, Stop>
         requires class { class < 16 }
         ensures whole { WritesTo N.start N.passes class result pass.old pass.new }
+        ensures none { drained_in class pass.new ≡ drained_in class pass.old }
         ensures looks { LooksIn class pass.old pass.new }
     {
         if !has_room(pass) {
@@ -141,10 +143,12 @@ impl<D: Disk, N: Named> Store<D, N> {
     }
 
     // Writes the drain of a class that is being written to its end.
+    #[tactic(auto, using(crate::proofs::DrainLemmas::undrained))]
     fn finish(&self, rt: &impl Wait, pass: &mut StorePass<N>, class: u32) -> Result<(), Stop>
         requires class { class < 16 }
         requires room { HasRoom pass.old }
         ensures writes { Finishes N.start N.passes class result pass.old pass.new }
+        ensures none { drained_in class pass.new ≡ drained_in class pass.old }
         ensures looks { LooksIn class pass.old pass.new }
     {
         for _run in rt.forever() {

@@ -11,7 +11,7 @@ use std::sync::Wait;
 /// How much work may be done under the locks of all desks, in bytes of patterns that are held against names.
 const MOST_WORK_LOCKED: u64 = 400_000;
 
-/// As how many bytes a pattern counts that has fewer: to go from name to name takes as long.
+/// As how many bytes a pattern counts that has fewer: to go from name to name takes as long, and to look for the first.
 const LEAST_PATTERN: u64 = 32;
 
 /// How many names of a class are copied at a time under the lock of its desk.
@@ -47,7 +47,10 @@ impl<D: Disk, N: Named> Store<D, N> {
             let fitting = left.checked_div(pattern).unwrap_or(0);
             let most = fitting.saturating_add(1) as usize;
             let names = self.lock_class(rt, class).desk.width(&need.glob, most)?;
-            let Some(rest) = left.checked_sub(pattern.saturating_mul(names as u64)) else {
+            let work = pattern
+                .saturating_mul(names as u64)
+                .saturating_add(LEAST_PATTERN);
+            let Some(rest) = left.checked_sub(work) else {
                 return Ok(None);
             };
             left = rest;

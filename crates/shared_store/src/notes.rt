@@ -4,12 +4,11 @@ use crate::store::Store;
 use crate::store_pass::{StorePass, learn, note};
 use outside_io::Disk;
 use shared_history::Note;
-use std::sync::Wait;
 
 impl<D: Disk, N: Named> Store<D, N> {
-    ghost use Rattle.std.specs.Prelude.{◌≡◌, []};
+    ghost use Rattle.std.specs.Prelude.{◌≡◌, ◌⊎◌};
     ghost use mathlib.Core.List.{IsPrefix};
-    ghost use Rattle.shared_store.specs.Passes.{Enters, SameLooks};
+    ghost use Rattle.shared_history.specs.Parts.{own_entries, pass_seeing};
 
     /// A copy of what the pass has seen, for another pass.
     pub fn note(&self, pass: &mut StorePass<N>) -> Note
@@ -20,15 +19,15 @@ impl<D: Disk, N: Named> Store<D, N> {
         note(pass)
     }
 
-    /// The pass sees all that another one had seen when it made the note, and with it the whole
-    /// history so far: what this one has seen and what is noted both begin it. No entry is made.
-    pub fn learn(&self, rt: &impl Wait, pass: &mut StorePass<N>, note: Note)
+    /// Of what the pass has seen and what is noted the pass has seen the longer, which the shorter
+    /// begins. No entry is made, and no lock is taken.
+    pub fn learn(&self, pass: &mut StorePass<N>, note: Note)
         requires same { note.table ≡ N.table }
+        ensures one { (pass.new ≡ pass.old) ⊎ (pass.new ≡ pass_seeing pass.old note.list) }
+        ensures begins { IsPrefix pass.old.seen pass.new.seen }
         ensures told { IsPrefix note.list pass.new.seen }
-        ensures enters { Enters N.start N.passes [] pass.old pass.new }
-        ensures looks { SameLooks pass.old pass.new }
+        ensures own { own_entries pass.new ≡ own_entries pass.old }
     {
         learn(pass, note);
-        self.order.lock(rt).see_all(pass);
     }
 }

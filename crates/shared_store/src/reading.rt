@@ -47,7 +47,7 @@ fn series_of(alloc: Global, looked: &Looked, values: Values) -> Result<Series, A
     let step = u64::from(looked.layout.archive(i).step);
     let name = looked.path.as_str().to_string(alloc)?;
     let path = looked.path.as_str().to_string(alloc)?;
-    let values = readings(alloc, values.list())?;
+    let values = readings(alloc, values.into_vec())?;
     Ok(Series::from_legal(name, path, first, step, values))
 }
 

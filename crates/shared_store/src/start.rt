@@ -72,57 +72,62 @@ fn take_places<D: Disk + Drop, N: Named>(alloc: Global) -> Result<Places<D, N>, 
     })
 }
 
-// The locks of a class that has nothing yet.
+// What stands behind the locks of a class that has nothing yet.
 #[derive(Drop)]
-struct ClassLocks<D: Disk, N: Named> {
-    desk: Mutex<ClassDesk<N>>,
-    files: Mutex<ClassFiles<D, N>>,
+struct NewClass<D: Disk, N: Named> {
+    desk: ClassDesk<N>,
+    files: ClassFiles<D, N>,
 }
 
-fn open_class<D: Disk, N: Named>(tail: Tail, pair: Pair, shard: Shard<D>) -> ClassLocks<D, N>
+#[tactic(auto, using(crate::proofs::StartLemmas::files_of_class))]
+fn open_class<D: Disk, N: Named>(tail: Tail, pair: Pair, shard: Shard<D>) -> NewClass<D, N>
     requires { IsFreshClass N.table N.halves N.told N.start N.faults tail pair shard }
+    ensures desk { result.desk.class ≡ tail.class }
+    ensures files { result.files.class ≡ tail.class }
 {
     let Halves {
         desk: desk_half,
         files: files_half,
     } = pair.apart();
     let Apart { desk, files } = shard.apart();
-    ClassLocks {
-        desk: Mutex::new(ClassDesk {
+    NewClass {
+        desk: ClassDesk {
             desk,
             tail,
             half: desk_half,
             of: PhantomData,
-        }),
-        files: Mutex::new(ClassFiles {
+        },
+        files: ClassFiles {
             files,
             half: files_half,
             of: PhantomData,
-        }),
+        },
     }
 }
 
 impl<D: Disk, N: Named> Locks<D, N> {
     ghost use Rattle.std.specs.Prelude.{◌≡◌, ◌+◌, ◌<◌, vec_len};
 
-    // The locks of one class more, which have room.
-    fn put(&mut self, class: ClassLocks<D, N>)
-        requires { vec_len self.old.desks < 16 }
+    // The locks of one class more, which have room, at the place of the class.
+    fn put(&mut self, class: NewClass<D, N>)
+        requires room { vec_len self.old.desks < 16 }
+        requires place { (class.desk.class ≡ vec_len self.old.desks)
+            × (class.files.class ≡ vec_len self.old.desks) }
         ensures { vec_len self.new.desks ≡ vec_len self.old.desks + 1 }
     {
-        let ClassLocks { desk, files } = class;
-        match self.desks.push(desk) {
+        let NewClass { desk, files } = class;
+        match self.desks.push(Mutex::new(desk)) {
             Ok(()) => {}
             Err(_) => unreachable!(),
         }
-        match self.files.push(files) {
+        match self.files.push(Mutex::new(files)) {
             Ok(()) => {}
             Err(_) => unreachable!(),
         }
     }
 }
 
-// The locks of all classes. They are taken from the back, and so put in order.
+// The locks of all classes, each at the place of its class: there a lock is looked for.
 fn open_classes<D: Disk + Drop, N: Named>(
     locks: Locks<D, N>,
     tails: Vec<Tail>,
@@ -138,7 +143,10 @@ fn open_classes<D: Disk + Drop, N: Named>(
     let mut tails = tails;
     let mut pairs = pairs;
     let mut shards = shards;
-    for _k in 0..CLASSES {
+    tails.reverse();
+    pairs.reverse();
+    shards.reverse();
+    for _class in 0..CLASSES {
         let Some(tail) = tails.pop() else {
             unreachable!()
         };
@@ -150,8 +158,6 @@ fn open_classes<D: Disk + Drop, N: Named>(
         };
         locks.put(open_class(tail, pair, shard));
     }
-    locks.desks.reverse();
-    locks.files.reverse();
     locks
 }
 

@@ -9,11 +9,9 @@ use shard_core::SearchedNames;
 use std::alloc::{AllocError, Global};
 use std::marker::Model;
 
-// What it takes to have a glob held against the names of a class, however few they are, and to look it up there.
-const CLASS_WORK: u64 = 1_024;
-
-// What it takes to compare a name with the front of a glob.
-const FRONT_WORK: u64 = 2;
+// What it takes to find the names of a class that begin as a glob does, however few they are, and to look it up there under
+// the locks: a question has as many needs as it may find series.
+const CLASS_WORK: u64 = 1_450;
 
 // What it takes to enter what came of a name.
 const NAME_WORK: u64 = 24;
@@ -103,9 +101,8 @@ fn search_classes<'a>(
 
 // What it takes to have a glob held against the names of a class, beside what its pattern takes.
 fn class_work(glob: &Glob, names: &[MetricPath]) -> u64 {
-    let fronts = FRONT_WORK.saturating_mul(names.len() as u64);
-    let entered = NAME_WORK.saturating_mul(run_len(names, glob.literal_front()) as u64);
-    CLASS_WORK.saturating_add(fronts).saturating_add(entered)
+    let count = run_len(names, glob.literal_front()) as u64;
+    CLASS_WORK.saturating_add(NAME_WORK.saturating_mul(count))
 }
 
 // How many names begin with these bytes.

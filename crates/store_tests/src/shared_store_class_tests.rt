@@ -45,9 +45,9 @@ fn count_files(disk: &mut MemDisk, file: &str) -> Result<(usize, usize), Fail> {
 }
 
 // Whether the disk of the class has this file, and no disk another one.
-fn is_only_file(disks: Vec<MemDisk>, class: usize, file: &str) -> Result<bool, Fail> {
-    for (k, mut disk) in disks.into_iter().enumerate() {
-        let (found, others) = count_files(&mut disk, file)?;
+fn is_only_file(disks: &mut [MemDisk], class: usize, file: &str) -> Result<bool, Fail> {
+    for (k, disk) in disks.iter_mut().enumerate() {
+        let (found, others) = count_files(disk, file)?;
         if (found == 1) != (k == class) || others > 0 {
             return Ok(false);
         }
@@ -55,12 +55,12 @@ fn is_only_file(disks: Vec<MemDisk>, class: usize, file: &str) -> Result<bool, F
     Ok(true)
 }
 
-// The disks of a store when a caller has done these rows, and each has ended so.
-fn disks_behind<R: Abort + Threads + Wait + Clock + Sync>(
+// What a store leaves when a caller has done these rows.
+fn ran_behind<R: Threads + Wait + Clock + Sync>(
     rt: &R,
     alloc: Global,
     rows: &[Row],
-) -> Result<Vec<MemDisk>, Fail> {
+) -> Result<Ran<MemDisk>, Fail> {
     let case = Case {
         schemas: RULES,
         limit: 10,
@@ -70,9 +70,19 @@ fn disks_behind<R: Abort + Threads + Wait + Clock + Sync>(
         first: rows,
         second: &[],
     };
-    let Ran { jobs, closed } = run_case(rt, alloc, &case)?;
-    assert_both(rt, jobs.as_slice(), &[], rows, &[])?;
-    Ok(closed.disks)
+    run_case(rt, alloc, &case)
+}
+
+// Whether each of these rows has ended so, and the disk of the class alone has a file, which is this one.
+fn leaves_file(
+    rt: &impl Abort,
+    ran: &mut Ran<MemDisk>,
+    rows: &[Row],
+    class: u32,
+    file: &str,
+) -> Result<bool, Fail> {
+    assert_both(rt, ran.jobs.as_slice(), &[], rows, &[])?;
+    is_only_file(ran.closed.disks.as_mut_slice(), class as usize, file)
 }
 
 // A file is created, its cells are written, and then its head.
@@ -94,8 +104,8 @@ fn drains_metric<R: Abort + Threads + Wait + Clock + Sync>(
         (Deed::Write(class), End::Wrote(Wrote::Nothing)),
         (Deed::Plan(class), End::Planned("idle")),
     ];
-    let disks = disks_behind(rt, alloc, &rows)?;
-    is_only_file(disks, class as usize, file)
+    let mut ran = ran_behind(rt, alloc, &rows)?;
+    leaves_file(rt, &mut ran, &rows, class, file)
 }
 
 fn assert_drains<R: Abort + Threads + Wait + Clock + Sync>(

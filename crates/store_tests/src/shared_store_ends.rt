@@ -251,11 +251,19 @@ pub(crate) fn jobs_of(
 
 // Each deed has its reply, in two lists of rows one behind the other.
 pub(crate) fn assert_replies(rt: &impl Abort, job: &Job, before: &[Row], rows: &[Row]) {
-    let wanted = before.iter().chain(rows.iter());
-    for (n, ((_, end), reply)) in wanted.zip(job.replies.iter()).enumerate() {
+    let replies = job.replies.as_slice();
+    let (first, then) = replies
+        .split_at_checked(before.len())
+        .unwrap_or((&[], replies));
+    assert_ends(rt, first, before);
+    assert_ends(rt, then, rows);
+}
+
+fn assert_ends(rt: &impl Abort, replies: &[Reply], rows: &[Row]) {
+    for (n, ((_, end), reply)) in rows.iter().zip(replies.iter()).enumerate() {
         assert!(rt; ends_so(reply, *end), "{n}");
     }
-    assert!(rt; job.replies.len().checked_sub(before.len()) == Some(rows.len()));
+    assert!(rt; replies.len() == rows.len());
 }
 
 pub(crate) fn assert_both(

@@ -448,7 +448,7 @@ impl<N: Named> Worker<N> {
         other: &mut Worker<N>,
     ) {
         let note = store.note(&mut other.pass);
-        store.learn(rt, &mut self.pass, note);
+        store.learn(&mut self.pass, note);
         self.work(rt, alloc, store);
     }
 }

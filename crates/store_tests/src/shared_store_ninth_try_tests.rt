@@ -6,7 +6,6 @@ use crate::shared_store_wait_kit::{Case, Stop, assert_among};
 use point_cache::Put;
 use shard_core::Wrote;
 use shared_store::{DrainEnd, PutCounts, Tally};
-use std::alloc::{AllocError, Global};
 use std::test::Fail;
 
 // Each try reads the first cell of the file of `b`, which is of class 5. At its n-th read, from 0 on, the disk puts up
@@ -53,25 +52,7 @@ static PLANS: [Row; 5] = [
 // ---- what others do meanwhile
 
 // A metric of each other class.
-static OTHERS: [(u32, &str); 15] = [
-    (0, "e"),
-    (1, "n"),
-    (2, "c"),
-    (3, "d"),
-    (4, "i"),
-    (6, "g"),
-    (7, "h"),
-    (8, "m"),
-    (9, "f"),
-    (10, "k"),
-    (11, "l"),
-    (12, "a"),
-    (13, "j"),
-    (14, "o"),
-    (15, "p"),
-];
-
-static PIECE: &[(&str, u32, u32)] = &[
+const PIECE: &[(&str, u32, u32)] = &[
     ("e", 0, 2),
     ("n", 0, 2),
     ("c", 0, 2),
@@ -96,38 +77,53 @@ const ALL_STORED: PutCounts = PutCounts {
     full: 0,
 };
 
-// A point of `b` is put at each of eight tries.
-fn push_tries(rows: &mut Vec<Row>) -> Result<(), AllocError> {
-    for n in 0..8u32 {
-        let flag = (n as usize).saturating_mul(2);
-        rows.push((Deed::Await(flag), End::Up))?;
-        rows.push((
-            Deed::Put("b", 1, n.saturating_add(3)),
-            End::Put(Put::Replaced),
-        ))?;
-        rows.push((Deed::Raise(flag.saturating_add(1)), End::Up))?;
-    }
-    Ok(())
-}
-
-// At the ninth a piece of all other classes is put, and a drain of each is begun, while a point of `b` waits.
-fn push_ninth(rows: &mut Vec<Row>) -> Result<(), AllocError> {
-    rows.push((Deed::Await(16), End::Up))?;
-    rows.push((Deed::PutAll(PIECE), End::PutAll(ALL_STORED)))?;
-    for (class, path) in &OTHERS {
-        rows.push((Deed::Plan(*class), End::Planned(*path)))?;
-    }
-    rows.push((Deed::Watch(18), End::Down))?;
-    rows.push((Deed::Raise(17), End::Up))?;
-    Ok(())
-}
-
-fn meanwhile(alloc: Global) -> Result<Vec<Row>, AllocError> {
-    let mut rows = Vec::new(alloc);
-    push_tries(&mut rows)?;
-    push_ninth(&mut rows)?;
-    Ok(rows)
-}
+// A point of `b` is put at each of eight tries. At the ninth a piece of all other classes is put, and a drain of each is
+// begun, while a point of `b` waits.
+static MEANWHILE: [Row; 43] = [
+    (Deed::Await(0), End::Up),
+    (Deed::Put("b", 1, 3), End::Put(Put::Replaced)),
+    (Deed::Raise(1), End::Up),
+    (Deed::Await(2), End::Up),
+    (Deed::Put("b", 1, 4), End::Put(Put::Replaced)),
+    (Deed::Raise(3), End::Up),
+    (Deed::Await(4), End::Up),
+    (Deed::Put("b", 1, 5), End::Put(Put::Replaced)),
+    (Deed::Raise(5), End::Up),
+    (Deed::Await(6), End::Up),
+    (Deed::Put("b", 1, 6), End::Put(Put::Replaced)),
+    (Deed::Raise(7), End::Up),
+    (Deed::Await(8), End::Up),
+    (Deed::Put("b", 1, 7), End::Put(Put::Replaced)),
+    (Deed::Raise(9), End::Up),
+    (Deed::Await(10), End::Up),
+    (Deed::Put("b", 1, 8), End::Put(Put::Replaced)),
+    (Deed::Raise(11), End::Up),
+    (Deed::Await(12), End::Up),
+    (Deed::Put("b", 1, 9), End::Put(Put::Replaced)),
+    (Deed::Raise(13), End::Up),
+    (Deed::Await(14), End::Up),
+    (Deed::Put("b", 1, 10), End::Put(Put::Replaced)),
+    (Deed::Raise(15), End::Up),
+    (Deed::Await(16), End::Up),
+    (Deed::PutAll(PIECE), End::PutAll(ALL_STORED)),
+    (Deed::Plan(0), End::Planned("e")),
+    (Deed::Plan(1), End::Planned("n")),
+    (Deed::Plan(2), End::Planned("c")),
+    (Deed::Plan(3), End::Planned("d")),
+    (Deed::Plan(4), End::Planned("i")),
+    (Deed::Plan(6), End::Planned("g")),
+    (Deed::Plan(7), End::Planned("h")),
+    (Deed::Plan(8), End::Planned("m")),
+    (Deed::Plan(9), End::Planned("f")),
+    (Deed::Plan(10), End::Planned("k")),
+    (Deed::Plan(11), End::Planned("l")),
+    (Deed::Plan(12), End::Planned("a")),
+    (Deed::Plan(13), End::Planned("j")),
+    (Deed::Plan(14), End::Planned("o")),
+    (Deed::Plan(15), End::Planned("p")),
+    (Deed::Watch(18), End::Down),
+    (Deed::Raise(17), End::Up),
+];
 
 // A point of the class whose desk is kept.
 static WAITS: [Row; 3] = [
@@ -139,12 +135,11 @@ static WAITS: [Row; 3] = [
 // Of the 45 entries 44 are puts and drains, and one is of the question.
 #[test]
 fn a_ninth_try_keeps_the_desk_of_its_class_and_no_other(rt: HostRuntime) -> Result<(), Fail> {
-    let second = meanwhile(rt.alloc())?;
     let case = Case {
         stops: &STOPS,
         before: &BEFORE,
         first: &PLANS,
-        second: second.as_slice(),
+        second: &MEANWHILE,
         entries: 45,
         tally: Tally {
             stored: 18,

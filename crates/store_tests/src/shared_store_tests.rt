@@ -82,10 +82,20 @@ fn assert_case<R: Abort + Threads + Wait + Clock + Sync>(
     entries: u64,
     tally: Tally,
 ) -> Result<(), Fail> {
-    let Ran { jobs, closed } = run_case(rt, alloc, case)?;
-    assert_both(rt, jobs.as_slice(), &[], case.first, case.second)?;
-    assert_counts(rt, &closed, entries, tally);
-    Ok(())
+    let ran = run_case(rt, alloc, case)?;
+    assert_ran(rt, &ran, case.first, case.second, entries, tally)
+}
+
+fn assert_ran(
+    rt: &impl Abort,
+    ran: &Ran<MemDisk>,
+    first: &[Row],
+    second: &[Row],
+    entries: u64,
+    tally: Tally,
+) -> Result<(), Fail> {
+    assert_counts(rt, &ran.closed, entries, tally);
+    assert_both(rt, ran.jobs.as_slice(), &[], first, second)
 }
 
 // ---- drains of all
@@ -257,17 +267,15 @@ fn a_file_of_version_1_is_made_anew_by_the_next_drain(rt: HostRuntime) -> Result
         limit: 10,
         turns: Turns::OneByOne,
     };
-    let jobs = jobs_of(alloc, &[], &REMAKING, &[], &[])?;
-    let Ran { jobs, closed } = run(&rt, alloc, old_disks(alloc)?, scene, jobs)?;
     let tally = Tally {
         stored: 2,
         replaced: 0,
         full: 0,
         drains: 1,
     };
-    assert_both(&rt, jobs.as_slice(), &[], &REMAKING, &[])?;
-    assert_counts(&rt, &closed, 6, tally);
-    Ok(())
+    let jobs = jobs_of(alloc, &[], &REMAKING, &[], &[])?;
+    let ran = run(&rt, alloc, old_disks(alloc)?, scene, jobs)?;
+    assert_ran(&rt, &ran, &REMAKING, &[], 6, tally)
 }
 
 // ---- questions

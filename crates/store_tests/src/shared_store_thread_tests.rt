@@ -551,14 +551,27 @@ fn replay_of(
     job: &Job,
 ) -> Result<Replay, Fail> {
     let mut replay = Replay::new(alloc, caller)?;
+    assert_replay(rt, alloc, &mut replay, jobs, job)?;
+    Ok(replay)
+}
+
+fn assert_replay(
+    rt: &impl Abort,
+    alloc: Global,
+    replay: &mut Replay,
+    jobs: &[Job],
+    job: &Job,
+) -> Result<(), Fail> {
     for (n, (deed, reply)) in job.deeds.iter().zip(job.replies.iter()).enumerate() {
-        assert!(rt;
-            replay.agrees(alloc, jobs, *deed, reply)?,
-            "caller {caller} deed {n}"
-        );
+        let agrees = replay.agrees(alloc, jobs, *deed, reply)?;
+        assert_agrees(rt, agrees, replay.caller, n);
     }
     assert!(rt; job.replies.len() == job.deeds.len());
-    Ok(replay)
+    Ok(())
+}
+
+fn assert_agrees(rt: &impl Abort, agrees: bool, caller: usize, deed: usize) {
+    assert!(rt; agrees, "caller {caller} deed {deed}");
 }
 
 fn replays_of(rt: &impl Abort, alloc: Global, jobs: &[Job]) -> Result<Vec<Replay>, Fail> {
@@ -596,13 +609,12 @@ fn is_before_or_behind(front: &Front, fronts: &[Front]) -> bool {
 
 // Whoever asks, the moments of all questions stand in one order: none has more of one caller and less
 // of another than a second one.
-fn assert_one_order(rt: &impl Abort, fronts: &[Front]) -> Result<(), Fail> {
+fn assert_one_order(rt: &impl Abort, fronts: &[Front]) {
     for (n, front) in fronts.iter().enumerate() {
         assert!(rt; is_before_or_behind(front, fronts), "question {n}");
     }
     // each caller asks for all in every sixteenth round, and the first one at the end
     assert!(rt; fronts.len() == 101);
-    Ok(())
 }
 
 // ---- the files
@@ -717,11 +729,15 @@ fn assert_files(
     for (class, disk) in (0..CLASSES).zip(disks.iter_mut()) {
         let count = count_all_files(alloc, class, disk, replays)?;
         metrics = metrics.saturating_add(count);
-        // each caller has a metric of the class
-        assert!(rt; count == CALLERS, "class {class}");
+        assert_callers(rt, class, count);
     }
     assert!(rt; metrics == 64);
     Ok(())
+}
+
+// Each caller has a metric of the class.
+fn assert_callers(rt: &impl Abort, class: u32, count: usize) {
+    assert!(rt; count == CALLERS, "class {class}");
 }
 
 // ---- the counts
@@ -761,14 +777,18 @@ fn assert_replayed(
     assert!(rt; closed.tally == tally_of(replays));
     assert!(rt; closed.history.len() == entries_of(replays));
     let fronts = all_fronts(alloc, replays)?;
-    assert_one_order(rt, fronts.as_slice())?;
+    assert_one_order(rt, fronts.as_slice());
     assert_files(rt, alloc, closed.disks.as_mut_slice(), replays)
 }
 
 #[test]
 fn four_callers_at_once_are_told_what_they_put(rt: HostRuntime) -> Result<(), Fail> {
     let alloc = rt.alloc();
-    let Ran { jobs, mut closed } = run_all(&rt, alloc)?;
-    let replays = replays_of(&rt, alloc, jobs.as_slice())?;
-    assert_replayed(&rt, alloc, &mut closed, replays.as_slice())
+    let mut ran = run_all(&rt, alloc)?;
+    assert_ran(&rt, alloc, &mut ran)
+}
+
+fn assert_ran(rt: &impl Abort, alloc: Global, ran: &mut Ran<MemDisk>) -> Result<(), Fail> {
+    let replays = replays_of(rt, alloc, ran.jobs.as_slice())?;
+    assert_replayed(rt, alloc, &mut ran.closed, replays.as_slice())
 }

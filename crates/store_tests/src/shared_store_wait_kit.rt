@@ -70,7 +70,15 @@ fn is_next(stop: Stop) -> bool {
     }
 }
 
-fn stopping<R: Clock + Drop>(disk: GateDisk<R>, stop: Stop, gate: Gate<R>) -> GateDisk<R> {
+// A call that waits, and where.
+#[derive(Drop)]
+struct Waiting<R: Clock + Drop> {
+    stop: Stop,
+    gate: Gate<R>,
+}
+
+fn stopping<R: Clock + Drop>(disk: GateDisk<R>, waiting: Waiting<R>) -> GateDisk<R> {
+    let Waiting { stop, gate } = waiting;
     match stop {
         Stop::Create(_) => disk.creating_at(gate),
         Stop::Write(_) => disk.writing_at(gate),
@@ -96,6 +104,37 @@ fn next_gates<R: Clock + Copy + Drop>(
     Ok(gates)
 }
 
+// The other calls of a class that wait.
+fn waits_of<R: Clock + Copy + Drop>(
+    rt: R,
+    alloc: Global,
+    class: u32,
+    stops: &[Stop],
+    flags: &[Flag],
+) -> Result<Vec<Waiting<R>>, Fail> {
+    let mut waits = Vec::new(alloc);
+    for (stop, pair) in stops.iter().zip(flags.chunks(2)) {
+        if !is_next(*stop) && class_of(*stop) == class {
+            let gate = gate_of(rt, pair)?;
+            waits.push(Waiting { stop: *stop, gate })?;
+        }
+    }
+    Ok(waits)
+}
+
+// A disk without files, whose calls wait so.
+fn disk_at<R: Clock + Drop>(
+    alloc: Global,
+    gates: Vec<Gate<R>>,
+    waits: Vec<Waiting<R>>,
+) -> GateDisk<R> {
+    let mut disk = GateDisk::new(MemDisk::new(alloc, 10_000_000)).reading_on(gates);
+    for waiting in waits {
+        disk = stopping(disk, waiting);
+    }
+    disk
+}
+
 // The disk of a class, without files.
 fn disk_of<R: Clock + Copy + Drop>(
     rt: R,
@@ -105,13 +144,8 @@ fn disk_of<R: Clock + Copy + Drop>(
     flags: &[Flag],
 ) -> Result<GateDisk<R>, Fail> {
     let gates = next_gates(rt, alloc, class, stops, flags)?;
-    let mut disk = GateDisk::new(MemDisk::new(alloc, 10_000_000)).reading_on(gates);
-    for (stop, pair) in stops.iter().zip(flags.chunks(2)) {
-        if class_of(*stop) == class {
-            disk = stopping(disk, *stop, gate_of(rt, pair)?);
-        }
-    }
-    Ok(disk)
+    let waits = waits_of(rt, alloc, class, stops, flags)?;
+    Ok(disk_at(alloc, gates, waits))
 }
 
 fn disks_of<R: Clock + Copy + Drop>(
@@ -190,25 +224,31 @@ fn assert_jobs(
     let Some((both, rest)) = jobs.split_at_checked(2) else {
         return Err(Fail::new("there are two callers"));
     };
-    for (job, rows) in rest.iter().zip(others.iter()) {
-        assert_replies(rt, job, &[], rows);
-    }
-    assert!(rt; rest.len() == others.len());
+    assert_others(rt, rest, others);
     assert_both(rt, both, case.before, case.first, case.second)
 }
 
+fn assert_others(rt: &impl Abort, jobs: &[Job], others: &[&[Row]]) {
+    for (job, rows) in jobs.iter().zip(others.iter()) {
+        assert_replies(rt, job, &[], rows);
+    }
+    assert!(rt; jobs.len() == others.len());
+}
+
 // No call of a disk has failed, which would have waited in vain.
+fn assert_closed<D: Disk>(rt: &impl Abort, closed: &Closed<D>, case: &Case<'_>) {
+    assert_counts(rt, closed, case.entries, case.tally);
+    assert!(rt; count_faults(closed.disks.as_slice()) == 0);
+}
+
 fn assert_ran<D: Disk>(
     rt: &impl Abort,
-    jobs: &[Job],
-    closed: &Closed<D>,
+    ran: &Ran<D>,
     case: &Case<'_>,
     others: &[&[Row]],
 ) -> Result<(), Fail> {
-    assert_jobs(rt, jobs, case, others)?;
-    assert_counts(rt, closed, case.entries, case.tally);
-    assert!(rt; count_faults(closed.disks.as_slice()) == 0);
-    Ok(())
+    assert_closed(rt, &ran.closed, case);
+    assert_jobs(rt, ran.jobs.as_slice(), case, others)
 }
 
 // A case with callers beside the two.
@@ -218,8 +258,8 @@ pub(crate) fn assert_among<R: Threads + Wait + Abort + Clock + Copy + Send + Syn
     case: &Case<'_>,
     others: &[&[Row]],
 ) -> Result<(), Fail> {
-    let Ran { jobs, closed } = run_case(rt, alloc, case, others)?;
-    assert_ran(rt, jobs.as_slice(), &closed, case, others)
+    let ran = run_case(rt, alloc, case, others)?;
+    assert_ran(rt, &ran, case, others)
 }
 
 pub(crate) fn assert_case<R: Threads + Wait + Abort + Clock + Copy + Send + Sync + Drop>(
@@ -281,12 +321,36 @@ fn assert_files<D: Disk>(
 ) -> Result<(), Fail> {
     let mut found = 0usize;
     for (class, disk) in (0..CLASSES).zip(disks.iter_mut()) {
-        let count = count_kept(alloc, class, disk, files)?;
-        assert!(rt; count_names(disk)? == count, "class {class}");
-        found = found.saturating_add(count);
+        found = found.saturating_add(assert_class(rt, alloc, class, disk, files)?);
     }
     assert!(rt; found == files.len());
     Ok(())
+}
+
+// How many of them the disk of a class has, and no others.
+fn assert_class<D: Disk>(
+    rt: &impl Abort,
+    alloc: Global,
+    class: u32,
+    disk: &mut D,
+    files: &[Kept],
+) -> Result<usize, Fail> {
+    let count = count_kept(alloc, class, disk, files)?;
+    let names = count_names(disk)?;
+    assert!(rt; names == count, "class {class}");
+    Ok(count)
+}
+
+fn assert_left<D: Disk>(
+    rt: &impl Abort,
+    alloc: Global,
+    ran: &mut Ran<D>,
+    case: &Case<'_>,
+    others: &[&[Row]],
+    files: &[Kept],
+) -> Result<(), Fail> {
+    assert_ran(rt, ran, case, others)?;
+    assert_files(rt, alloc, ran.closed.disks.as_mut_slice(), files)
 }
 
 pub(crate) fn assert_kept<R: Threads + Wait + Abort + Clock + Copy + Send + Sync + Drop>(
@@ -296,7 +360,6 @@ pub(crate) fn assert_kept<R: Threads + Wait + Abort + Clock + Copy + Send + Sync
     others: &[&[Row]],
     files: &[Kept],
 ) -> Result<(), Fail> {
-    let Ran { jobs, mut closed } = run_case(rt, alloc, case, others)?;
-    assert_ran(rt, jobs.as_slice(), &closed, case, others)?;
-    assert_files(rt, alloc, closed.disks.as_mut_slice(), files)
+    let mut ran = run_case(rt, alloc, case, others)?;
+    assert_left(rt, alloc, &mut ran, case, others, files)
 }

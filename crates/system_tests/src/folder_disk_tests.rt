@@ -20,8 +20,10 @@ enum Step {
     Read(&'static str, u64),
     Write(&'static str, u64, &'static str),
     Sync,
-    // a write of so many sevens, a write of the bytes that a long file has from one place up to another, and whether they are read there
+    // a write of so many sevens, and whether a file has so many zero bytes and no others
     WriteSevens(&'static str, usize),
+    IsZeros(&'static str, usize),
+    // a write of the bytes that a long file has from one place up to another, and whether they are read there
     WriteLong(&'static str, usize, usize),
     IsLong(&'static str, usize, usize),
     // what others do: a link to a file, a file with a text, a rename, a file removed, a folder made
@@ -50,7 +52,9 @@ struct Story {
     told: &'static str,
 }
 
-static STORIES: [Story; 20] = [
+// A table costs a proof by the square of its steps, so these stand in six.
+// The calls of a disk.
+static CALLS: [Story; 5] = [
     Story {
         title: "no folder has no names",
         steps: &[Step::Names, Step::Length("c")],
@@ -106,6 +110,10 @@ static STORIES: [Story; 20] = [
         ],
         told: "failed failed [] ",
     },
+];
+
+// Links among its files and folders.
+static LINKS: [Story; 3] = [
     Story {
         title: "a link to a file is a fault of each call, and the file is left alone",
         steps: &[
@@ -151,6 +159,10 @@ static STORIES: [Story; 20] = [
         ],
         told: "ok ok failed failed failed failed failed failed [d,e/c] \\0\\0 ok ",
     },
+];
+
+// Which files of a name are made anew.
+static WHOLE: [Story; 5] = [
     Story {
         title: "a ring file that is whole is not made anew",
         steps: &[
@@ -216,6 +228,72 @@ static STORIES: [Story; 20] = [
         ],
         told: "ok ok failed 20 ",
     },
+];
+
+// A log that is made anew is written over where it stands, in pieces of 4,096 bytes.
+static ANEW: [Story; 4] = [
+    Story {
+        title: "a log that is as long as the one before has zeros alone",
+        steps: &[
+            Step::Create("redo.log", 9_000),
+            Step::WriteSevens("redo.log", 9_000),
+            Step::Create("redo.log", 9_000),
+            Step::IsZeros("redo.log", 9_000),
+            Step::WriteSevens("redo.log", 4_096),
+            Step::Over(Kind::Data, ""),
+            Step::Create("redo.log", 9_000),
+            Step::IsZeros("redo.log", 9_000),
+        ],
+        told: "ok ok ok ok ok ok ok ",
+    },
+    Story {
+        title: "so has one that is longer, and one that is longer than that",
+        steps: &[
+            Step::Create("redo.log", 75),
+            Step::WriteSevens("redo.log", 75),
+            Step::Create("redo.log", 4_097),
+            Step::IsZeros("redo.log", 4_097),
+            Step::WriteSevens("redo.log", 4_097),
+            Step::Create("redo.log", 9_000),
+            Step::IsZeros("redo.log", 9_000),
+        ],
+        told: "ok ok ok ok ok ok ok ",
+    },
+    Story {
+        title: "and one that is shorter, also where it grows again, or has no byte",
+        steps: &[
+            Step::Create("redo.log", 9_000),
+            Step::WriteSevens("redo.log", 9_000),
+            Step::Create("redo.log", 75),
+            Step::IsZeros("redo.log", 75),
+            Step::WriteSevens("redo.log", 75),
+            Step::Create("redo.log", 0),
+            Step::Length("redo.log"),
+            Step::Create("redo.log", 9_000),
+            Step::IsZeros("redo.log", 9_000),
+        ],
+        told: "ok ok ok ok ok ok 0 ok ok ",
+    },
+    Story {
+        title: "what another put under its name is written over too, and is synced",
+        steps: &[
+            Step::Create("redo.log", 4),
+            Step::Sync,
+            Step::Put("d", "other text"),
+            Step::Rename("d", "redo.log"),
+            Step::Create("redo.log", 6),
+            Step::IsZeros("redo.log", 6),
+            Step::Write("redo.log", 1, "xy"),
+            Step::Sync,
+            Step::Read("redo.log", 1),
+            Step::Length("redo.log"),
+        ],
+        told: "ok ok ok ok ok ok xy 6 ",
+    },
+];
+
+// Files of version 1.
+static OLD: [Story; 3] = [
     Story {
         title: "a file of version 1 that was listed is made anew, also by its second disk",
         steps: &[
@@ -275,6 +353,10 @@ static STORIES: [Story; 20] = [
         ],
         told: "none ok 18 \\0\\0 failed [a/c.ring,d.ring] ot ",
     },
+];
+
+// Files that the log has brought to their length, and the bounds of that.
+static LOGGED: [Story; 4] = [
     Story {
         title: "so is a ring file that the log has brought to its length, but none of another length, and none behind the list",
         steps: &[
@@ -516,7 +598,7 @@ static LINKED: [Story; 1] = [Story {
 }];
 
 // What a sync that fails tells, and one that succeeds; that a device then has the bytes, no test sees.
-static SYNCED: [Story; 11] = [
+static SYNCED: [Story; 12] = [
     Story {
         title: "where there is no folder and nothing was written, nothing awaits a sync",
         steps: &[Step::Sync, Step::Names, Step::Sync],
@@ -589,6 +671,22 @@ static SYNCED: [Story; 11] = [
             Step::Sync,
         ],
         told: "ok failed failed ok ok ",
+    },
+    Story {
+        title: "a file that was replaced is a fault, also where the other one was opened since",
+        steps: &[
+            Step::Create("c", 4),
+            Step::Create("d", 4),
+            Step::Sync,
+            Step::Write("c", 0, "ab"),
+            Step::Write("d", 0, "cd"),
+            Step::Put("e", "text"),
+            Step::Rename("e", "c"),
+            Step::Read("c", 0),
+            Step::Sync,
+            Step::Sync,
+        ],
+        told: "ok ok ok ok ok te failed ok ",
     },
     Story {
         title: "a file that another call closed is synced, and is a fault where it was removed",
@@ -717,12 +815,25 @@ fn told(rt: &HostRuntime, folder: &str, steps: &[Step]) -> Result<String, AllocE
     let mut disk = new_disk(rt, folder, Kind::Data, "")?;
     let mut told = String::new(rt.alloc());
     for step in steps {
-        match step {
-            Step::Over(kind, name) => disk = new_disk(rt, folder, *kind, name)?,
-            step => tell(rt, folder, &mut told, &mut disk, step)?,
-        }
+        disk = disk_behind(rt, folder, &mut told, disk, step)?;
     }
     Ok(told)
+}
+
+// The disk that the next step is of.
+fn disk_behind(
+    rt: &HostRuntime,
+    folder: &str,
+    told: &mut String,
+    disk: FolderDisk<HostRuntime>,
+    step: &Step,
+) -> Result<FolderDisk<HostRuntime>, AllocError> {
+    if let Step::Over(kind, name) = step {
+        return new_disk(rt, folder, *kind, name);
+    }
+    let mut disk = disk;
+    tell(rt, folder, told, &mut disk, step)?;
+    Ok(disk)
 }
 
 fn tell(
@@ -740,12 +851,13 @@ fn tell(
         Step::Write(name, at, piece) => {
             tell_end(told, disk.write_at(name, *at, piece.as_bytes()).is_ok())
         }
-        Step::WriteSevens(name, len) => tell_end(told, write_sevens(rt.alloc(), disk, name, *len)?),
+        Step::WriteSevens(name, len) => tell_done(told, write_sevens(rt.alloc(), disk, name, *len)),
+        Step::IsZeros(name, len) => tell_done(told, is_zeros(rt.alloc(), disk, name, *len)),
         Step::WriteLong(name, first, end) => {
-            tell_end(told, write_long(rt.alloc(), disk, name, *first, *end)?)
+            tell_done(told, write_long(rt.alloc(), disk, name, *first, *end))
         }
         Step::IsLong(name, first, end) => {
-            tell_end(told, is_long(rt.alloc(), disk, name, *first, *end)?)
+            tell_done(told, is_long(rt.alloc(), disk, name, *first, *end))
         }
         Step::Sync => tell_end(told, disk.sync().is_ok()),
         step => tell_deed(told, act(rt, folder, step).is_ok()),
@@ -754,6 +866,10 @@ fn tell(
 
 fn tell_end(told: &mut String, is_ok: bool) -> Result<(), AllocError> {
     told.push_str(if is_ok { "ok " } else { "failed " })
+}
+
+fn tell_done(told: &mut String, done: Result<bool, AllocError>) -> Result<(), AllocError> {
+    tell_end(told, done?)
 }
 
 // What others do is not told, unless it cannot be done.
@@ -836,6 +952,18 @@ fn write_sevens(
 ) -> Result<bool, AllocError> {
     let bytes = vec![in alloc; 7; len]?;
     Ok(disk.write_at(name, 0, &bytes).is_ok())
+}
+
+fn is_zeros(
+    alloc: Global,
+    disk: &mut FolderDisk<HostRuntime>,
+    name: &str,
+    len: usize,
+) -> Result<bool, AllocError> {
+    let mut held = vec![in alloc; b'?'; len]?;
+    let is_read = disk.read_at(name, 0, &mut held).is_ok();
+    let is_long = matches!(disk.length(name), Ok(Some(long)) if long == len as u64);
+    Ok(is_read && is_long && held.iter().all(|byte| *byte == 0))
 }
 
 fn write_long(
@@ -934,15 +1062,48 @@ fn assert_stories(
     Ok(())
 }
 
-#[test]
-fn a_folder_is_a_disk_while_others_use_it(rt: HostRuntime) -> Result<(), Fail> {
+fn assert_told(rt: &impl Abort, host: &HostRuntime, stories: &[Story]) -> Result<(), Fail> {
     assert_stories(
-        &rt,
-        &rt,
+        rt,
+        host,
         "folder_disk_story",
         "folder_disk_story/disk",
-        &STORIES,
+        stories,
     )
+}
+
+fn assert_calls(rt: &impl Abort, host: &HostRuntime) -> Result<(), Fail> {
+    assert_told(rt, host, &CALLS)
+}
+
+fn assert_links(rt: &impl Abort, host: &HostRuntime) -> Result<(), Fail> {
+    assert_told(rt, host, &LINKS)
+}
+
+fn assert_whole(rt: &impl Abort, host: &HostRuntime) -> Result<(), Fail> {
+    assert_told(rt, host, &WHOLE)
+}
+
+fn assert_old(rt: &impl Abort, host: &HostRuntime) -> Result<(), Fail> {
+    assert_told(rt, host, &OLD)
+}
+
+fn assert_logged(rt: &impl Abort, host: &HostRuntime) -> Result<(), Fail> {
+    assert_told(rt, host, &LOGGED)
+}
+
+#[test]
+fn a_folder_is_a_disk_while_others_use_it(rt: HostRuntime) -> Result<(), Fail> {
+    assert_calls(&rt, &rt)?;
+    assert_links(&rt, &rt)?;
+    assert_whole(&rt, &rt)?;
+    assert_old(&rt, &rt)?;
+    assert_logged(&rt, &rt)
+}
+
+#[test]
+fn a_log_is_made_anew_with_zeros_alone(rt: HostRuntime) -> Result<(), Fail> {
+    assert_stories(&rt, &rt, "folder_disk_anew", "folder_disk_anew/disk", &ANEW)
 }
 
 #[test]

@@ -39,9 +39,12 @@ fn gated_link<R: Wait + Clock + Copy + Drop>(
     flags: &Flags,
     sent: &Sent,
 ) -> Result<GateLink<R>, AllocError> {
-    let link = GateLink::new(rt, source(alloc, b"")?, sent.share()?);
-    let link = link.writing_at(gate(rt, flags)?);
-    Ok(link.marking(3, flags.marked.share()?))
+    let gate = gate(rt, flags)?;
+    let marked = flags.marked.share()?;
+    let sent = sent.share()?;
+    let source = source(alloc, b"")?;
+    let link = GateLink::new(rt, source, sent).writing_at(gate);
+    Ok(link.marking(3, marked))
 }
 
 // Two bytes are written and then a third one, which is marked.
@@ -70,14 +73,18 @@ fn a_write_goes_through_an_open_gate_and_is_kept(rt: HostRuntime) -> Result<(), 
 
 #[test]
 fn a_read_gives_the_bytes_of_its_source(rt: HostRuntime) -> Result<(), Fail> {
-    let alloc = rt.alloc();
-    let mut link = GateLink::new(rt, source(alloc, b"x")?, Sent::new(alloc)?);
+    let source = source(rt.alloc(), b"x")?;
+    let sent = Sent::new(rt.alloc())?;
+    assert_read(&rt, &mut GateLink::new(rt, source, sent));
+    Ok(())
+}
+
+fn assert_read<S: Source>(rt: &impl Abort, link: &mut S) {
     let mut buffer = [0; 4];
     let told = link.read(&mut buffer);
     assert!(rt; told == ReadEnd::Got(1) && buffer == [b'x', 0, 0, 0]);
     let told = link.read(&mut buffer);
     assert!(rt; told == ReadEnd::End && link.read_faults() == 0);
-    Ok(())
 }
 
 fn link(alloc: Global, bytes: &[u8]) -> Result<MemLink, AllocError> {
@@ -105,13 +112,24 @@ fn links(alloc: Global, bytes: &[u8]) -> Result<Vec<MemLink>, AllocError> {
     Ok(links)
 }
 
+// What the next links of both ports bring, and the next one for lines.
+fn first_bytes<R: Wait>(net: &mut MemNet<MemLink, R>) -> [Option<u8>; 3] {
+    [
+        first_byte(net.next_lines()),
+        first_byte(net.next_http()),
+        first_byte(net.next_lines()),
+    ]
+}
+
+fn has_none<R: Wait>(net: &mut MemNet<MemLink, R>) -> bool {
+    net.next_lines().is_none() && net.next_http().is_none()
+}
+
 // The links that are left bring these bytes.
 fn assert_given<R: Wait>(rt: &impl Abort, net: &mut MemNet<MemLink, R>) {
     assert!(rt; net.bind(2003, 8080, 0).is_ok() && net.faults() == 0);
-    assert!(rt; first_byte(net.next_lines()) == Some(b'1'));
-    assert!(rt; first_byte(net.next_http()) == Some(b'3'));
-    assert!(rt; first_byte(net.next_lines()) == Some(b'2'));
-    assert!(rt; net.next_lines().is_none() && net.next_http().is_none());
+    assert!(rt; first_bytes(net) == [Some(b'1'), Some(b'3'), Some(b'2')]);
+    assert!(rt; has_none(net));
 }
 
 #[test]

@@ -258,7 +258,7 @@ fn listed_calls_of_a_disk_fail_and_are_counted(rt: HostRuntime) -> Result<(), Fa
 }
 
 // A disk with a file of four bytes, of which the second write fails: the bytes afterwards.
-fn written_twice(mut disk: MemDisk) -> Result<[u8; 4], DiskFailed> {
+fn written_twice(disk: &mut MemDisk) -> Result<[u8; 4], DiskFailed> {
     let mut buf = [9u8; 4];
     disk.create("a", 4)?;
     disk.write_at("a", 1, b"xy")?;
@@ -276,7 +276,7 @@ fn listed_writes_fail_and_change_nothing_or_tear(rt: HostRuntime) -> Result<(), 
         if tears {
             disk = disk.tearing();
         }
-        assert!(rt; written_twice(disk) == Ok(wanted), "tears {tears}");
+        assert!(rt; written_twice(&mut disk) == Ok(wanted), "tears {tears}");
     }
     Ok(())
 }

@@ -2,7 +2,7 @@ use Rattle.std.proofs.Common.{◌≡◌, ◌≢◌, Less, ℕ, ◌+◌, Bool, fa
 use Rattle.std.proofs.lemmas.Map.Keys.{sorted_tail}
 use Rattle.find_api.specs.Nodes.{Tells}
 use Rattle.find_api.proofs.FindLemmas.{behind_branch, branch_front}
-use Rattle.find_api.proofs.RunLemmas.{later_from, order}
+use Rattle.path_glob.proofs.FrontLemmas.{later_from, order}
 use Rattle.find_api.proofs.find.behind_node.Goals as goal
 
 pub behind_run-requires-clause-rising : goal.behind_run-requires-clause-rising

@@ -1,5 +1,8 @@
-use Rattle.std.proofs.Common.{◌≡◌, take}
+use Rattle.std.proofs.Common.{◌≡◌, ◌++◌, reverse, length}
 use Rattle.series_set.proofs.reading.readings.Given as goal
 
 abbrev pub invariant-loop-value : goal.invariant-loop-value
-invariant-loop-value l = l.readings.items ≡ take l.value-index l.values
+invariant-loop-value l = l.values.items ++ reverse l.readings.items ≡ l.fn.values.items
+
+abbrev pub decreases-loop-value : goal.decreases-loop-value
+decreases-loop-value l = length l.values.items

@@ -19,7 +19,7 @@ from_legal-requires c =
     } in
     let window : looked.window ≡ Range c.in-Range.i c.in-Range.first c.in-Range.field-2 = search rules in
     let step : c.from-step.result ≡ c.archive.result.step = search rules in
-    let values : c.in_ok-values.values.items ≡ c.args.values = c.in_ok-values.ensures ∙ c.list.ensures in
+    let values : c.in_ok-values.values.items ≡ c.args.values = c.in_ok-values.ensures ∙ c.into_vec.ensures in
     let buckets : HasBuckets looked.layout looked.window (length c.in_ok-values.values.items) =
     subst (λ (v : List (Option ℤ)). HasBuckets looked.layout looked.window (length v)) (sym values) c.requires.count in
     is_series looked c.in-Range.i c.in-Range.first c.in-Range.field-2 window c.archive.result c.archive.ensures.value series refl step buckets c.archive.ensures.step.0 c.archive.ensures.step.1 c.requires.few
@@ -36,7 +36,7 @@ returns c =
     } in
     let window : looked.window ≡ Range c.in-Range.i c.in-Range.first c.in-Range.field-2 = search rules in
     let step : c.from-step.result ≡ c.archive.result.step = search rules in
-    let values : c.in_ok-values.values.items ≡ c.args.values = c.in_ok-values.ensures ∙ c.list.ensures in
+    let values : c.in_ok-values.values.items ≡ c.args.values = c.in_ok-values.ensures ∙ c.into_vec.ensures in
     let buckets : HasBuckets looked.layout looked.window (length c.in_ok-values.values.items) =
     subst (λ (v : List (Option ℤ)). HasBuckets looked.layout looked.window (length v)) (sym values) c.requires.count in
     let path : string_bytes c.in_ok-path.path ≡ looked.path = c.in_ok-path.ensures.ok ∙ c.as_str-2.ensures.value in

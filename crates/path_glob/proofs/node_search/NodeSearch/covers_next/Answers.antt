@@ -2,7 +2,7 @@ use Rattle.std.proofs.Common.{List, sym, subst, ℕ}
 use Rattle.path_glob.specs.Glob.{NodeCovers}
 use Rattle.path_glob.specs.Reading.{pieces_of}
 use Rattle.path_glob.proofs.CoverLemmas.{Tells}
-use Rattle.path_glob.proofs.node_search.NodeSearch.covers.Goals as goal
+use Rattle.path_glob.proofs.node_search.NodeSearch.covers_next.Goals as goal
 
 pub returns-in-Some-clause-covers : goal.returns-in-Some-clause-covers
 returns-in-Some-clause-covers c =

@@ -1,8 +1,8 @@
 use Rattle.std.proofs.Common.{sym, subst}
 use Rattle.std.proofs.lemmas.List.{take_rest}
-use Rattle.find_api.specs.Runs.{IsBehindRun}
-use Rattle.find_api.proofs.RunLemmas.{behind_from_parts}
-use Rattle.find_api.proofs.run.behind_run.Goals as goal
+use Rattle.path_glob.specs.Fronts.{IsBehindRun}
+use Rattle.path_glob.proofs.FrontLemmas.{behind_from_parts}
+use Rattle.path_glob.proofs.run.behind_run.Goals as goal
 
 pub returns : goal.returns
 returns c =

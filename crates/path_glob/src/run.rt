@@ -5,13 +5,13 @@ ghost use Rattle.std.specs.List.Sorted.{IsStrictlySortedBy};
 ghost use Rattle.std.specs.Ordering.{nat_cmp};
 ghost use Rattle.std.specs.declared.cmp.Ordering.TheVariants.{Less};
 ghost use Rattle.path_glob.specs.Laws.{BeginsWith};
-ghost use Rattle.find_api.specs.Runs.{IsBehindRun, IsRun};
+ghost use Rattle.path_glob.specs.Fronts.{IsBehindRun, IsRun};
 
+use crate::laws::texts_with_one_front_stand_together;
 use metric_path::MetricPath;
-use path_glob::texts_with_one_front_stand_together;
 
 /// The names that begin with these bytes, found by halves.
-pub(crate) fn run_of<'a>(names: &'a [MetricPath], front: &[u8]) -> &'a [MetricPath]
+pub fn run_of<'a>(names: &'a [MetricPath], front: &[u8]) -> &'a [MetricPath]
     requires { IsStrictlySortedBy (slice_cmp nat_cmp) names.now }
     ensures { IsRun front.now names.now result.now }
 {
@@ -22,7 +22,7 @@ pub(crate) fn run_of<'a>(names: &'a [MetricPath], front: &[u8]) -> &'a [MetricPa
 }
 
 /// The names behind those that begin with these bytes, found by halves, where none is below the bytes.
-pub(crate) fn behind_run<'a>(names: &'a [MetricPath], front: &[u8]) -> &'a [MetricPath]
+pub fn behind_run<'a>(names: &'a [MetricPath], front: &[u8]) -> &'a [MetricPath]
     requires rising { IsStrictlySortedBy (slice_cmp nat_cmp) names.now }
     requires from { All (λ name. slice_cmp nat_cmp name front.now ≢ Less) names.now }
     ensures { IsBehindRun front.now names.now result.now }

@@ -12,7 +12,7 @@ use Rattle.std.proofs.lemmas.List.{get_or-drop, get_or-take, length-take-le, tak
 use Rattle.std.proofs.lemmas.Slice.Eq.{starts_is}
 use Rattle.std.proofs.lemmas.Map.Keys.{Less-from_sorted, sorted_head, sorted_tail}
 use Rattle.path_glob.specs.Laws.{BeginsWith}
-use Rattle.find_api.specs.Runs.{IsBehindRun, IsRun}
+use Rattle.path_glob.specs.Fronts.{IsBehindRun, IsRun}
 
 -- the order of bytes
 abbrev pub order : List ℕ → List ℕ → Ordering

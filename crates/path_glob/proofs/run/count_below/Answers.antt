@@ -1,8 +1,8 @@
 use Rattle.std.proofs.Common.{◌≡◌, ◌≢◌, Less, true, false, rules}
 use Rattle.std.specs.Ordering.{is_lt}
 use Rattle.std.proofs.lemmas.List.Sorted.{IsPartitionPoint-from_clause}
-use Rattle.find_api.proofs.RunLemmas.{all_before, all_behind, below_first, lt_is, not_lt, order}
-use Rattle.find_api.proofs.run.count_below.Goals as goal
+use Rattle.path_glob.proofs.FrontLemmas.{all_before, all_behind, below_first, lt_is, not_lt, order}
+use Rattle.path_glob.proofs.run.count_below.Goals as goal
 
 pub returns-clause-below : goal.returns-clause-below
 returns-clause-below c =

@@ -1,8 +1,8 @@
 use Rattle.std.proofs.Common.{◌≡◌, true, false, rules}
 use Rattle.std.proofs.lemmas.List.Sorted.{IsPartitionPoint-from_clause}
 use Rattle.path_glob.specs.Laws.{BeginsWith}
-use Rattle.find_api.proofs.RunLemmas.{all_before, all_behind, begins, begins_is, begins_not, run_first}
-use Rattle.find_api.proofs.run.count_run.Goals as goal
+use Rattle.path_glob.proofs.FrontLemmas.{all_before, all_behind, begins, begins_is, begins_not, run_first}
+use Rattle.path_glob.proofs.run.count_run.Goals as goal
 
 pub returns-clause-run : goal.returns-clause-run
 returns-clause-run c =

@@ -2,9 +2,9 @@ use Rattle.std.proofs.Common.{ℕ, List, All, drop, sym, subst, take}
 use Rattle.std.specs.List.Sorted.{IsStrictlySortedBy}
 use Rattle.std.proofs.lemmas.List.{take_rest}
 use Rattle.path_glob.specs.Laws.{BeginsWith}
-use Rattle.find_api.specs.Runs.{IsRun}
-use Rattle.find_api.proofs.RunLemmas.{order, rising_drop, run_from_parts}
-use Rattle.find_api.proofs.run.run_of.Goals as goal
+use Rattle.path_glob.specs.Fronts.{IsRun}
+use Rattle.path_glob.proofs.FrontLemmas.{order, rising_drop, run_from_parts}
+use Rattle.path_glob.proofs.run.run_of.Goals as goal
 
 pub count_run-requires-clause-rising : goal.count_run-requires-clause-rising
 count_run-requires-clause-rising c =
