@@ -1,5 +1,5 @@
 //! The ports of the system, and their clean stop.
-ghost use Rattle.std.specs.Prelude.{◌≡◌};
+ghost use Rattle.std.specs.Prelude.{◌≡◌, ⊤};
 
 use carbon_words::{Hosts, ServeOptions};
 use outside_io::{Net, NetFailed};
@@ -54,6 +54,8 @@ impl Net for HostNet {
     type L = TcpLink<HostRuntime>;
 
     ghost faults = { λ net. net.faults };
+
+    ghost closes = { λ _. ⊤ };
 
     fn faults(&self) -> u64 {
         self.faults

@@ -1,5 +1,6 @@
 mod CommandLemmas
 pub mod ConfLemmas
+mod DrainedLemmas
 pub mod FrontLemmas
 mod HeadlineLemmas
 pub mod RunLemmas

@@ -17,14 +17,14 @@ use Rattle.ring_format.specs.Patch.{PatchValue}
 use Rattle.carbon_model.specs.State.{Kept, State}
 use Rattle.carbon_model.specs.RingFiles.{Settings, Stands, StandsUnder}
 use Rattle.carbon_model.specs.Replay.{IsLegalHistory, replay}
-use Rattle.shard_core.specs.Opened.{IsOpening, StillOpens}
+use Rattle.shard_core.specs.Opened.{StillOpens}
 use Rattle.shard_core.specs.declared.fault.StartFault.TheVariants.{NoMemory}
 use Rattle.shard_core.specs.declared.shard.Shard.{Shard}
 use Rattle.shard_set.specs.Disks.{disk_faults, faults_at, told_at, told_of}
 use Rattle.shard_set.specs.Opening.{StartsAll}
 use Rattle.shard_core.specs.Started.{AreReadyShards}
 use Rattle.shard_set.specs.OpeningState.{opening_of}
-use Rattle.shard_set.proofs.OpeningLemmas.{opens_known}
+use Rattle.shard_set.proofs.OpeningLemmas.{still_all}
 use Rattle.shard_set.proofs.StateLemmas.{opens_run}
 use Rattle.shared_history.specs.Parts.{HasSeen, PassValue, PassesOfTable}
 use Rattle.shared_store.specs.Closes.{Closes, EndsAs, HasSettled}
@@ -87,19 +87,21 @@ drained : {D : Type 0} (d : Ghosts D) (told : ℕ → Option Image) (start : Sta
     → EndsFrom told start from end.Done left before left' session mid → history ≡ session.pass.seen → length disks ≡ 16
     → ((k : ℕ) (disk : D) → slice_get disks k ≡ Some disk → EndsAs d told start earlier (session.pass ∷ []) history k disk)
     → IsDrained d.image told disks (replay start history)
-drained d told start from earlier session left before left' mid history disks ends same sixteen each =
+drained {D} d told start from earlier session left before left' mid history disks ends same sixteen each =
     let whole = ends.ends.0 in
     let means = whole.means in
-    let entries : history ≡ whole.last.entries = same ∙ means.seen in record {
+    let entries : history ≡ whole.last.entries = same ∙ means.seen in
+    let settled : (k : ℕ) (disk : D) → slice_get disks k ≡ Some disk → drains (about_class k history) ≤ settled_in k session.pass = λ k disk at.
+    let few : k < 16 = omega (arith, sixteen, slice_get_within disks k disk at) in
+    subst (λ (es : List Entry). drains (about_class k es) ≤ settled_in k session.pass) (sym entries) (means.settled k (whole.run.drained.none k few)) in record {
       none = λ class few.
           subst (λ (es : List Entry). (replay start es).pending class ≡ []) (sym entries)
           (subst (λ (s : State). s.pending class ≡ []) means.state (none_pending whole.run.last whole.run.count whole.last whole.run.drained class few));
       stand = λ k.
+          stands_each (slice_get disks k) _ (λ disk at. ends_alone d told start earlier session.pass history k disk (settled k disk at) (each k disk at));
+      shut = λ k.
           stands_each (slice_get disks k) _ (λ disk at.
-          let few : k < 16 = omega (arith, sixteen, slice_get_within disks k disk at) in
-          let settled : drains (about_class k history) ≤ settled_in k session.pass =
-          subst (λ (es : List Entry). drains (about_class k es) ≤ settled_in k session.pass) (sym entries) (means.settled k (whole.run.drained.none k few)) in
-          ends_alone d told start earlier session.pass history k disk settled (each k disk at));
+          let ends = each k disk at in ends.shut (ends.whole (record { place = 0; pass = session.pass; there = refl; all = settled k disk at })));
     }
 
 drained_over : {D : Type 0} (d : Ghosts D) (told : ℕ → Option Image) (start : State) (earlier : ℕ → ℕ) (session : SessionValue) (front left before left' mid : Option (List ℕ)) (history : List Entry) (disks : List D)
@@ -265,6 +267,7 @@ came_earlier d told start earlier earlier' streams answer later came = record {
         stands = ends.stands;
         last = ends.last;
         whole = ends.whole;
+        shut = ends.shut;
         faults = less_told (earlier k) (earlier' k) (count_by is_fault (about_class k answer.history)) (d.faults disk) (later k) ends.faults;
       };
   done = came.done;
@@ -289,10 +292,10 @@ length_back [] = refl
 length_back (shard ∷ shards) = ap suc (length_back shards)
 
 -- they open as they did
-pub back_opens : {D : Type 0} {d : Ghosts D} (given back : List D) (shards : List (Shard D d)) → back ≡ map (λ shard. shard.files.disk) shards → ((k : ℕ) → WhereKnown (told_of d.image given k) (told_at shards k) IsOpening)
+pub back_opens : {D : Type 0} {d : Ghosts D} (given back : List D) (shards : List (Shard D d)) → back ≡ map (λ shard. shard.files.disk) shards → ((k : ℕ) → WhereKnown (told_of d.image given k) (told_at shards k) StillOpens)
     → (k : ℕ) → WhereKnown (told_of d.image given k) (told_of d.image back k) StillOpens
-back_opens {d = d} given back shards is opening k = opens_known (told_of d.image given k) (told_of d.image back k)
-    (subst (λ (o : Option Image). WhereKnown (told_of d.image given k) o IsOpening) (sym (ap (λ (ds : List _). told_of d.image ds k) is ∙ back_same shards k)) (opening k))
+back_opens {d = d} given back shards is opens k =
+    subst (λ (o : Option Image). WhereKnown (told_of d.image given k) o StillOpens) (sym (ap (λ (ds : List _). told_of d.image ds k) is ∙ back_same shards k)) (opens k)
 
 -- shards of these disks started: memory runs out for their history, or the script runs
 pub started : {D : Type 0} {d : Ghosts D} (settings : Settings) (redo : Bool) (given : List D) (shards : List (Shard D d)) (streams : Streams) (answer : Answer D) → StartsAll settings redo given shards
@@ -302,7 +305,7 @@ started {d = d} settings redo given shards streams answer starts (inl lacks) = i
   refuses = record {
     class = omega arith;
     all = ap (λ (ds : List _). length ds) lacks.disks ∙ (length_back shards ∙ starts.all);
-    opens = back_opens given answer.disks shards lacks.disks starts.opening;
+    opens = back_opens given answer.disks shards lacks.disks (still_all settings redo given shards starts);
     damaged = tt;
     below = λ k few. absurd (omega (arith, few));
     cause = λ failed. absurd failed;

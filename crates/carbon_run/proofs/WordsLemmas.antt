@@ -15,10 +15,10 @@ no_words words.Usage streams given answer tells history disks input = inl (recor
 no_words words.NoMemory streams given answer tells history disks input = inr (record { tells = tells; history = history; disks = disks; input = input })
 
 pub no_outcome : {D E L : Type 0} (d : Ghosts D) (b : Beside E L) (fault : WordsFault) (said : Option Command) (folder folder' : D) (streams : Streams) (given : List D) (answer : Answer D)
-    → (fault ≡ words.Usage → said ≡ None)
+    → (fault ≡ words.Usage → said ≡ None) → b.net' ≡ b.net
     → TellsWords fault answer.status streams.written streams.written' → answer.history ≡ [] → answer.disks ≡ given → streams.left' ≡ streams.left
     → IfSome said (λ command. Outcome d b command folder folder' streams given answer)
-no_outcome d b fault None folder folder' streams given answer usage tells history disks input = tt
-no_outcome d b words.Usage (Some command) folder folder' streams given answer usage tells history disks input = absurd (cc (usage refl))
-no_outcome d b words.NoMemory (Some command) folder folder' streams given answer usage tells history disks input =
-    inl (record { tells = tells; history = history; disks = disks; input = input })
+no_outcome d b fault None folder folder' streams given answer usage net tells history disks input = tt
+no_outcome d b words.Usage (Some command) folder folder' streams given answer usage net tells history disks input = absurd (cc (usage refl))
+no_outcome d b words.NoMemory (Some command) folder folder' streams given answer usage net tells history disks input =
+    inl (net, record { tells = tells; history = history; disks = disks; input = input })

@@ -54,7 +54,9 @@ pub record HasRules {D E L : Type 0} (d : Ghosts D) (b : Beside E L) (command : 
   pub gathers : ReadsAgg command → IfSome (d.image folder) (λ image. agg_rules_in image ≡ Ok agg)
   pub does : Does d b rules agg command streams disks answer
 
--- A run of a command: its words find no memory; or it has no rules; or the command is done.
+-- A run of a command: its words find no memory; or it has no rules; or the command is done. Until it has its rules it touches no net.
 abbrev pub Outcome : {D E L : Type 0} → Ghosts D → Beside E L → Command → D → D → Streams → List D → Answer D → Type 0
 Outcome d b command folder folder' streams disks answer =
-    NoWords streams disks answer ⊎ (NoRules d command folder folder' streams disks answer ⊎ HasRules d b command folder streams disks answer)
+    ((b.net' ≡ b.net) × NoWords streams disks answer)
+    ⊎ (((b.net' ≡ b.net) × NoRules d command folder folder' streams disks answer)
+    ⊎ HasRules d b command folder streams disks answer)

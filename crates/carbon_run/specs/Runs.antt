@@ -1,5 +1,5 @@
 -- What a run of carbon comes to.
-use Rattle.std.specs.Prelude.{◌≡◌, ◌<◌, ◌⊎◌, ℕ, Bool, List, [], ◌∷◌, ◌++◌, Option, Some, None, IfSome, Ok, slice_get, string_bytes}
+use Rattle.std.specs.Prelude.{◌≡◌, ◌⊎◌, ℕ, Bool, List, [], ◌∷◌, ◌++◌, Option, Some, None, IfSome, slice_get, string_bytes}
 use Rattle.std.specs.Io.KnownBytes.{Appends}
 use Rattle.outside_io.specs.Image.{Image, WhereKnown}
 use Rattle.outside_io.specs.Faults.{Rose}
@@ -140,8 +140,8 @@ TellsStart DiskFault class answer before after = TellsAlone 5 (disk_fault_line c
 TellsStart NoMemory class answer before after = TellsAlone 8 no_memory_line answer before after
 
 -- A shard did not start: its class has a damaged file, the first of which is told, or its disk's count of failed calls rose, or memory ran out; and no
--- class before it has a damaged file. Or all did, and memory ran out for their history. That alone is told, nothing was put, drained or asked, and the
--- disks open as they did.
+-- class before it has a damaged file. Or, of a script, all did, and memory ran out for their history. That alone is told, nothing was put, drained or
+-- asked, and the disks open as they did.
 pub record NoStart {D : Type 0} (d : Ghosts D) (streams : Streams) (disks : List D) (answer : Answer D) : Type 0 where
   pub refusal : Refusal
   pub refuses : RefusesAll d disks answer.disks refusal

@@ -55,16 +55,24 @@ pub record ServesAll {D L : Type 0} (d : Ghosts D) (staff : Staff L) (told : ℕ
 
 -- ---- runs of the command
 
--- The shards of all classes started, none of whose disks has a damaged file, and the ports could not be had: the net's count of failed calls rose.
--- That alone is told, nothing was put, drained or asked, and the disks open as they did.
-pub record NoPort {D : Type 0} {E : Type 0} (d : Ghosts D) (net_faults : E → ℕ) (net net' : E) (streams : Streams) (given : List D) (answer : Answer D) : Type 0 where
-  pub cause : Rose (net_faults net) (net_faults net')
-  pub tells : TellsAlone 9 no_port_line answer.status streams.written streams.written'
+-- The shards of all classes started, none of whose disks has a damaged file, and nothing was put, drained or asked: the disks open as they did.
+pub record Unserved {D : Type 0} (d : Ghosts D) (streams : Streams) (given : List D) (answer : Answer D) : Type 0 where
   pub sound : AreSound (told_of d.image answer.disks) 16
   pub sixteen : length answer.disks ≡ 16
   pub still : (k : ℕ) → WhereKnown (told_of d.image given k) (told_of d.image answer.disks k) StillOpens
   pub history : answer.history ≡ []
   pub input : streams.left' ≡ streams.left
+
+-- The shards of all classes started, and the ports could not be had: the net's count of failed calls rose. That alone is told.
+pub record NoPort {D : Type 0} {E : Type 0} (d : Ghosts D) (net_faults : E → ℕ) (net net' : E) (streams : Streams) (given : List D) (answer : Answer D) : Type 0 where
+  pub cause : Rose (net_faults net) (net_faults net')
+  pub tells : TellsAlone 9 no_port_line answer.status streams.written streams.written'
+  pub unserved : Unserved d streams given answer
+
+-- The shards of all classes started, the ports were bound, and there was no memory for the history and the store of what they bring. That alone is told.
+pub record NoStore {D : Type 0} (d : Ghosts D) (streams : Streams) (given : List D) (answer : Answer D) : Type 0 where
+  pub tells : TellsAlone 8 no_memory_line answer.status streams.written streams.written'
+  pub unserved : Unserved d streams given answer
 
 -- The shards of all classes started, whose drains go through the log where the words say so: what an open gate held is laid on their disks. The store
 -- served what the net brought, from a state in which a run may begin over these disks.
@@ -79,10 +87,12 @@ pub record Served {D L : Type 0} (d : Ghosts D) (settings : Settings) (redo : Bo
   pub opens : Opens settings told start
   pub serves : ServesAll d staff told start (disk_faults d.faults given) streams answer
 
--- A server over these disks: a shard does not start, or there is no port, or it serves.
+-- A server over these disks: a shard does not start, and the net is as it was; or there is no port, or no memory behind the ports, or it serves.
 abbrev pub ServeRuns : {D E L : Type 0} → Ghosts D → (E → ℕ) → E → E → Settings → Bool → Staff L → Streams → List D → Answer D → Type 0
 ServeRuns d net_faults net net' settings redo staff streams given answer =
-    NoStart d streams given answer ⊎ (NoPort d net_faults net net' streams given answer ⊎ Served d settings redo staff streams given answer)
+    ((net' ≡ net) × NoStart d streams given answer)
+    ⊎ (NoPort d net_faults net net' streams given answer
+    ⊎ (NoStore d streams given answer ⊎ Served d settings redo staff streams given answer))
 
 -- ---- over shards that have started
 

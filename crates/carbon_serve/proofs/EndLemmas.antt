@@ -179,6 +179,7 @@ ends_anyhow d told start earlier passes history class disk ends = record {
   stands = ends.stands;
   last = ends.last;
   whole = λ settled. absurd (not_settled class history settled);
+  shut = ends.shut;
   faults = ends.faults;
 }
 
@@ -288,18 +289,24 @@ module _ {D : Type 0} (d : Ghosts D) (table : TableId) (moments : ℕ → Type 0
       alone table moments start passes before served own0 own1 own2 history new all went saw learned names seen e.number e.begins made.made e.once in
       let same : history ≡ own2.seen = whole table moments start passes before served own0 own1 own2 history new all went saw learned names seen e.number e.begins in
       let state : replay start history ≡ replay (replay start own1.seen) made.made =
-      ap (replay start) (same ∙ stood) ∙ replay-append start own1.seen made.made in record {
+      ap (replay start) (same ∙ stood) ∙ replay-append start own1.seen made.made in
+      let settled : (k : ℕ) (disk : D) → slice_get disks k ≡ Some disk → HasSettled k history (served ++ own2 ∷ []) = λ k disk at.
+      let few : k < 16 = omega (arith, sixteen, slice_get_within disks k disk at) in
+      let wrote = made.written stood k few in record {
+        place = last;
+        pass = own2;
+        there = slice_last served own2;
+        all = subst (λ (es : List Entry). drains (about_class k es) ≤ settled_in k own2) (sym same) (omega (arith, wrote.all, wrote.settled));
+      } in record {
         none = λ class few.
             subst (λ (s : State). s.pending class ≡ []) (sym state)
             (none_pending (replay start own1.seen) own1.number now made.made (made.alone stood) class few);
         stand = λ k.
             stands_each (slice_get disks k) _ (λ disk at.
-            let few : k < 16 = omega (arith, sixteen, slice_get_within disks k disk at) in
-            let wrote = made.written stood k few in
-            let settled : drains (about_class k history) ≤ settled_in k own2 =
-            subst (λ (es : List Entry). drains (about_class k es) ≤ settled_in k own2) (sym same) (omega (arith, wrote.all, wrote.settled)) in
-            ends_alone d told start earlier (served ++ own2 ∷ []) history k disk
-            (record { place = last; pass = own2; there = slice_last served own2; all = settled }) (each k disk at));
+            ends_alone d told start earlier (served ++ own2 ∷ []) history k disk (settled k disk at) (each k disk at));
+        shut = λ k.
+            stands_each (slice_get disks k) _ (λ disk at.
+            let ends = each k disk at in ends.shut (ends.whole (settled k disk at)));
       }
 
   -- the disk of a class failed

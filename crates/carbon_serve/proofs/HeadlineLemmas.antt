@@ -14,7 +14,7 @@ use Rattle.shared_history.specs.Parts.{PassValue, own_entries}
 use Rattle.shared_store.specs.Drains.{DrainsTo, RiseWithin}
 use Rattle.shared_store.specs.declared.drain_end.DrainEnd.{DrainEnd}
 use Rattle.shared_store.specs.declared.drain_end.DrainEnd.TheVariants.{Done, DiskFault, Spent, NoMemory}
-use Rattle.http_front.specs.Origin.{Origin}
+use Rattle.http_front.specs.Origin.{Origin, caller_of}
 use Rattle.carbon_serve.specs.Courses.{CourseOf, LastCourse, Staff, origin_by}
 use Rattle.carbon_serve.specs.Crews.{Finishes, role_of}
 use Rattle.carbon_serve.specs.Deeds.{Did, IsOfDrainer, Telling}
@@ -36,13 +36,13 @@ nothing_own pass none = ap (λ (es : List Entry). of_pass pass.number es) none
 worker_of : {L : Type 0} (links : Telling L) (w : Origin) (does : Role) (number : ℕ) (history : List Entry) (fresh pass : PassValue) → fresh.number ≡ number → fresh.seen ≡ [] → pass.number ≡ number
     → own_entries pass ≡ of_pass number history → IsPrefix pass.seen history → Did links w does fresh pass → IsOfWorker links w does number history
 worker_of links w role.Receiver number history fresh pass same none same' own begins did =
-    (did.0, all_puts links w number did.0 fresh pass (of_pass number history) same (nothing_own fresh none) own did.1)
+    (did.1.0, all_puts links w number did.1.0 (caller_of fresh []) (caller_of pass did.0) (of_pass number history) same (nothing_own fresh none) own did.1.1)
 worker_of links w (role.Renderer answer_bytes) number history fresh pass same none same' own begins did =
-    (did.0, pass.seen, all_replies links w number history did.0 fresh pass (of_pass number history) same none same' own begins did.1)
+    (did.1.0, pass.seen, all_replies links w number history did.1.0 (caller_of fresh []) (caller_of pass did.0) (of_pass number history) same none same' own begins did.1.1)
 worker_of links w (role.Drainer pace) number history fresh pass same none same' own begins did =
-    let entries : List Entry = did.entries in
-    let are : entries ≡ of_pass number history = sym (did.once ∙ ap (λ (es : List Entry). es ++ entries) (nothing_own fresh none)) ∙ own in
-    subst (All (IsOfDrainer w.moments number)) are (subst (λ (n : ℕ). All (IsOfDrainer w.moments n) entries) same did.each)
+    let entries : List Entry = did.1.entries in
+    let are : entries ≡ of_pass number history = sym (did.1.once ∙ ap (λ (es : List Entry). es ++ entries) (nothing_own fresh none)) ∙ own in
+    subst (All (IsOfDrainer w.moments number)) are (subst (λ (n : ℕ). All (IsOfDrainer w.moments n) entries) same did.1.each)
 
 pub worker : {L : Type 0} (links : Telling L) (w : Origin) (duties : Duties) (number : ℕ) (history : List Entry) → CourseOf links w duties number history
     → IsOfWorker links w (role_of number duties) number history

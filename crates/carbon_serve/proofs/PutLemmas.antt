@@ -12,12 +12,12 @@ use Rattle.std.specs.Prelude.{Result}
 use Rattle.aggregate_rules.specs.RuleTexts.{RuleValue}
 use Rattle.aggregate_front.specs.Emitting.{AggregatorValue}
 use Rattle.line_front.specs.Points.{ArePuts, LinesBring, ReadBrings, emitted_at_end, emitted_for, gathered_after, none_gathered, points_of_link, points_put}
-use Rattle.line_front.specs.Links.{BringsFront, EndsAs, HandlesFront, HandlesLines, HasPoint, Idles, IsPointOf, IsRead, LacksMemory, LacksRoom, PutsFront, SessionValue, new_session}
+use Rattle.line_front.specs.Links.{BringsFront, EndsAs, HandlesFront, HandlesLines, HasPoint, Idles, IsPointOf, IsRead, LacksMemory, LacksRoom, PutsFront, ReadsThen, SessionValue, Timed, new_session, timed}
 use Rattle.line_front.specs.declared.ends.LineCause.{LineCause}
 use Rattle.line_front.specs.declared.ends.LineCause.TheVariants as cause
 use Rattle.line_front.proofs.LinkLemmas.{same_pass}
 use Rattle.line_front.proofs.PointLemmas.{Makes, bring_append, makes_append, makes_each, makes_none, makes_point, put_append, put_one}
-use Rattle.http_front.specs.Origin.{Origin}
+use Rattle.http_front.specs.Origin.{Caller, Origin}
 use Rattle.carbon_serve.specs.Deeds.{InTurn, LineLink, ServesLineLink, Telling}
 use Rattle.carbon_serve.specs.OneHistory.{AreFirst, AreHandled, ArePut, PutsOf, PutsOfAll}
 use Rattle.carbon_serve.specs.Workers.{Works}
@@ -26,8 +26,8 @@ use Rattle.carbon_serve.proofs.LineLemmas.{link_works}
 -- ---- what was put
 
 -- lines that were handled, from where a pass stood to where it stands
-lines_make : (moments : ℕ → Type 0) (start : State) (passes : ℕ) (handled : List Line) (old new : SessionValue) → (h : HandlesLines moments start passes handled old new)
-    → Makes (points_put old.gathered h.points) old.pass new.pass
+lines_make : (moments : ℕ → Type 0) (start : State) (passes : ℕ) (handled : List Line) (old new : Timed) → (h : HandlesLines moments start passes handled old new)
+    → Makes (points_put old.session.gathered h.points) old.session.pass new.session.pass
 lines_make moments start passes handled old new h =
     let same = same_pass moments start passes handled old new h.each in
     record { entries = h.entries; made = h.made; once = h.once; number = same.number; table = same.table }
@@ -53,17 +53,21 @@ brings_make moments start passes line old new b =
 
 -- ---- which lines
 
-line_brings : (moments : ℕ → Type 0) (line : Line) (point : Point) → IsPointOf moments line point → LinesBring moments (line ∷ []) (point ∷ [])
-line_brings moments (Whole line) point is =
-    (is.0, [], (is.1.0, (subst (λ (read : Result Point LineFault). ReadBrings read (point ∷ []) []) (sym is.1.1) refl, refl)))
-line_brings moments TooLong point is = absurd is
+line_brings : (moments : ℕ → Type 0) (told told' : List ℕ) (line : Line) (point : Point) → IsPointOf (ReadsThen moments told told') line point
+    → (readings : List ℕ) × LinesBring moments readings (line ∷ []) (point ∷ [])
+line_brings moments told told' (Whole line) point is = (
+  is.0 ∷ [],
+  (is.0, [], [], (refl, (is.1.0.0, (subst (λ (read : Result Point LineFault). ReadBrings read (point ∷ []) []) (sym is.1.1) refl, (refl, refl))))),
+)
+line_brings moments told told' TooLong point is = absurd is
 
 -- the lines that were handled of a link, the points of theirs that were put, and how
 record Handled (moments : ℕ → Type 0) (rules : List RuleValue) (reason : LineCause) (taken : List ℕ) (left : Option (List ℕ)) (old new : PassValue) : Type 0 where
   handled : List Line
   are : AreHandled reason taken handled
+  readings : List ℕ
   points : List Point
-  read : LinesBring moments handled points
+  read : LinesBring moments readings handled points
   put : List Point
   all : ArePut reason rules taken left handled points put
   makes : Makes put old new
@@ -72,8 +76,9 @@ record Handled (moments : ℕ → Type 0) (rules : List RuleValue) (reason : Lin
 record Begun (moments : ℕ → Type 0) (rules : List RuleValue) (taken : List ℕ) (left : Option (List ℕ)) (old new : PassValue) : Type 0 where
   handled : List Line
   are : IsPrefix handled (lines taken)
+  readings : List ℕ
   points : List Point
-  read : LinesBring moments handled points
+  read : LinesBring moments readings handled points
   put : List Point
   all : AreFirst rules taken left handled points put
   makes : Makes put old new
@@ -89,61 +94,70 @@ more_put rules points point first others split =
     put_append g points (point ∷ []) ∙ ap (λ (l : List Point). points_put g points ++ l) one in
     (others, append_assoc (points_put g points) (point ∷ first) others ∙ sym whole)
 
-module _ (moments : ℕ → Type 0) (start : State) (passes : ℕ) (rules : List RuleValue) (taken : List ℕ) (left : Option (List ℕ)) (old : PassValue) where
+module _ (moments : ℕ → Type 0) (start : State) (passes : ℕ) (rules : List RuleValue) (taken : List ℕ) (left : Option (List ℕ)) (told : List ℕ) (old : PassValue) where
+  -- where the link began
+  abbrev begun_at : Timed
+  begun_at = timed told (new_session rules old)
+
   -- no line
   none_begun : (new : PassValue) → new ≡ old → Begun moments rules taken left old new
   none_begun new same = record {
     handled = [];
     are = prefix_nil (lines taken);
+    readings = [];
     points = [];
-    read = refl;
+    read = (refl, refl);
     put = [];
     all = inl (prefix_nil (points_put (none_gathered rules) []));
     makes = makes_none old new same;
   }
 
   -- some lines
-  front_begun : (new : SessionValue) → HandlesFront moments start passes taken (new_session rules old) new → Begun moments rules taken left old new.pass
+  front_begun : (new : Timed) → HandlesFront moments start passes taken begun_at new → Begun moments rules taken left old new.session.pass
   front_begun new front =
       let h = front.front in record {
         handled = front.handled;
         are = (front.line ∷ front.others, sym front.split);
+        readings = h.readings;
         points = h.points;
         read = h.read;
         put = points_put (none_gathered rules) h.points;
         all = inl ([], append-nil (points_put (none_gathered rules) h.points));
-        makes = lines_make moments start passes front.handled (new_session rules old) new h;
+        makes = lines_make moments start passes front.handled begun_at new h;
       }
 
   -- and of the next one the point, and the first of those that the rules emit for it
-  line_begun : (mid new : SessionValue) (front : HandlesFront moments start passes taken (new_session rules old) mid) → BringsFront moments start passes front.line mid new
-      → Begun moments rules taken left old new.pass
-  line_begun mid new front b =
-      let h = front.front in record {
+  line_begun : (mid : Timed) (told' : List ℕ) (new : SessionValue) (front : HandlesFront moments start passes taken begun_at mid)
+      → BringsFront (ReadsThen moments mid.told told') start passes front.line mid.session new → Begun moments rules taken left old new.pass
+  line_begun mid told' new front b =
+      let h = front.front in
+      let one = line_brings moments mid.told told' front.line b.point b.is in record {
         handled = front.handled ++ front.line ∷ [];
         are = (front.others, append_assoc front.handled (front.line ∷ []) front.others ∙ sym front.split);
+        readings = h.readings ++ one.0;
         points = h.points ++ b.point ∷ [];
-        read = bring_append moments front.handled (front.line ∷ []) h.points (b.point ∷ []) h.read (line_brings moments front.line b.point b.is);
+        read = bring_append moments front.handled (front.line ∷ []) h.readings one.0 h.points (b.point ∷ []) h.read one.1;
         put = points_put (none_gathered rules) h.points ++ b.point ∷ b.emits.first;
         all = inl (more_put rules h.points b.point b.emits.first b.emits.others (ap (λ (a : AggregatorValue). emitted_for a b.point) (sym h.gathered) ∙ b.emits.split));
-        makes = makes_append (points_put (none_gathered rules) h.points) (b.point ∷ b.emits.first) old mid.pass new.pass
-            (lines_make moments start passes front.handled (new_session rules old) mid h) (brings_make moments start passes front.line mid new b);
+        makes = makes_append (points_put (none_gathered rules) h.points) (b.point ∷ b.emits.first) old mid.session.pass new.pass
+            (lines_make moments start passes front.handled begun_at mid h) (brings_make (ReadsThen moments mid.told told') start passes front.line mid.session new b);
       }
 
   -- all lines, and the first points that the rules have open
-  open_begun : (mid new : SessionValue) → IsRead moments start passes taken left (new_session rules old) mid
+  open_begun : (told' : List ℕ) (mid new : SessionValue) → IsRead moments start passes taken left begun_at (timed told' mid)
       → PutsFront start passes (emitted_at_end mid.gathered) mid new → Begun moments rules taken left old new.pass
-  open_begun mid new read some =
+  open_begun told' mid new read some =
       let h = read.handles in
       let g : AggregatorValue = none_gathered rules in
       let split : some.first ++ some.others ≡ emitted_at_end (gathered_after g h.points) = sym some.split ∙ ap (λ (a : AggregatorValue). emitted_at_end a) h.gathered in record {
         handled = lines taken;
         are = ([], append-nil (lines taken));
+        readings = h.readings;
         points = h.points;
         read = h.read;
         put = points_put g h.points ++ some.first;
         all = inr (read.at_end, (refl, (some.others, append_assoc (points_put g h.points) some.first some.others ∙ ap (λ (l : List Point). points_put g h.points ++ l) split)));
-        makes = makes_append (points_put g h.points) some.first old mid.pass new.pass (lines_make moments start passes (lines taken) (new_session rules old) mid h)
+        makes = makes_append (points_put g h.points) some.first old mid.pass new.pass (lines_make moments start passes (lines taken) begun_at (timed told' mid) h)
             (makes_each start passes some.first mid.pass new.pass some.emits);
       }
 
@@ -151,6 +165,7 @@ module _ (moments : ℕ → Type 0) (start : State) (passes : ℕ) (rules : List
   begun_idle mid new begun idles = record {
     handled = begun.handled;
     are = begun.are;
+    readings = begun.readings;
     points = begun.points;
     read = begun.read;
     put = begun.put;
@@ -158,80 +173,101 @@ module _ (moments : ℕ → Type 0) (start : State) (passes : ℕ) (rules : List
     makes = idle_makes start passes begun.put old mid new begun.makes idles;
   }
 
-  full_begun : (mid new : SessionValue) (front : HandlesFront moments start passes taken (new_session rules old) mid)
-      → (new ≡ mid) ⊎ LacksRoom moments start passes front.line mid new → Begun moments rules taken left old new.pass
+  full_begun : (mid new : Timed) (front : HandlesFront moments start passes taken begun_at mid)
+      → (new.session ≡ mid.session) ⊎ LacksRoom (ReadsThen moments mid.told new.told) start passes front.line mid.session new.session
+      → Begun moments rules taken left old new.session.pass
   full_begun mid new front (inl same) = subst (λ (session : SessionValue). Begun moments rules taken left old session.pass) (sym same) (front_begun mid front)
-  full_begun mid new front (inr lacks) = line_begun mid new front lacks.brings
+  full_begun mid new front (inr lacks) = line_begun mid new.told new.session front lacks.brings
 
-  short_begun : (mid new : SessionValue) (front : HandlesFront moments start passes taken (new_session rules old) mid) → LacksMemory moments start passes front.line mid new
-      → Begun moments rules taken left old new.pass
-  short_begun mid new front lacks = begun_idle lacks.mid new (by lacks.begun) lacks.idles
+  short_begun : (mid new : Timed) (front : HandlesFront moments start passes taken begun_at mid)
+      → LacksMemory (ReadsThen moments mid.told new.told) start passes front.line mid.session new.session → Begun moments rules taken left old new.session.pass
+  short_begun mid new front lacks = begun_idle lacks.mid new.session (by lacks.begun) lacks.idles
     where
-      by : (HasPoint moments front.line × (lacks.mid ≡ mid)) ⊎ BringsFront moments start passes front.line mid lacks.mid → Begun moments rules taken left old lacks.mid.pass
+      by : (HasPoint (ReadsThen moments mid.told new.told) front.line × (lacks.mid ≡ mid.session))
+          ⊎ BringsFront (ReadsThen moments mid.told new.told) start passes front.line mid.session lacks.mid → Begun moments rules taken left old lacks.mid.pass
       by (inl none) = subst (λ (session : SessionValue). Begun moments rules taken left old session.pass) (sym none.1) (front_begun mid front)
-      by (inr brings) = line_begun mid lacks.mid front brings
+      by (inr brings) = line_begun mid new.told lacks.mid front brings
 
   spent_handled : (new : PassValue) → Begun moments rules taken left old new → Handled moments rules cause.Spent taken left old new
-  spent_handled new begun =
-      record { handled = begun.handled; are = begun.are; points = begun.points; read = begun.read; put = begun.put; all = begun.all; makes = begun.makes }
+  spent_handled new begun = record {
+    handled = begun.handled;
+    are = begun.are;
+    readings = begun.readings;
+    points = begun.points;
+    read = begun.read;
+    put = begun.put;
+    all = begun.all;
+    makes = begun.makes;
+  }
 
   short_handled : (new : PassValue) → Begun moments rules taken left old new → Handled moments rules cause.NoMemory taken left old new
-  short_handled new begun =
-      record { handled = begun.handled; are = inr begun.are; points = begun.points; read = begun.read; put = begun.put; all = begun.all; makes = begun.makes }
+  short_handled new begun = record {
+    handled = begun.handled;
+    are = inr begun.are;
+    readings = begun.readings;
+    points = begun.points;
+    read = begun.read;
+    put = begun.put;
+    all = begun.all;
+    makes = begun.makes;
+  }
 
-  ends_handled : (new : SessionValue) (reason : LineCause) → EndsAs moments start passes reason taken left (new_session rules old) new
-      → Handled moments rules reason taken left old new.pass
+  ends_handled : (new : Timed) (reason : LineCause) → EndsAs moments start passes reason taken left begun_at new → Handled moments rules reason taken left old new.session.pass
   ends_handled new cause.Closed ends =
       let h = ends.read.handles in
       let mid : SessionValue = ends.mid in
       let put : List Point = points_put (none_gathered rules) h.points in record {
         handled = lines taken;
         are = refl;
+        readings = h.readings;
         points = h.points;
         read = h.read;
         put = points_of_link rules h.points;
         all = (ends.read.at_end, refl);
-        makes = subst (λ (a : AggregatorValue). Makes (put ++ emitted_at_end a) old new.pass) h.gathered
-            (makes_append put (emitted_at_end mid.gathered) old mid.pass new.pass (lines_make moments start passes (lines taken) (new_session rules old) mid h)
-            (makes_each start passes (emitted_at_end mid.gathered) mid.pass new.pass ends.emits));
+        makes = subst (λ (a : AggregatorValue). Makes (put ++ emitted_at_end a) old new.session.pass) h.gathered
+            (makes_append put (emitted_at_end mid.gathered) old mid.pass new.session.pass (lines_make moments start passes (lines taken) begun_at (timed new.told mid) h)
+            (makes_each start passes (emitted_at_end mid.gathered) mid.pass new.session.pass ends.emits));
       }
   ends_handled new cause.ReadFault ends =
       let h = ends.0 in record {
         handled = lines taken;
         are = refl;
+        readings = h.readings;
         points = h.points;
         read = h.read;
         put = points_put (none_gathered rules) h.points;
         all = refl;
-        makes = lines_make moments start passes (lines taken) (new_session rules old) new h;
+        makes = lines_make moments start passes (lines taken) begun_at new h;
       }
   ends_handled new cause.LinkLimit ends =
       let h = ends.0 in record {
         handled = lines taken;
         are = refl;
+        readings = h.readings;
         points = h.points;
         read = h.read;
         put = points_put (none_gathered rules) h.points;
         all = refl;
-        makes = lines_make moments start passes (lines taken) (new_session rules old) new h;
+        makes = lines_make moments start passes (lines taken) begun_at new h;
       }
   ends_handled new cause.Spent (inl none, spent) =
-      spent_handled new.pass (none_begun new.pass (ap (λ (session : SessionValue). session.pass) none.same))
-  ends_handled new cause.Spent (inr (inl full), spent) = spent_handled new.pass (full_begun full.mid new full.handles full.lacks)
-  ends_handled new cause.Spent (inr (inr late), spent) = spent_handled new.pass (open_begun late.mid new late.read late.emits)
+      spent_handled new.session.pass (none_begun new.session.pass (ap (λ (at : Timed). at.session.pass) none.same))
+  ends_handled new cause.Spent (inr (inl full), spent) = spent_handled new.session.pass (full_begun full.mid new full.handles full.lacks)
+  ends_handled new cause.Spent (inr (inr late), spent) = spent_handled new.session.pass (open_begun new.told late.mid new.session late.read late.emits)
   ends_handled new cause.NoMemory (inl whole) =
       let h = whole.1.1 in record {
         handled = lines whole.0;
         are = inl (whole.0, (whole.1.0, refl));
+        readings = h.readings;
         points = h.points;
         read = h.read;
         put = points_put (none_gathered rules) h.points;
         all = inl ([], append-nil (points_put (none_gathered rules) h.points));
-        makes = lines_make moments start passes (lines whole.0) (new_session rules old) new h;
+        makes = lines_make moments start passes (lines whole.0) begun_at new h;
       }
-  ends_handled new cause.NoMemory (inr (inl short)) = short_handled new.pass (short_begun short.mid new short.handles short.lacks)
+  ends_handled new cause.NoMemory (inr (inl short)) = short_handled new.session.pass (short_begun short.mid new short.handles short.lacks)
   ends_handled new cause.NoMemory (inr (inr late)) =
-      short_handled new.pass (begun_idle late.put new (open_begun late.mid late.put late.read late.emits) late.idles)
+      short_handled new.session.pass (begun_idle late.put new.session (open_begun new.told late.mid late.put late.read late.emits) late.idles)
 
 -- ---- links one after the other
 
@@ -241,22 +277,26 @@ record Put {L : Type 0} (links : Telling L) (w : Origin) (number : ℕ) (served 
   pub all : PutsOfAll links w number served entries
   pub once : own_entries new ≡ own_entries old ++ entries
 
-turn_puts : {L : Type 0} (links : Telling L) (w : Origin) (number : ℕ) (served : List (LineLink L)) (a c : PassValue) → a.number ≡ number → InTurn (ServesLineLink links w) served a c → Put links w number served a c
-turn_puts links w number [] a c same turns = record { entries = []; all = refl; once = ap own_entries turns ∙ sym (append-nil (own_entries a)) }
+turn_puts : {L : Type 0} (links : Telling L) (w : Origin) (number : ℕ) (served : List (LineLink L)) (a c : Caller) → a.pass.number ≡ number → InTurn (ServesLineLink links w) served a c
+    → Put links w number served a.pass c.pass
+turn_puts links w number [] a c same turns =
+    record { entries = []; all = refl; once = ap (λ (at : Caller). own_entries at.pass) turns ∙ sym (append-nil (own_entries a.pass)) }
 turn_puts links w number (link ∷ served) a c same turns =
-    let mid : PassValue = turns.0 in
+    let mid : Caller = turns.0 in
     let ends = turns.1.0.ends in
-    let one : Handled w.moments links.rules link.cause ends.taken (links.left link.after) a mid =
-    ends_handled w.moments w.start w.passes links.rules ends.taken (links.left link.after) a (record { pass = mid; counts = link.counts; gathered = ends.gathered }) link.cause ends.ends in
-    let works : Works w.moments w.start a mid =
-    link_works w.moments w.start w.passes links.rules link.cause (links.left link.before) (links.left link.after) a mid link.counts ends in
-    let rest : Put links w number served mid c = turn_puts links w number served mid c (works.number ∙ same) turns.1.1 in
+    let one : Handled w.moments links.rules link.cause ends.taken (links.left link.after) a.pass mid.pass =
+    ends_handled w.moments w.start w.passes links.rules ends.taken (links.left link.after) a.told a.pass
+    (timed mid.told (record { pass = mid.pass; counts = link.counts; gathered = ends.gathered })) link.cause ends.ends in
+    let works : Works w.moments w.start a.pass mid.pass =
+    link_works w.moments w.start w.passes links.rules link.cause (links.left link.before) (links.left link.after) a.told mid.told a.pass mid.pass link.counts ends in
+    let rest : Put links w number served mid.pass c.pass = turn_puts links w number served mid c (works.number ∙ same) turns.1.1 in
     let entries : List Entry = one.makes.entries in
     let puts : PutsOf links w number link entries = record {
       taken = ends.taken;
       consumed = ends.consumed;
       handled = one.handled;
       are = one.are;
+      readings = one.readings;
       points = one.points;
       read = one.read;
       put = one.put;
@@ -265,12 +305,12 @@ turn_puts links w number (link ∷ served) a c same turns =
     } in record {
       entries = entries ++ rest.entries;
       all = (entries, rest.entries, (puts, (rest.all, refl)));
-      once = rest.once ∙ (ap (λ (es : List Entry). es ++ rest.entries) one.makes.once ∙ append_assoc (own_entries a) entries rest.entries);
+      once = rest.once ∙ (ap (λ (es : List Entry). es ++ rest.entries) one.makes.once ∙ append_assoc (own_entries a.pass) entries rest.entries);
     }
 
 -- a pass that had made nothing
-pub all_puts : {L : Type 0} (links : Telling L) (w : Origin) (number : ℕ) (served : List (LineLink L)) (a c : PassValue) (own : List Entry) → a.number ≡ number → own_entries a ≡ [] → own_entries c ≡ own
+pub all_puts : {L : Type 0} (links : Telling L) (w : Origin) (number : ℕ) (served : List (LineLink L)) (a c : Caller) (own : List Entry) → a.pass.number ≡ number → own_entries a.pass ≡ [] → own_entries c.pass ≡ own
     → InTurn (ServesLineLink links w) served a c → PutsOfAll links w number served own
 all_puts links w number served a c own same none is turns =
-    let put : Put links w number served a c = turn_puts links w number served a c same turns in
+    let put : Put links w number served a.pass c.pass = turn_puts links w number served a c same turns in
     subst (λ (es : List Entry). PutsOfAll links w number served es) (sym (put.once ∙ ap (λ (es : List Entry). es ++ put.entries) none) ∙ is) put.all

@@ -31,7 +31,7 @@ use Rattle.http_wire.specs.declared.routing.Endpoint.TheVariants.{Render, Find, 
 use Rattle.http_front.specs.Browses.{ComesOfGlobs, HasNames, IsIndexText, Tells}
 use Rattle.http_front.specs.Entries.{IsEntryOf}
 use Rattle.http_front.specs.Links.{BeginWith, CannotBegin, ComesOfAll, ComesOfItem, EndsAs, RunsShort, Serves, ServesLink, TellsShort}
-use Rattle.http_front.specs.Origin.{At, Origin}
+use Rattle.http_front.specs.Origin.{At, Caller, Origin}
 use Rattle.http_front.specs.Outcomes.{reply_to, unavailable_reply}
 use Rattle.http_front.specs.Requests.{ComesOfPlan, ComesOfRead, ComesOfRoute, form_of}
 use Rattle.http_front.specs.declared.ends.HttpEnd.{HttpEnd}
@@ -140,19 +140,25 @@ module _ (w : Origin) (history : List Entry) where
   read_of now (Err fault) given old new begins comes =
       record { own = []; stands = rests old.number history old new begins comes.1; so = (comes.0, stays old new comes.1) }
 
-  names_of : (tells : List (List ℕ) → List ℕ → Type 0) (given : Outcome) (old new : PassValue) → IsPrefix new.seen history → HasNames w tells given old new
-      → Has old.number history old new (λ p. IsOfNames w old.number p tells given)
+  -- a request that has no moment enters nothing
+  none_of : {is : Type 0} (given : Outcome) (old new : Caller) → IsPrefix new.pass.seen history → new ≡ old → is → Has old.pass.number history old.pass new.pass (λ p. is × EntersNothing p)
+  none_of given old new begins same so =
+      let still : new.pass ≡ old.pass = ap (λ (who : Caller). who.pass) same in
+      record { own = []; stands = rests old.pass.number history old.pass new.pass begins still; so = (so, stays old.pass new.pass still) }
+
+  names_of : (tells : List (List ℕ) → List ℕ → Type 0) (given : Outcome) (old new : Caller) → IsPrefix new.pass.seen history → HasNames w tells given old new
+      → Has old.pass.number history old.pass new.pass (λ p. IsOfNames w old.pass.number p tells given)
   names_of tells given old new begins has =
       let now : ℕ = has.asks.now in
-      let once : AsksOnce w.start w.passes now old new = has.asks.asks.asks in
-      let own : List Entry = entry.Ask old.number (new_number old) 1 now ∷ [] in record {
+      let once : AsksOnce w.start w.passes now old.pass new.pass = has.asks.asks.asks in
+      let own : List Entry = entry.Ask old.pass.number (new_number old.pass) 1 now ∷ [] in record {
         own = own;
-        stands = entered w.start w.passes history own old new begins once.enters;
+        stands = entered w.start w.passes history own old.pass new.pass begins once.enters;
         so = record {
           now = now;
-          told = has.asks.told;
+          told = has.asks.reads.moment;
           question = refl;
-          earlier = old.seen ++ once.between;
+          earlier = old.pass.seen ++ once.between;
           last = once.last;
           names = has.names;
           all = has.asks.asks.all;
@@ -162,55 +168,56 @@ module _ (w : Origin) (history : List Entry) where
         };
       }
 
-  globs_of : (tells : Tells) (read : Result (List Said) FindFault) (given : Outcome) (old new : PassValue) → IsPrefix new.seen history → ComesOfGlobs w tells read given old new
-      → Has old.number history old new (λ p. IsOfGlobs w old.number p tells read given)
+  globs_of : (tells : Tells) (read : Result (List Said) FindFault) (given : Outcome) (old new : Caller) → IsPrefix new.pass.seen history → ComesOfGlobs w tells read given old new
+      → Has old.pass.number history old.pass new.pass (λ p. IsOfGlobs w old.pass.number p tells read given)
   globs_of tells (Ok globs) given old new begins comes = names_of (tells globs) given old new begins comes
   globs_of tells (Err why) given old new begins comes =
-      record { own = []; stands = rests old.number history old new begins comes.1; so = (comes.0, stays old new comes.1) }
+      none_of given old new begins comes.1 comes.0
 
-  route_of : (asked : Asked) (way : Result Endpoint Refusal) (given : Outcome) (old new : PassValue) → IsPrefix new.seen history → ComesOfRoute w asked way given old new
-      → Has old.number history old new (λ p. IsOfRoute w old.number p asked way given)
+  route_of : (asked : Asked) (way : Result Endpoint Refusal) (given : Outcome) (old new : Caller) → IsPrefix new.pass.seen history → ComesOfRoute w asked way given old new
+      → Has old.pass.number history old.pass new.pass (λ p. IsOfRoute w old.pass.number p asked way given)
   route_of asked (Ok Render) given old new begins comes =
       let now : ℕ = comes.now in
-      let has = read_of now (read_plan (query_of asked.target) (form_of asked) now) given old new begins comes.comes in
-      record { own = has.own; stands = has.stands; so = record { now = now; told = comes.told; comes = has.so } }
+      let has = read_of now (read_plan (query_of asked.target) (form_of asked) now) given old.pass new.pass begins comes.comes in
+      record { own = has.own; stands = has.stands; so = record { now = now; told = comes.reads.moment; comes = has.so } }
   route_of asked (Ok Find) given old new begins comes = globs_of IsFindText (read_queries (query_of asked.target) (form_of asked)) given old new begins comes
   route_of asked (Ok Expand) given old new begins comes = globs_of IsExpandText (read_queries (query_of asked.target) (form_of asked)) given old new begins comes
   route_of asked (Ok Index) given old new begins comes = names_of IsIndexText given old new begins comes
   route_of asked (Err why) given old new begins comes =
-      record { own = []; stands = rests old.number history old new begins comes.1; so = (comes.0, stays old new comes.1) }
+      none_of given old new begins comes.1 comes.0
 
-  item_of : (item : Item) (given : Outcome) (old new : PassValue) → IsPrefix new.seen history → ComesOfItem w item given old new
-      → Has old.number history old new (λ p. IsOfItem w old.number p item given)
+  item_of : (item : Item) (given : Outcome) (old new : Caller) → IsPrefix new.pass.seen history → ComesOfItem w item given old new
+      → Has old.pass.number history old.pass new.pass (λ p. IsOfItem w old.pass.number p item given)
   item_of (Refused why) given old new begins comes =
-      record { own = []; stands = rests old.number history old new begins comes.1; so = (comes.0, stays old new comes.1) }
+      none_of given old new begins comes.1 comes.0
   item_of (Request asked) given old new begins comes = route_of asked (route asked.method asked.target) given old new begins comes.1
 
 -- ---- the items of a link
 
 module _ (w : Origin) (number : ℕ) (history : List Entry) where
-  item_at : (item : Item) (given : Outcome) (old new : PassValue) → old.number ≡ number → IsPrefix new.seen history → ComesOfItem w item given old new
-      → Has number history old new (λ p. IsOfItem w number p item given)
+  item_at : (item : Item) (given : Outcome) (old new : Caller) → old.pass.number ≡ number → IsPrefix new.pass.seen history → ComesOfItem w item given old new
+      → Has number history old.pass new.pass (λ p. IsOfItem w number p item given)
   item_at item given old new same begins comes =
-      subst (λ (n : ℕ). Has n history old new (λ p. IsOfItem w n p item given)) same (item_of w history item given old new begins comes)
+      subst (λ (n : ℕ). Has n history old.pass new.pass (λ p. IsOfItem w n p item given)) same (item_of w history item given old new begins comes)
 
-  items_of : (items : List Item) (outcomes : List Outcome) (old new : PassValue) → old.number ≡ number → IsPrefix new.seen history → ComesOfAll w old items outcomes new
-      → Has number history old new (AreOfHistory w number history items outcomes)
+  items_of : (items : List Item) (outcomes : List Outcome) (old new : Caller) → old.pass.number ≡ number → IsPrefix new.pass.seen history → ComesOfAll w old items outcomes new
+      → Has number history old.pass new.pass (AreOfHistory w number history items outcomes)
   items_of [] [] old new same begins comes =
-      record { own = []; stands = rests number history old new begins comes; so = stays old new comes }
+      let still : new.pass ≡ old.pass = ap (λ (who : Caller). who.pass) comes in
+      record { own = []; stands = rests number history old.pass new.pass begins still; so = stays old.pass new.pass still }
   items_of [] (given ∷ outcomes) old new same begins comes = absurd comes
   items_of (item ∷ items) [] old new same begins comes = absurd comes
   items_of (item ∷ items) (given ∷ outcomes) old new same begins comes =
-      let mid : PassValue = comes.0 in
-      let works : Works w.moments w.start old mid = item_works w item given old mid comes.1.0 in
-      let rest : Works w.moments w.start mid new = items_work w items outcomes mid new comes.1.1 in
-      let one : Has number history old mid (λ p. IsOfItem w number p item given) = item_at item given old mid same (prefix_on mid.seen new.seen history rest.begins begins) comes.1.0 in
-      let others : Has number history mid new (AreOfHistory w number history items outcomes) = items_of items outcomes mid new (works.number ∙ same) begins comes.1.1 in record {
+      let mid : Caller = comes.0 in
+      let works : Works w.moments w.start old.pass mid.pass = item_works w item given old mid comes.1.0 in
+      let rest : Works w.moments w.start mid.pass new.pass = items_work w items outcomes mid new comes.1.1 in
+      let one : Has number history old.pass mid.pass (λ p. IsOfItem w number p item given) = item_at item given old mid same (prefix_on mid.pass.seen new.pass.seen history rest.begins begins) comes.1.0 in
+      let others : Has number history mid.pass new.pass (AreOfHistory w number history items outcomes) = items_of items outcomes mid new (works.number ∙ same) begins comes.1.1 in record {
         own = one.own ++ others.own;
-        stands = both number history old mid new one.own others.own one.stands others.stands;
+        stands = both number history old.pass mid.pass new.pass one.own others.own one.stands others.stands;
         so = (
-          passage old mid one.own,
-          passage mid new others.own,
+          passage old.pass mid.pass one.own,
+          passage mid.pass new.pass others.own,
           (record { from = refl; mid = refl; to = refl; own = refl }, ((one.stands, one.so), others.so)),
         );
       }
@@ -219,10 +226,10 @@ module _ (w : Origin) (number : ℕ) (history : List Entry) where
 
   -- whole replies, and nothing behind them
   whole_of : (reason : HttpEnd) (taken : List ℕ) (left left' : Option (List ℕ)) (items : List Item) (from to : At) → Consumes left left' taken → AreReplied reason taken left' items
-      → from.pass.number ≡ number → IsPrefix to.pass.seen history → Serves w items from to
-      → Has number history from.pass to.pass (RepliesAreOf w number history reason left left' from.written to.written)
+      → from.caller.pass.number ≡ number → IsPrefix to.caller.pass.seen history → Serves w items from to
+      → Has number history from.caller.pass to.caller.pass (RepliesAreOf w number history reason left left' from.written to.written)
   whole_of reason taken left left' items from to consumed are same begins serves =
-      let each : Has number history from.pass to.pass (AreOfHistory w number history items serves.outcomes) = items_of items serves.outcomes from.pass to.pass same begins serves.comes in record {
+      let each : Has number history from.caller.pass to.caller.pass (AreOfHistory w number history items serves.outcomes) = items_of items serves.outcomes from.caller to.caller same begins serves.comes in record {
         own = each.own;
         stands = each.stands;
         so = record {
@@ -231,11 +238,11 @@ module _ (w : Origin) (number : ℕ) (history : List Entry) where
           items = items;
           are = are;
           outcomes = serves.outcomes;
-          first = passage from.pass to.pass each.own;
+          first = passage from.caller.pass to.caller.pass each.own;
           each = each.so;
           mid = to.written;
           wrote = serves.wrote;
-          behind = passage to.pass to.pass [];
+          behind = passage to.caller.pass to.caller.pass [];
           joins = record { from = refl; mid = refl; to = refl; own = sym (append-nil each.own) };
           last = [];
           is = inl (refl, (refl, refl));
@@ -244,14 +251,14 @@ module _ (w : Origin) (number : ℕ) (history : List Entry) where
       }
 
   -- which items those are before which memory ran out
-  short_items : (taken : List ℕ) (left : Option (List ℕ)) (items : List Item) (old new : PassValue) → RunsShort w taken left items old new → AreFirstItems taken left items
+  short_items : (taken : List ℕ) (left : Option (List ℕ)) (items : List Item) (old new : Caller) → RunsShort w taken left items old new → AreFirstItems taken left items
   short_items taken left items old new (inl between) =
       inr ([], subst (λ (l : List Item). BeginWith taken left l) (sym (append-nil items)) (inl between.0))
   short_items taken left items old new (inr at) = inr (at.0 ∷ [], at.1.0)
 
-  ends_of : (failed : Type 0) (reason : HttpEnd) (taken : List ℕ) (left left' : Option (List ℕ)) (from to : At) → Consumes left left' taken → from.pass.number ≡ number
-      → IsPrefix to.pass.seen history → EndsAs w (TellsShort failed) reason taken left' from to
-      → Has number history from.pass to.pass (RepliesAreOf w number history reason left left' from.written to.written)
+  ends_of : (failed : Type 0) (reason : HttpEnd) (taken : List ℕ) (left left' : Option (List ℕ)) (from to : At) → Consumes left left' taken → from.caller.pass.number ≡ number
+      → IsPrefix to.caller.pass.seen history → EndsAs w (TellsShort failed) reason taken left' from to
+      → Has number history from.caller.pass to.caller.pass (RepliesAreOf w number history reason left left' from.written to.written)
   ends_of failed end.Closed taken left left' from to consumed same begins ends =
       whole_of end.Closed taken left left' ends.0 from to consumed ends.1.0 same begins ends.1.1.1
   ends_of failed (end.Refused code) taken left left' from to consumed same begins ends =
@@ -265,24 +272,24 @@ module _ (w : Origin) (number : ℕ) (history : List Entry) where
   ends_of failed end.WriteFault taken left left' from to consumed same begins ends =
       let part = ends.2.1 in
       let mid : At = part.mid in
-      let works : Works w.moments w.start from.pass mid.pass = serves_work w ends.0 from mid part.serves in
-      let rest : Works w.moments w.start mid.pass to.pass = item_works w ends.1 part.outcome mid.pass to.pass part.comes in
-      let each : Has number history from.pass mid.pass (AreOfHistory w number history ends.0 part.serves.outcomes) =
-      items_of ends.0 part.serves.outcomes from.pass mid.pass same (prefix_on mid.pass.seen to.pass.seen history rest.begins begins) part.serves.comes in
-      let one : Has number history mid.pass to.pass (λ p. IsOfItem w number p ends.1 part.outcome) = item_at ends.1 part.outcome mid.pass to.pass (works.number ∙ same) begins part.comes in record {
+      let works : Works w.moments w.start from.caller.pass mid.caller.pass = serves_work w ends.0 from mid part.serves in
+      let rest : Works w.moments w.start mid.caller.pass to.caller.pass = item_works w ends.1 part.outcome mid.caller to.caller part.comes in
+      let each : Has number history from.caller.pass mid.caller.pass (AreOfHistory w number history ends.0 part.serves.outcomes) =
+      items_of ends.0 part.serves.outcomes from.caller mid.caller same (prefix_on mid.caller.pass.seen to.caller.pass.seen history rest.begins begins) part.serves.comes in
+      let one : Has number history mid.caller.pass to.caller.pass (λ p. IsOfItem w number p ends.1 part.outcome) = item_at ends.1 part.outcome mid.caller to.caller (works.number ∙ same) begins part.comes in record {
         own = each.own ++ one.own;
-        stands = both number history from.pass mid.pass to.pass each.own one.own each.stands one.stands;
+        stands = both number history from.caller.pass mid.caller.pass to.caller.pass each.own one.own each.stands one.stands;
         so = record {
           taken = taken;
           consumed = consumed;
           items = ends.0;
           are = inr (ends.1 ∷ [], ends.2.0);
           outcomes = part.serves.outcomes;
-          first = passage from.pass mid.pass each.own;
+          first = passage from.caller.pass mid.caller.pass each.own;
           each = each.so;
           mid = mid.written;
           wrote = part.serves.wrote;
-          behind = passage mid.pass to.pass one.own;
+          behind = passage mid.caller.pass to.caller.pass one.own;
           joins = record { from = refl; mid = refl; to = refl; own = refl };
           last = reply_to ends.1 part.outcome;
           is = inr (inl (ends.1, part.outcome, ((one.stands, one.so), refl)));
@@ -291,28 +298,28 @@ module _ (w : Origin) (number : ℕ) (history : List Entry) where
       }
   ends_of failed end.NoMemory taken left left' from to consumed same begins ends =
       let mid : At = ends.mid in
-      let works : Works w.moments w.start from.pass mid.pass = serves_work w ends.items from mid ends.serves in
-      let rest : Works w.moments w.start mid.pass to.pass = runs_work w taken left' ends.items mid.pass to.pass ends.short in
-      let each : Has number history from.pass mid.pass (AreOfHistory w number history ends.items ends.serves.outcomes) =
-      items_of ends.items ends.serves.outcomes from.pass mid.pass same (prefix_on mid.pass.seen to.pass.seen history rest.begins begins) ends.serves.comes in
-      let given_up : StandsIn number history (passage mid.pass to.pass rest.made) = record {
+      let works : Works w.moments w.start from.caller.pass mid.caller.pass = serves_work w ends.items from mid ends.serves in
+      let rest : Works w.moments w.start mid.caller.pass to.caller.pass = runs_work w taken left' ends.items mid.caller to.caller ends.short in
+      let each : Has number history from.caller.pass mid.caller.pass (AreOfHistory w number history ends.items ends.serves.outcomes) =
+      items_of ends.items ends.serves.outcomes from.caller mid.caller same (prefix_on mid.caller.pass.seen to.caller.pass.seen history rest.begins begins) ends.serves.comes in
+      let given_up : StandsIn number history (passage mid.caller.pass to.caller.pass rest.made) = record {
         goes_on = rest.begins;
         begins = begins;
-        once = once_at number mid.pass to.pass rest.made (works.number ∙ same) (rest.number ∙ (works.number ∙ same)) rest.once;
+        once = once_at number mid.caller.pass to.caller.pass rest.made (works.number ∙ same) (rest.number ∙ (works.number ∙ same)) rest.once;
       } in record {
         own = each.own ++ rest.made;
-        stands = both number history from.pass mid.pass to.pass each.own rest.made each.stands given_up;
+        stands = both number history from.caller.pass mid.caller.pass to.caller.pass each.own rest.made each.stands given_up;
         so = record {
           taken = taken;
           consumed = consumed;
           items = ends.items;
-          are = short_items taken left' ends.items mid.pass to.pass ends.short;
+          are = short_items taken left' ends.items mid.caller to.caller ends.short;
           outcomes = ends.serves.outcomes;
-          first = passage from.pass mid.pass each.own;
+          first = passage from.caller.pass mid.caller.pass each.own;
           each = each.so;
           mid = mid.written;
           wrote = ends.serves.wrote;
-          behind = passage mid.pass to.pass rest.made;
+          behind = passage mid.caller.pass to.caller.pass rest.made;
           joins = record { from = refl; mid = refl; to = refl; own = refl };
           last = unavailable_reply;
           is = inr (inr (refl, given_up));
@@ -330,26 +337,26 @@ module _ (w : Origin) (number : ℕ) (history : List Entry) where
   none_begun end.Spent left pass why = inl refl
   none_begun end.NoMemory left pass why = inl refl
 
-  serves_of : (failed : Type 0) (reason : HttpEnd) (left left' : Option (List ℕ)) (from to : At) → from.pass.number ≡ number → IsPrefix to.pass.seen history
-      → ServesLink w failed reason left left' from to → Has number history from.pass to.pass (RepliesAreOf w number history reason left left' from.written to.written)
+  serves_of : (failed : Type 0) (reason : HttpEnd) (left left' : Option (List ℕ)) (from to : At) → from.caller.pass.number ≡ number → IsPrefix to.caller.pass.seen history
+      → ServesLink w failed reason left left' from to → Has number history from.caller.pass to.caller.pass (RepliesAreOf w number history reason left left' from.written to.written)
   serves_of failed reason left left' from to same begins (inl none) =
-      let still : to.pass ≡ from.pass = ap (λ (at : At). at.pass) none.same in record {
+      let still : to.caller.pass ≡ from.caller.pass = ap (λ (at : At). at.caller.pass) none.same in record {
         own = [];
-        stands = rests number history from.pass to.pass begins still;
+        stands = rests number history from.caller.pass to.caller.pass begins still;
         so = record {
           taken = [];
           consumed = subst (λ (now : Option (List ℕ)). Consumes left now []) (sym none.unread) (Consumes-none left);
           items = [];
-          are = none_begun reason left' to.pass none.why;
+          are = none_begun reason left' to.caller.pass none.why;
           outcomes = [];
-          first = passage from.pass from.pass [];
+          first = passage from.caller.pass from.caller.pass [];
           each = (refl, refl);
           mid = from.written;
           wrote = Appends-none from.written;
-          behind = passage from.pass to.pass [];
+          behind = passage from.caller.pass to.caller.pass [];
           joins = record { from = refl; mid = refl; to = refl; own = refl };
           last = [];
-          is = inl (refl, stays from.pass to.pass still);
+          is = inl (refl, stays from.caller.pass to.caller.pass still);
           front = (0, omega arith, subst (λ (now : Option (List ℕ)). Appends from.written now []) (sym (ap (λ (at : At). at.written) none.same)) (Appends-none from.written));
         };
       }
@@ -358,22 +365,22 @@ module _ (w : Origin) (number : ℕ) (history : List Entry) where
 -- ---- links
 
 module _ {L : Type 0} (links : Telling L) (w : Origin) (number : ℕ) (history : List Entry) where
-  link_works : (link : HttpLink L) (old new : PassValue) → ServesHttpLink links w link old new → Works w.moments w.start old new
+  link_works : (link : HttpLink L) (old new : Caller) → ServesHttpLink links w link old new → Works w.moments w.start old.pass new.pass
   link_works link old new serves =
       link_end w (Rose (links.failed_writes link.before) (links.failed_writes link.after)) link.end (links.left link.before) (links.left link.after)
-      (record { pass = old; written = links.written link.before }) (record { pass = new; written = links.written link.after }) serves.serves
+      (record { caller = old; written = links.written link.before }) (record { caller = new; written = links.written link.after }) serves.serves
 
-  link_of : (link : HttpLink L) (old new : PassValue) → old.number ≡ number → IsPrefix new.seen history → ServesHttpLink links w link old new
-      → Has number history old new (RepliesOfLink links w number history link)
+  link_of : (link : HttpLink L) (old new : Caller) → old.pass.number ≡ number → IsPrefix new.pass.seen history → ServesHttpLink links w link old new
+      → Has number history old.pass new.pass (RepliesOfLink links w number history link)
   link_of link old new same begins serves =
-      let from : At = record { pass = old; written = links.written link.before } in
-      let to : At = record { pass = new; written = links.written link.after } in
-      let has : Has number history old new (RepliesAreOf w number history link.end (links.left link.before) (links.left link.after) (links.written link.before) (links.written link.after)) =
+      let from : At = record { caller = old; written = links.written link.before } in
+      let to : At = record { caller = new; written = links.written link.after } in
+      let has : Has number history old.pass new.pass (RepliesAreOf w number history link.end (links.left link.before) (links.left link.after) (links.written link.before) (links.written link.after)) =
       serves_of w number history (Rose (links.failed_writes link.before) (links.failed_writes link.after)) link.end (links.left link.before) (links.left link.after) from to same begins serves.serves in
       let makes = serves.makes in
       let entries : List Entry = makes.entries in
-      let once : of_pass number new.seen ≡ of_pass number old.seen ++ entries = once_at number old new entries same (makes.number ∙ same) makes.once in
-      let are : entries ≡ has.own = same_behind (of_pass number old.seen) entries has.own (sym once ∙ has.stands.once) in record {
+      let once : of_pass number new.pass.seen ≡ of_pass number old.pass.seen ++ entries = once_at number old.pass new.pass entries same (makes.number ∙ same) makes.once in
+      let are : entries ≡ has.own = same_behind (of_pass number old.pass.seen) entries has.own (sym once ∙ has.stands.once) in record {
         own = has.own;
         stands = has.stands;
         so = record {
@@ -382,31 +389,33 @@ module _ {L : Type 0} (links : Telling L) (w : Origin) (number : ℕ) (history :
         };
       }
 
-  turn_works : (served : List (HttpLink L)) (a c : PassValue) → InTurn (ServesHttpLink links w) served a c → Works w.moments w.start a c
-  turn_works [] a c same = subst (λ (pass : PassValue). Works w.moments w.start a pass) (sym same) (works_same w.moments w.start a)
-  turn_works (link ∷ served) a c turns = works_then w.moments w.start a turns.0 c (link_works link a turns.0 turns.1.0) (turn_works served turns.0 c turns.1.1)
+  turn_works : (served : List (HttpLink L)) (a c : Caller) → InTurn (ServesHttpLink links w) served a c → Works w.moments w.start a.pass c.pass
+  turn_works [] a c same = subst (λ (who : Caller). Works w.moments w.start a.pass who.pass) (sym same) (works_same w.moments w.start a.pass)
+  turn_works (link ∷ served) a c turns = works_then w.moments w.start a.pass turns.0.pass c.pass (link_works link a turns.0 turns.1.0) (turn_works served turns.0 c turns.1.1)
 
   -- all links that a pass served
-  links_of : (served : List (HttpLink L)) (a c : PassValue) → a.number ≡ number → IsPrefix c.seen history → InTurn (ServesHttpLink links w) served a c
-      → Has number history a c (RepliesOfAll links w number history served)
-  links_of [] a c same begins turns = record { own = []; stands = rests number history a c begins turns; so = stays a c turns }
+  links_of : (served : List (HttpLink L)) (a c : Caller) → a.pass.number ≡ number → IsPrefix c.pass.seen history → InTurn (ServesHttpLink links w) served a c
+      → Has number history a.pass c.pass (RepliesOfAll links w number history served)
+  links_of [] a c same begins turns =
+      let still : c.pass ≡ a.pass = ap (λ (who : Caller). who.pass) turns in
+      record { own = []; stands = rests number history a.pass c.pass begins still; so = stays a.pass c.pass still }
   links_of (link ∷ served) a c same begins turns =
-      let mid : PassValue = turns.0 in
-      let works : Works w.moments w.start a mid = link_works link a mid turns.1.0 in
-      let rest : Works w.moments w.start mid c = turn_works served mid c turns.1.1 in
-      let one : Has number history a mid (RepliesOfLink links w number history link) = link_of link a mid same (prefix_on mid.seen c.seen history rest.begins begins) turns.1.0 in
-      let others : Has number history mid c (RepliesOfAll links w number history served) = links_of served mid c (works.number ∙ same) begins turns.1.1 in record {
+      let mid : Caller = turns.0 in
+      let works : Works w.moments w.start a.pass mid.pass = link_works link a mid turns.1.0 in
+      let rest : Works w.moments w.start mid.pass c.pass = turn_works served mid c turns.1.1 in
+      let one : Has number history a.pass mid.pass (RepliesOfLink links w number history link) = link_of link a mid same (prefix_on mid.pass.seen c.pass.seen history rest.begins begins) turns.1.0 in
+      let others : Has number history mid.pass c.pass (RepliesOfAll links w number history served) = links_of served mid c (works.number ∙ same) begins turns.1.1 in record {
         own = one.own ++ others.own;
-        stands = both number history a mid c one.own others.own one.stands others.stands;
-        so = (passage a mid one.own, passage mid c others.own, (record { from = refl; mid = refl; to = refl; own = refl }, (one.so, others.so)));
+        stands = both number history a.pass mid.pass c.pass one.own others.own one.stands others.stands;
+        so = (passage a.pass mid.pass one.own, passage mid.pass c.pass others.own, (record { from = refl; mid = refl; to = refl; own = refl }, (one.so, others.so)));
       }
 
   -- a pass that had seen nothing
-  pub all_replies : (served : List (HttpLink L)) (a c : PassValue) (own : List Entry) → a.number ≡ number → a.seen ≡ [] → c.number ≡ number → own_entries c ≡ own → IsPrefix c.seen history
-      → InTurn (ServesHttpLink links w) served a c → RepliesOfAll links w number history served (record { before = []; own = own; after = c.seen })
+  pub all_replies : (served : List (HttpLink L)) (a c : Caller) (own : List Entry) → a.pass.number ≡ number → a.pass.seen ≡ [] → c.pass.number ≡ number → own_entries c.pass ≡ own → IsPrefix c.pass.seen history
+      → InTurn (ServesHttpLink links w) served a c → RepliesOfAll links w number history served (record { before = []; own = own; after = c.pass.seen })
   all_replies served a c own same none same' is begins turns =
-      let has : Has number history a c (RepliesOfAll links w number history served) = links_of served a c same begins turns in
+      let has : Has number history a.pass c.pass (RepliesOfAll links w number history served) = links_of served a c same begins turns in
       let mine : has.own ≡ own =
-      sym (has.stands.once ∙ ap (λ (seen : List Entry). of_pass number seen ++ has.own) none) ∙ (ap (λ (n : ℕ). of_pass n c.seen) (sym same') ∙ is) in
-      subst (λ (before : List Entry). RepliesOfAll links w number history served (record { before = before; own = own; after = c.seen })) none
-      (subst (λ (es : List Entry). RepliesOfAll links w number history served (record { before = a.seen; own = es; after = c.seen })) mine has.so)
+      sym (has.stands.once ∙ ap (λ (seen : List Entry). of_pass number seen ++ has.own) none) ∙ (ap (λ (n : ℕ). of_pass n c.pass.seen) (sym same') ∙ is) in
+      subst (λ (before : List Entry). RepliesOfAll links w number history served (record { before = before; own = own; after = c.pass.seen })) none
+      (subst (λ (es : List Entry). RepliesOfAll links w number history served (record { before = a.pass.seen; own = es; after = c.pass.seen })) mine has.so)

@@ -238,8 +238,9 @@ pub record PutsOf {L : Type 0} (links : Telling L) (w : Origin) (number : ℕ) (
   pub consumed : Consumes (links.left link.before) (links.left link.after) taken
   pub handled : List Line
   pub are : AreHandled link.cause taken handled
+  pub readings : List ℕ
   pub points : List Point
-  pub read : LinesBring w.moments handled points
+  pub read : LinesBring w.moments readings handled points
   pub put : List Point
   pub all : ArePut link.cause links.rules taken (links.left link.after) handled points put
   pub made : ArePuts number put entries

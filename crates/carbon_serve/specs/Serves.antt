@@ -1,5 +1,5 @@
 -- What the service of a net comes to.
-use Rattle.std.specs.Prelude.{◌≡◌, ◌⊎◌, ◌<◌, ◌≤◌, ◌+◌, ◌^◌, ℕ, true, All, List, [], ◌∷◌, ◌++◌, length, Option, Some, IfSome, slice_get}
+use Rattle.std.specs.Prelude.{◌≡◌, ◌⊎◌, ◌<◌, ◌≤◌, ◌+◌, ◌^◌, ℕ, false, true, All, List, [], ◌∷◌, ◌++◌, length, Option, Some, IfSome, slice_get}
 use Rattle.outside_io.specs.Image.{Image, WhereKnown}
 use Rattle.outside_io.specs.Faults.{Rose}
 use Rattle.outside_io.specs.declared.disk.Disk.{Ghosts}
@@ -9,6 +9,8 @@ use Rattle.carbon_history.specs.Entries.{NamesPasses, is_drain, of_pass}
 use Rattle.carbon_model.specs.State.{State}
 use Rattle.carbon_model.specs.RingFiles.{Stands}
 use Rattle.carbon_model.specs.Replay.{IsLegalHistory, replay}
+use Rattle.redo_log.specs.Recovery.{is_open}
+use Rattle.redo_log.specs.Steps.{gate_name}
 use Rattle.shard_set.specs.Disks.{disk_faults}
 use Rattle.shared_store.specs.Closes.{EndsAs}
 use Rattle.shared_store.specs.declared.drain_end.DrainEnd.{DrainEnd}
@@ -22,10 +24,16 @@ use Rattle.carbon_serve.specs.Workers.{HasMoment}
 abbrev pub DisksStand : {D : Type 0} → (D → Option Image) → (ℕ → Option Image) → List D → State → Type 0
 DisksStand image told disks s = (k : ℕ) → IfSome (slice_get disks k) (λ disk. WhereKnown (told k) (image disk) (λ opening now. Stands opening now s.kept k))
 
--- nothing is pending, and the disks stand for all that is kept
+-- no disk that tells its image has an open gate
+abbrev pub AreShut : {D : Type 0} → (D → Option Image) → List D → Type 0
+AreShut image disks =
+    (k : ℕ) → IfSome (slice_get disks k) (λ disk. IfSome (image disk) (λ now. is_open (now gate_name) ≡ false))
+
+-- nothing is pending, the disks stand for all that is kept, and no gate is open
 pub record IsDrained {D : Type 0} (image : D → Option Image) (told : ℕ → Option Image) (disks : List D) (s : State) : Type 0 where
   pub none : (class : ℕ) → class < 16 → s.pending class ≡ []
   pub stand : DisksStand image told disks s
+  pub shut : AreShut image disks
 
 -- ---- the end
 

@@ -1,5 +1,5 @@
 -- What the workers of a server make of the history.
-use Rattle.std.specs.Prelude.{◌≡◌, ◌<◌, ℕ, All, List, ◌++◌, length, get_or, Option, Some, None, IfSome}
+use Rattle.std.specs.Prelude.{◌≡◌, ◌⊎◌, ◌<◌, ℕ, All, List, ◌++◌, length, get_or, Option, Some, None, IfSome}
 use mathlib.Core.List.{IsPrefix}
 use Rattle.atomic_table.specs.Seated.{TableId}
 use Rattle.carbon_history.specs.declared.entry.Entry.{Entry}
@@ -7,6 +7,7 @@ use Rattle.carbon_history.specs.declared.entry.Entry.TheVariants.{Put, Drain, As
 use Rattle.carbon_model.specs.State.{State}
 use Rattle.carbon_model.specs.Replay.{IsLegalHistory}
 use Rattle.shared_history.specs.Parts.{PassValue, own_entries}
+use Rattle.shared_store.specs.Passes.{IsSpent}
 use Rattle.carbon_serve.specs.declared.workers.Worker.{Worker}
 
 -- The moment at which a metric was drained, or a question was asked, is one of these. The time of a
@@ -44,3 +45,8 @@ pub record AllWork (moments : ℕ → Type 0) (start : State) (old new : List Wo
 -- a worker's pass is of this table
 abbrev pub IsReady : TableId → Worker → Type 0
 IsReady table worker = IfSome worker.pass (λ pass. pass.table ≡ table)
+
+-- Why a worker serves no more links, by a net that closes or not: because it closes, or because the worker's pass has not the room for another call. No
+-- other end of a link is an end of its work.
+abbrev pub ServesNoMore : Type 0 → PassValue → Type 0
+ServesNoMore closes pass = closes ⊎ IsSpent pass

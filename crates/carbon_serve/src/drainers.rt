@@ -4,7 +4,8 @@ ghost use Rattle.carbon_serve.specs.Rounds.{gets_on, writes_on};
 
 use crate::pace::{Pace, Pacer, Permit};
 use crate::pacing::next_class;
-use crate::workers::{Server, moment};
+use crate::workers::Server;
+use clock_watch::Watch;
 use metric_path::CLASSES;
 use outside_io::{Clock, Disk, Net};
 use shard_core::Wrote;
@@ -16,12 +17,13 @@ impl<'a, R: Wait, D: Disk, N: Named, C: Clock, E: Net> Server<'a, R, D, N, C, E>
 where
     E::L: Drop + Send,
 {
-    ghost use Rattle.std.specs.Prelude.{◌≡◌, ◌≢◌, ◌<◌, IfSome, None, Some};
+    ghost use Rattle.std.specs.Prelude.{◌≡◌, ◌≢◌, ◌<◌, ℕ, IfSome, List, None, Some};
     ghost use Rattle.carbon_model.specs.Replay.{replay};
     ghost use Rattle.shared_store.specs.Passes.{HasRoom};
     ghost use Rattle.carbon_serve.specs.Paces.{CountsStep, IsFree, IsPermitted, PermitsIn};
     ghost use Rattle.carbon_serve.specs.Rounds.{StepsOnce, TriesClass, TriesWrite, WritesOnce};
     ghost use Rattle.carbon_serve.specs.Deeds.{DrainsOnly};
+    ghost use Rattle.http_front.specs.Origin.{caller_of};
     ghost use Rattle.carbon_serve.specs.Workers.{Works};
 
     /// Drains what is pending, step by step and within its pace, until no worker serves links any more
@@ -29,14 +31,15 @@ where
     /// is drained by all of them. A round begins behind the class that last did what is bounded, so that
     /// a pace comes to all of them. It pauses after a round in which no class got on.
     #[tactic(auto, using(crate::proofs::DeedLemmas::only_same, crate::proofs::WorkLemmas::works_same, crate::proofs::DeedLemmas::only_then, crate::proofs::WorkLemmas::works_then))]
-    pub(crate) fn drain(&self, pass: &mut StorePass<N>, pace: Pace)
+    pub(crate) fn drain(&self, pass: &mut StorePass<N>, watch: &mut Watch<C>, pace: Pace)
         ensures works { Works (C.moments self.now.clock.now) N.start pass.old pass.new }
-        ensures only { DrainsOnly (C.moments self.now.clock.now) pass.old pass.new }
+        ensures only { DrainsOnly (C.moments self.now.clock.now) (caller_of pass.old watch.old)
+            (caller_of pass.new watch.new) }
     {
-        let mut pacer = Pacer::new(pace, moment(self.clock));
+        let mut pacer = Pacer::new(pace, watch.read(self.clock));
         for _round in self.rt.forever() {
             let is_stop = self.link_workers.load(Ordering::SeqCst) == 0;
-            if !self.drain_round(pass, &mut pacer) {
+            if !self.drain_round(pass, watch, &mut pacer) {
                 if self.is_done(pass, is_stop) {
                     return;
                 }
@@ -54,14 +57,15 @@ where
 
     // One turn of each class: whether one got on.
     #[tactic(auto, using(crate::proofs::DeedLemmas::only_same, crate::proofs::WorkLemmas::works_same, crate::proofs::DeedLemmas::only_then, crate::proofs::WorkLemmas::works_then))]
-    fn drain_round(&self, pass: &mut StorePass<N>, pacer: &mut Pacer) -> bool
+    fn drain_round(&self, pass: &mut StorePass<N>, watch: &mut Watch<C>, pacer: &mut Pacer) -> bool
         ensures works { Works (C.moments self.now.clock.now) N.start pass.old pass.new }
-        ensures only { DrainsOnly (C.moments self.now.clock.now) pass.old pass.new }
+        ensures only { DrainsOnly (C.moments self.now.clock.now) (caller_of pass.old watch.old)
+            (caller_of pass.new watch.new) }
     {
         let mut moved = false;
         let mut class = pacer.first_class();
         for _turn in 0..CLASSES {
-            if self.drain_turn(pass, pacer, class) {
+            if self.drain_turn(pass, watch, pacer, class) {
                 moved = true;
             }
             class = next_class(class);
@@ -71,33 +75,47 @@ where
 
     // One turn of a class, unless another drainer is at it: whether the class got on.
     #[tactic(auto, using(crate::proofs::DeedLemmas::only_same, crate::proofs::WorkLemmas::works_same))]
-    fn drain_turn(&self, pass: &mut StorePass<N>, pacer: &mut Pacer, class: u32) -> bool
+    fn drain_turn(
+        &self,
+        pass: &mut StorePass<N>,
+        watch: &mut Watch<C>,
+        pacer: &mut Pacer,
+        class: u32,
+    ) -> bool
         requires class { class < 16 }
         ensures works { Works (C.moments self.now.clock.now) N.start pass.old pass.new }
-        ensures only { DrainsOnly (C.moments self.now.clock.now) pass.old pass.new }
+        ensures only { DrainsOnly (C.moments self.now.clock.now) (caller_of pass.old watch.old)
+            (caller_of pass.new watch.new) }
     {
         let bit = 1_u32 << class;
         if self.taken.fetch_or(bit, Ordering::SeqCst) & bit != 0 {
             return false;
         }
-        let moved = self.drain_class(pass, pacer, class);
+        let moved = self.drain_class(pass, watch, pacer, class);
         self.taken.fetch_and(!bit, Ordering::SeqCst);
         moved
     }
 
     // What the pace lets the drainer do to a class: whether the class got on. Without a pace it is one
     // step, where the pass has room for it.
-    #[tactic(auto, using(crate::proofs::DeedLemmas::only_then, crate::proofs::WorkLemmas::works_then))]
-    fn drain_class(&self, pass: &mut StorePass<N>, pacer: &mut Pacer, class: u32) -> bool
+    #[tactic(auto, using(crate::proofs::WorkLemmas::works_then))]
+    fn drain_class(
+        &self,
+        pass: &mut StorePass<N>,
+        watch: &mut Watch<C>,
+        pacer: &mut Pacer,
+        class: u32,
+    ) -> bool
         requires class { class < 16 }
         ensures works { Works (C.moments self.now.clock.now) N.start pass.old pass.new }
-        ensures only { DrainsOnly (C.moments self.now.clock.now) pass.old pass.new }
+        ensures only { DrainsOnly (C.moments self.now.clock.now) (caller_of pass.old watch.old)
+            (caller_of pass.new watch.new) }
         ensures tries { IsFree pacer.old → TriesClass (C.moments self.now.clock.now) N.start N.passes
             class result pass.old pass.new }
     {
-        pacer.advance(moment(self.clock));
+        pacer.advance(watch.read(self.clock));
         let permit = self.permit(pass, pacer, class);
-        self.drain_as(pass, pacer, class, permit)
+        self.drain_as(pass, watch, pacer, class, permit)
     }
 
     // One step of a class that is permitted, or the write of a run where none is, where the pass has
@@ -106,6 +124,7 @@ where
     fn drain_as(
         &self,
         pass: &mut StorePass<N>,
+        watch: &mut Watch<C>,
         pacer: &mut Pacer,
         class: u32,
         permit: Option<Permit>,
@@ -113,7 +132,8 @@ where
         requires class { class < 16 }
         requires permitted { IfSome permit (IsPermitted pacer.old) }
         ensures works { Works (C.moments self.now.clock.now) N.start pass.old pass.new }
-        ensures only { DrainsOnly (C.moments self.now.clock.now) pass.old pass.new }
+        ensures only { DrainsOnly (C.moments self.now.clock.now) (caller_of pass.old watch.old)
+            (caller_of pass.new watch.new) }
         ensures tries { permit ≢ None → TriesClass (C.moments self.now.clock.now) N.start
             N.passes class result pass.old pass.new }
         ensures writes { permit ≡ None → TriesWrite N.start N.passes class result
@@ -125,7 +145,7 @@ where
         let Some(permit) = permit else {
             return self.write(pass, class);
         };
-        let came = self.step(pass, pacer, class, permit);
+        let came = self.step(pass, watch, pacer, class, permit);
         gets_on(came)
     }
 
@@ -135,7 +155,8 @@ where
     fn permit(&self, pass: &mut StorePass<N>, pacer: &Pacer, class: u32) -> Option<Permit>
         requires class { class < 16 }
         ensures works { Works (C.moments self.now.clock.now) N.start pass.old pass.new }
-        ensures only { DrainsOnly (C.moments self.now.clock.now) pass.old pass.new }
+        ensures only { (told : List ℕ) → DrainsOnly (C.moments self.now.clock.now)
+            (caller_of pass.old told) (caller_of pass.new told) }
         ensures free { IsFree pacer.now → (result ≡ Some Permit.Drain) × (pass.new ≡ pass.old) }
         ensures permits { PermitsIn (replay N.start pass.new.seen) class pacer.now result }
         ensures permitted { IfSome result (IsPermitted pacer.now) }
@@ -153,7 +174,8 @@ where
         requires class { class < 16 }
         requires room { HasRoom pass.old }
         ensures works { Works (C.moments self.now.clock.now) N.start pass.old pass.new }
-        ensures only { DrainsOnly (C.moments self.now.clock.now) pass.old pass.new }
+        ensures only { (told : List ℕ) → DrainsOnly (C.moments self.now.clock.now)
+            (caller_of pass.old told) (caller_of pass.new told) }
         ensures writes { WritesOnce N.start N.passes class result pass.old pass.new }
     {
         let wrote = self.store.write_step(self.rt, pass, class);
@@ -162,17 +184,25 @@ where
 
     // One step of a class. A drain that it begins is counted as one that was permitted.
     #[tactic(auto, using(crate::proofs::DeedLemmas::step_only, crate::proofs::WorkLemmas::step_works))]
-    fn step(&self, pass: &mut StorePass<N>, pacer: &mut Pacer, class: u32, permit: Permit) -> Step
+    fn step(
+        &self,
+        pass: &mut StorePass<N>,
+        watch: &mut Watch<C>,
+        pacer: &mut Pacer,
+        class: u32,
+        permit: Permit,
+    ) -> Step
         requires class { class < 16 }
         requires room { HasRoom pass.old }
         requires permitted { IsPermitted pacer.old permit }
         ensures works { Works (C.moments self.now.clock.now) N.start pass.old pass.new }
-        ensures only { DrainsOnly (C.moments self.now.clock.now) pass.old pass.new }
+        ensures only { DrainsOnly (C.moments self.now.clock.now) (caller_of pass.old watch.old)
+            (caller_of pass.new watch.new) }
         ensures steps { StepsOnce (C.moments self.now.clock.now) N.start N.passes class result
             pass.old pass.new }
         ensures counts { CountsStep result permit pacer.old pacer.new }
     {
-        let now = moment(self.clock);
+        let now = watch.read(self.clock);
         let came = self.store.drain_step(self.rt, pass, class, now);
         if came == Step::Took {
             pacer.count(permit, class);

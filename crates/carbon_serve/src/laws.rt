@@ -1,11 +1,11 @@
 //! Laws of what a server's history tells of its links.
-ghost use Rattle.std.specs.Prelude.{ℕ, List, Option};
+ghost use Rattle.std.specs.Prelude.{ℕ, List, [], Option};
 ghost use Rattle.aggregate_rules.specs.RuleTexts.{RuleValue};
 ghost use Rattle.carbon_history.specs.declared.entry.Entry.{Entry};
 ghost use Rattle.carbon_history.specs.Entries.{of_pass};
 ghost use Rattle.carbon_model.specs.State.{State};
 ghost use Rattle.outside_io.specs.Image.{Image};
-ghost use Rattle.http_front.specs.Origin.{origin_of};
+ghost use Rattle.http_front.specs.Origin.{caller_of, origin_of};
 ghost use Rattle.shared_store.specs.declared.drain_end.DrainEnd.{DrainEnd};
 ghost use Rattle.carbon_serve.specs.Courses.{CourseOf, staff_of};
 ghost use Rattle.carbon_serve.specs.Deeds.{HttpLink, InTurn, LineLink, ServesHttpLink, ServesLineLink, telling};
@@ -40,9 +40,10 @@ pub fn every_reply_is_of_the_one_history<C: Clock, N: Named, E: Net>()
     ensures { (clock : C) (rules : List RuleValue) (duties : Duties) (number : ℕ)
         (history : List Entry)
         (course : CourseOf (telling E.L.Source E.L.Sink rules) (origin_of C.Clock N.Named clock)
-        duties number history) (served : List (HttpLink E.L))
+        duties number history) (served : List (HttpLink E.L)) (told : List ℕ)
         → InTurn (ServesHttpLink (telling E.L.Source E.L.Sink rules)
-        (origin_of C.Clock N.Named clock)) served course.fresh course.pass
+        (origin_of C.Clock N.Named clock)) served (caller_of course.fresh [])
+        (caller_of course.pass told)
         → RepliesOfAll (telling E.L.Source E.L.Sink rules) (origin_of C.Clock N.Named clock)
         number history served (from_nothing (of_pass number history) course.pass.seen) }
 {}
@@ -58,9 +59,10 @@ pub fn every_point_is_put_once<C: Clock, N: Named, E: Net>()
     ensures { (clock : C) (rules : List RuleValue) (duties : Duties) (number : ℕ)
         (history : List Entry)
         (course : CourseOf (telling E.L.Source E.L.Sink rules) (origin_of C.Clock N.Named clock)
-        duties number history) (served : List (LineLink E.L))
+        duties number history) (served : List (LineLink E.L)) (told : List ℕ)
         → InTurn (ServesLineLink (telling E.L.Source E.L.Sink rules)
-        (origin_of C.Clock N.Named clock)) served course.fresh course.pass
+        (origin_of C.Clock N.Named clock)) served (caller_of course.fresh [])
+        (caller_of course.pass told)
         → PutsOfAll (telling E.L.Source E.L.Sink rules) (origin_of C.Clock N.Named clock) number
         served (of_pass number history) }
 {}

@@ -7,9 +7,11 @@ ghost use Rattle.carbon_serve.specs.Workers.{AllWork, IsReady, Works, WorksBy};
 
 use crate::pace::Pace;
 use aggregate_rules::AggRules;
+use clock_watch::Watch;
 use http_front::{HttpEnd, serve_http};
 use line_front::{LineCause, Served as ServedLines, serve_lines};
 use outside_io::{Clock, Disk, Net};
+use read_trace::Reads;
 use shared_history::Pass;
 use shared_store::{Named, Store, StorePass};
 use std::alloc::Global;
@@ -67,9 +69,10 @@ where
     E::L: Drop + Send,
 {
     ghost use Rattle.std.specs.Prelude.{◌≡◌, ◌<◌, true};
-    ghost use Rattle.http_front.specs.Origin.{origin_of};
+    ghost use Rattle.line_front.specs.Links.{IsSpent};
+    ghost use Rattle.http_front.specs.Origin.{caller_of, origin_of};
     ghost use Rattle.carbon_serve.specs.Deeds.{Did, DoesRole, Receives, Renders, ServesHttpOf, ServesLineOf, telling};
-    ghost use Rattle.carbon_serve.specs.Workers.{IsReady, Works, WorksBy};
+    ghost use Rattle.carbon_serve.specs.Workers.{IsReady, ServesNoMore, Works, WorksBy};
 
     /// Serves links of the worker's kind, one after the other, until the net is closed or the pass
     /// is spent; or drains until nobody serves links any more.
@@ -89,6 +92,7 @@ where
         }
     }
 
+    #[tactic(auto, using(crate::proofs::DeedLemmas::drains_by))]
     fn work_by(&self, role: Role, pass: StorePass<N>) -> StorePass<N>
         ensures works { Works (C.moments self.now.clock.now) N.start pass result }
         ensures did { Did (telling E.L.Source E.L.Sink self.now.rules.now)
@@ -98,7 +102,7 @@ where
         match role {
             Role::Receiver => return self.receive(pass),
             Role::Renderer { answer_bytes } => self.render(&mut pass, answer_bytes),
-            Role::Drainer { pace } => self.drain(&mut pass, pace),
+            Role::Drainer { pace } => self.drain(&mut pass, &mut Watch::new(), pace),
         }
         pass
     }
@@ -110,13 +114,15 @@ where
         ensures works { Works (C.moments self.now.clock.now) N.start pass result }
         ensures did { Receives (telling E.L.Source E.L.Sink self.now.rules.now)
             (origin_of C.Clock N.Named self.now.clock.now) pass result }
+        ensures ends { ServesNoMore (E.closes self.now.net.now) result }
     {
         let mut pass = pass;
+        let mut watch = Watch::new();
         for _link in self.rt.forever() {
             let Some(link) = self.net.next_lines() else {
                 return pass;
             };
-            let served = self.receive_link(pass, link);
+            let served = self.receive_link(pass, &mut watch, link);
             pass = served.pass;
             if served.cause == LineCause::Spent {
                 return pass;
@@ -125,14 +131,16 @@ where
         unreachable!()
     }
 
-    fn receive_link(&self, pass: StorePass<N>, link: E::L) -> ServedLines<N>
+    fn receive_link(&self, pass: StorePass<N>, watch: &mut Watch<C>, link: E::L) -> ServedLines<N>
         ensures works { Works (C.moments self.now.clock.now) N.start pass result.pass }
         ensures did { ServesLineOf (telling E.L.Source E.L.Sink self.now.rules.now)
-            (origin_of C.Clock N.Named self.now.clock.now) link pass result.pass }
+            (origin_of C.Clock N.Named self.now.clock.now) link (caller_of pass watch.old)
+            (caller_of result.pass watch.new) }
+        ensures spent { result.cause ≡ LineCause.Spent → IsSpent result.pass }
     {
         let mut link = link;
         serve_lines(
-            self.rt, self.alloc, self.store, pass, &mut link, self.clock, self.rules,
+            self.rt, self.alloc, self.store, pass, watch, &mut link, self.clock, self.rules,
         )
     }
 
@@ -142,30 +150,43 @@ where
         ensures works { Works (C.moments self.now.clock.now) N.start pass.old pass.new }
         ensures did { Renders (telling E.L.Source E.L.Sink self.now.rules.now)
             (origin_of C.Clock N.Named self.now.clock.now) pass.old pass.new }
+        ensures ends { ServesNoMore (E.closes self.now.net.now) pass.new }
     {
+        let mut watch = Watch::new();
         for _link in self.rt.forever() {
             let Some(link) = self.net.next_http() else {
                 return;
             };
-            if self.render_link(pass, link, answer_bytes) == HttpEnd::Spent {
+            if self.render_link(pass, &mut watch, link, answer_bytes) == HttpEnd::Spent {
                 return;
             }
         }
         unreachable!()
     }
 
-    fn render_link(&self, pass: &mut StorePass<N>, link: E::L, answer_bytes: u64) -> HttpEnd
+    fn render_link(
+        &self,
+        pass: &mut StorePass<N>,
+        watch: &mut Watch<C>,
+        link: E::L,
+        answer_bytes: u64,
+    ) -> HttpEnd
         ensures works { Works (C.moments self.now.clock.now) N.start pass.old pass.new }
         ensures did { ServesHttpOf (telling E.L.Source E.L.Sink self.now.rules.now)
-            (origin_of C.Clock N.Named self.now.clock.now) link pass.old pass.new }
+            (origin_of C.Clock N.Named self.now.clock.now) link (caller_of pass.old watch.old)
+            (caller_of pass.new watch.new) }
+        ensures spent { result ≡ HttpEnd.Spent → IsSpent pass.new }
     {
         let mut link = link;
+        let mut reads = Reads::new();
         serve_http(
             self.rt,
             self.alloc,
             self.store,
             pass,
+            watch,
             &mut link,
+            &mut reads,
             self.clock,
             answer_bytes,
         )

@@ -165,7 +165,7 @@ on_start {D} {d} class settings told opening s disk start is = record {
   here = is.started.here;
   holds = subst (λ (o : Option Image). Holds o (inside_of start) s) is.told_here
       (started_holds class settings true told s disk start is.started is.opens (is.known ∙ sym is.told_here) (laid_out class (told class) opening start.desk.table s.kept is.told_here));
-  row = is.started.crash.behind refl refl;
+  row = is.started.crash.behind refl (inl refl);
   early = λ early. absurd cc;
 }
 
@@ -183,3 +183,13 @@ crash_fronts {D} {d} class pass settings told opening s disk start mid now befor
     (λ was. front_of_more class opening s earlier earlier (entries_of_calls pass class after) mid.files.work.shelf left (on_starts class opening s earlier mid on left (d.only_now mid.files.disk left was)))
     (λ front. front)
     (all_within pass class opening s earlier after mid now second on (d.moment mid.files.disk) left (le_itself (d.moment mid.files.disk)) since))
+
+-- behind the last call what is read is one of the images that a crash may leave
+pub kill_fronts : {D : Type 0} {d : Ghosts D} (class pass : ℕ) (settings : Settings) (told : ℕ → Option Image) (opening : Image) (s : State) (disk : D) (start now : Shard D d) (calls : List Call) (left : Image)
+    → StartsLogged class settings told opening s disk start → MadeAll calls start now → d.image now.files.disk ≡ Some left
+    → StartsAsFront class opening s (entries_of_calls pass class calls) (entries_of_calls pass class calls) now.files.work.shelf left
+kill_fronts {D} {d} class pass settings told opening s disk start now calls left is made known =
+    let may : d.may_leave now.files.disk left = d.as_it_reads now.files.disk left left known (λ name. refl) in
+    let since : d.left_since now.files.disk (d.moment now.files.disk) left = d.counts_now now.files.disk (d.moment now.files.disk) left (le_itself (d.moment now.files.disk)) may in
+    subst (λ (all : List Call). StartsAsFront class opening s (entries_of_calls pass class calls) (entries_of_calls pass class all) now.files.work.shelf left) (append-nil calls)
+    (crash_fronts class pass settings told opening s disk start now now calls [] left is made refl since)

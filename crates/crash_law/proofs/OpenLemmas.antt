@@ -18,8 +18,7 @@ use Rattle.redo_log.proofs.RunRows.{over_under}
 use Rattle.redo_log.proofs.StepLemmas.{file_is_no_gate, file_is_no_log}
 use Rattle.carbon_model.specs.RingFiles.{IsOfClass, SameKept, Stands, StandsUnder, is_sound, kept_on}
 use Rattle.carbon_model.specs.State.{Kept}
-use Rattle.shard_core.specs.Opened.{FirstDamaged, IsOpening, IsSoundDisk}
-use Rattle.shard_core.specs.StartCrashes.{StartLeaves}
+use Rattle.shard_core.specs.Opened.{FirstDamaged, IsOpening, IsSoundDisk, StillOpens}
 use Rattle.shard_core.proofs.FileLemmas.{itself, same_text}
 use Rattle.shard_core.proofs.LogLemmas.{rings_stand}
 use Rattle.crash_law.specs.StartsAs.{StartsAs}
@@ -94,6 +93,9 @@ starts_shut told left kept class shut stands =
     starts_by told left kept class
     (λ laid recovers. ⊎_elim (λ same. rings_stand told left laid None kept class (same_rings left laid same.1) stands) (λ all. absurd (not_open (left gate_name) shut all.gate)) recovers)
     (λ damaged. not_open (left gate_name) shut damaged.gate)
+
+pub starts_left : (class : ℕ) (told left : Image) (kept : List ℕ → Option Kept) → StandsUnder told left None kept class → is_open (left gate_name) ≡ false → StartsAs class told kept left
+starts_left class told left kept stands shut = starts_shut told left kept class shut stands
 
 -- without damage
 kept_itself : (kept : Option Kept) → SameKept kept kept
@@ -233,7 +235,7 @@ image_same before left same = λ i name. same name i
 opens_same : (before left opened : Image) → SameImage before left → IsOpening left opened → IsOpening before opened
 opens_same before left opened same is = subst (λ (image : Image). IsOpening image opened) (image_same before left same) is
 
-pub opens_before : (before left opened : Image) → StartLeaves before left → IsOpening left opened → IsOpening before opened
+pub opens_before : (before left opened : Image) → StillOpens before left → IsOpening left opened → IsOpening before opened
 opens_before before left opened leaves is =
     ⊎_elim
     (λ opens. ⊎_elim (λ same. opens_same before left opened same is)
@@ -272,7 +274,7 @@ nothing_whole laid left nothing damaged =
 same_whole : (before left : Image) → SameImage before left → IsDamagedLog left → IsDamagedLog before
 same_whole before left same damaged = subst IsDamagedLog (image_same before left same) damaged
 
-log_whole : (before left : Image) → (IsDamagedLog before → ⊥) → StartLeaves before left → IsDamagedLog left → ⊥
+log_whole : (before left : Image) → (IsDamagedLog before → ⊥) → StillOpens before left → IsDamagedLog left → ⊥
 log_whole before left whole leaves damaged =
     ⊎_elim (λ opens. ⊎_elim (λ same. whole (same_whole before left same damaged)) (λ stops. within_whole stops.patch before left stops.holds stops.stands damaged) opens)
     (λ made. nothing_whole made.0 left made.1.1 damaged) leaves
@@ -282,7 +284,7 @@ log_whole before left whole leaves damaged =
 itself_rings : (image : Image) → KeepsRings image image
 itself_rings image = λ name no_log no_gate. refl
 
-pub starts_before : (class : ℕ) (told : Image) (kept : List ℕ → Option Kept) (before left : Image) → StartsAs class told kept before → StartLeaves before left → StartsAs class told kept left
+pub starts_before : (class : ℕ) (told : Image) (kept : List ℕ → Option Kept) (before left : Image) → StartsAs class told kept before → StillOpens before left → StartsAs class told kept left
 starts_before class told kept before left starts leaves = record {
   opens = λ opened is. starts.opens opened (opens_before before left opened leaves is);
   sound = λ name damaged. ⊎_elim

@@ -1,12 +1,11 @@
 //! What holds after a crash. The functions do nothing: what they ensure is the law.
-ghost use Rattle.std.specs.Prelude.{◌≡◌, ◌++◌, ℕ, Bool, false, List, Option, Some};
+ghost use Rattle.std.specs.Prelude.{◌≡◌, ◌++◌, ℕ, Bool, false, List, None, Option, Some};
 ghost use Rattle.outside_io.specs.Image.{Image};
 ghost use Rattle.redo_log.specs.Recovery.{is_open};
 ghost use Rattle.redo_log.specs.Steps.{gate_name};
-ghost use Rattle.carbon_model.specs.RingFiles.{IsOfClass, SameKept, Settings, kept_on};
+ghost use Rattle.carbon_model.specs.RingFiles.{IsOfClass, SameKept, Settings, StandsUnder, kept_on};
 ghost use Rattle.carbon_model.specs.State.{Kept, State};
-ghost use Rattle.shard_core.specs.Opened.{IsSoundDisk};
-ghost use Rattle.shard_core.specs.StartCrashes.{StartLeaves};
+ghost use Rattle.shard_core.specs.Opened.{IsSoundDisk, StillOpens};
 ghost use Rattle.shard_core.specs.StartFaults.{NotStarted};
 ghost use Rattle.shard_core.specs.Started.{StartedFrom};
 ghost use Rattle.shard_core.specs.Starting.{OnDamaged};
@@ -34,10 +33,21 @@ pub fn a_crash_leaves_a_front_of_the_drains<D: Disk>()
         (entries_of_calls pass class (before ++ after)) mid.files.work.shelf left }
 {}
 
+/// A killed process leaves what is read. Behind the last of these calls that starts as the replay of a
+/// front of the entries that the answers give, which holds each drain that was settled.
+pub fn a_kill_leaves_a_front_of_the_drains<D: Disk>()
+    ensures { (class pass : ℕ) (settings : Settings) (told : ℕ → Option Image) (opening : Image)
+        (s : State) (disk : D) (start now : Shard D D.Disk) (calls : List Call) (left : Image)
+        → StartsLogged class settings told opening s disk start → MadeAll calls start now
+        → D.image now.files.disk ≡ Some left
+        → StartsAsFront class opening s (entries_of_calls pass class calls)
+        (entries_of_calls pass class calls) now.files.work.shelf left }
+{}
+
 /// What a crash leaves at a moment of a start itself starts as the image before it.
 pub fn a_crash_of_a_start_starts_as_before()
     ensures { (class : ℕ) (told : Image) (kept : List ℕ → Option Kept) (before left : Image)
-        → StartsAs class told kept before → StartLeaves before left
+        → StartsAs class told kept before → StillOpens before left
         → StartsAs class told kept left }
 {}
 
@@ -45,6 +55,13 @@ pub fn a_crash_of_a_start_starts_as_before()
 pub fn an_image_without_damage_starts_as_it_reads()
     ensures { (class : ℕ) (image : Image) → is_open (image gate_name) ≡ false
         → IsSoundDisk class image → StartsAs class image (kept_on image) image }
+{}
+
+/// What a run left that ended with no drain on its way starts as what the run kept.
+pub fn what_a_run_left_starts_as_it_kept()
+    ensures { (class : ℕ) (told left : Image) (kept : List ℕ → Option Kept)
+        → StandsUnder told left None kept class → is_open (left gate_name) ≡ false
+        → StartsAs class told kept left }
 {}
 
 /// A shard that starts over an image has on its disk what that starts as, and no start over it tells

@@ -7,5 +7,6 @@ mod laws;
 
 pub use laws::{
     a_crash_leaves_a_front_of_the_drains, a_crash_of_a_start_starts_as_before,
-    a_start_over_what_a_crash_left, an_image_without_damage_starts_as_it_reads,
+    a_kill_leaves_a_front_of_the_drains, a_start_over_what_a_crash_left,
+    an_image_without_damage_starts_as_it_reads, what_a_run_left_starts_as_it_kept,
 };

@@ -144,7 +144,8 @@ impl<R: Eprint + Clock> FolderDisk<R> {
 }
 
 impl<R: Files<File = File> + AllocGlobal + Clone + Drop + Eprint + Clock> Disk for FolderDisk<R> {
-    ghost use Rattle.std.specs.Prelude.{ℕ, refl};
+    ghost use Rattle.std.specs.Prelude.{ℕ, IfSome, refl};
+    ghost use Rattle.std.proofs.Common.{subst};
 
     ghost image = { λ _. None };
 
@@ -159,6 +160,9 @@ impl<R: Files<File = File> + AllocGlobal + Clone + Drop + Eprint + Clock> Disk f
     ghost counts_now = { λ _ _ _ _ now. now };
 
     ghost only_now = { λ _ _ since. since };
+
+    ghost as_it_reads = { λ disk now left known same.
+        absurd (subst (λ told. IfSome told (λ _. ⊥)) known tt) };
 
     ghost Past = { ℕ };
 

@@ -7,12 +7,14 @@ ghost use Rattle.shared_history.specs.Parts.{AreNewPasses};
 ghost use Rattle.shared_store.specs.Starts.{IsFresh};
 
 use crate::moving_clock::MovingClock;
+use clock_watch::Watch;
 use drain_order::Strategy;
 use http_front::*;
 use metric_line::read_line;
 use metric_path::CLASSES;
 use outside_io::{MemDisk, MemLink, MemSink, MemSource};
 use point_cache::Put;
+use read_trace::Reads;
 use schema_rules::Rules;
 use shard_set::{Setup, Started, start_all};
 use shared_history::{Pass, make};
@@ -142,7 +144,19 @@ fn serve_link<N: Named, R: Wait>(
     let mut link = link;
     let before = pass.left();
     let clock = MovingClock::new(u64::from(NOW), step);
-    let end = serve_http(rt, alloc, store, pass, &mut link, &clock, ANSWER_BYTES);
+    let mut watch = Watch::new();
+    let mut reads = Reads::new();
+    let end = serve_http(
+        rt,
+        alloc,
+        store,
+        pass,
+        &mut watch,
+        &mut link,
+        &mut reads,
+        &clock,
+        ANSWER_BYTES,
+    );
     Came {
         written: link.sink.into_bytes(),
         end,

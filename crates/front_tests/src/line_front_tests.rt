@@ -8,12 +8,14 @@ ghost use Rattle.shared_store.specs.Starts.{IsFresh};
 
 use crate::moving_clock::MovingClock;
 use aggregate_front::AggRules;
+use clock_watch::Watch;
 use drain_order::Strategy;
 use http_front::serve_http;
 use line_front::*;
 use line_service::{ServiceEnd, Stop};
 use metric_path::CLASSES;
 use outside_io::{FixedClock, MemDisk, MemLink, MemSink, MemSource};
+use read_trace::Reads;
 use schema_rules::Rules;
 use shard_set::{Setup, Started, start_all};
 use shared_history::{Pass, make};
@@ -114,12 +116,13 @@ fn serve_all<N: Named, R: Wait>(
 ) -> Result<Came, AllocError> {
     let clock = MovingClock::new(NOW, given.step);
     let mut pass = pass;
+    let mut watch = Watch::new();
     let mut cause = LineCause::Closed;
     let mut counts = Counts::none();
     let mut written: usize = 0;
     for link in links {
         let mut link = link;
-        let served = serve_lines(rt, alloc, store, pass, &mut link, &clock, rules);
+        let served = serve_lines(rt, alloc, store, pass, &mut watch, &mut link, &clock, rules);
         pass = served.pass;
         cause = served.cause;
         counts = served.counts;
@@ -146,7 +149,19 @@ fn ask<N: Named, R: Wait>(
 ) -> Result<Vec<u8>, AllocError> {
     let mut link = link_of(alloc, source_of(alloc, question)?);
     let clock = FixedClock::new(LATER);
-    let _ = serve_http(rt, alloc, store, pass, &mut link, &clock, ANSWER_BYTES);
+    let mut watch = Watch::new();
+    let mut reads = Reads::new();
+    let _ = serve_http(
+        rt,
+        alloc,
+        store,
+        pass,
+        &mut watch,
+        &mut link,
+        &mut reads,
+        &clock,
+        ANSWER_BYTES,
+    );
     Ok(link.sink.into_bytes())
 }
 

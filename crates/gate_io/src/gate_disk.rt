@@ -91,6 +91,8 @@ impl<R: Clock + Drop, D: Disk + Drop> Disk for GateDisk<R, D> {
 
     ghost only_now = { λ disk. D.only_now disk.disk };
 
+    ghost as_it_reads = { λ disk. D.as_it_reads disk.disk };
+
     ghost Past = { D.Past };
 
     ghost changes = { λ disk. D.changes disk.disk };

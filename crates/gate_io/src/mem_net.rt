@@ -1,5 +1,5 @@
 // A network in memory.
-ghost use Rattle.std.specs.Prelude.{◌≡◌};
+ghost use Rattle.std.specs.Prelude.{◌≡◌, ⊤};
 
 use crate::faults::raised;
 use outside_io::{Link, Net, NetFailed};
@@ -57,6 +57,8 @@ impl<L: Link, R: Wait> Net for MemNet<L, R> {
     type L = L;
 
     ghost faults = { λ net. net.faults };
+
+    ghost closes = { λ _. ⊤ };
 
     fn faults(&self) -> u64 {
         self.faults

@@ -9,9 +9,8 @@ use Rattle.http_wire.specs.Reading.{end_items, end_of}
 use Rattle.http_wire.specs.Requests.{HasItems}
 use Rattle.http_wire.specs.declared.refusal.Refusal.{Refusal}
 use Rattle.http_wire.proofs.RequestLemmas.{hands_end}
-use Rattle.shared_history.specs.Parts.{PassValue}
 use Rattle.http_front.specs.Links.{ComesOfAll, Ends, EndsAs, IsReadOut, RunsShort, Serves, TellsShort}
-use Rattle.http_front.specs.Origin.{At, Origin}
+use Rattle.http_front.specs.Origin.{At, Caller, Origin}
 use Rattle.http_front.specs.Outcomes.{replies_to, unavailable_reply}
 use Rattle.http_front.specs.Standing.{BreaksOff, EndsThere, IsSilent, Reached, Served, TakesPiece}
 use Rattle.http_front.specs.declared.ends.HttpEnd.{HttpEnd}
@@ -32,7 +31,7 @@ reached_more w left left1 left2 kept1 kept2 from mid to count n piece r consumes
   served = takes from r.taken r.served;
 }
 
-serves_of : (w : Origin) (from to : At) (taken : List ℕ) (kept : Option (List ℕ)) → (s : Served w from taken kept to) → Serves w s.items from to
+pub serves_of : (w : Origin) (from to : At) (taken : List ℕ) (kept : Option (List ℕ)) → (s : Served w from taken kept to) → Serves w s.items from to
 serves_of w from to taken kept s = record { outcomes = s.outcomes; comes = s.comes; wrote = s.wrote }
 
 -- the link ended in a piece
@@ -64,7 +63,7 @@ ends_limit w left left1 kept from to count r waits all = record {
 
 -- the link came to its end
 at_end : (w : Origin) (reason : HttpEnd) (last : Option Refusal) (from mid to : At) (taken : List ℕ) (kept unread : Option (List ℕ)) → (s : Served w from taken kept mid)
-    → HasItems taken (s.items ++ end_items last) → IsReadOut taken unread → to.pass ≡ mid.pass → EndsThere reason last mid.written to.written → EndsAs w IsSilent reason taken unread from to
+    → HasItems taken (s.items ++ end_items last) → IsReadOut taken unread → to.caller ≡ mid.caller → EndsThere reason last mid.written to.written → EndsAs w IsSilent reason taken unread from to
 at_end w reason (Some why) from mid to taken kept unread s has out same ends =
     stops_refused w reason from mid to s.items s.outcomes why taken unread s.comes s.keeps s.wrote (inr (has, out)) (inr (has, out)) same ends
 at_end w end.Closed None from mid to taken kept unread s has out same ends = (
@@ -75,7 +74,7 @@ at_end w end.Closed None from mid to taken kept unread s has out same ends = (
       s.requests,
       record {
         outcomes = s.outcomes;
-        comes = subst (λ (p : PassValue). ComesOfAll w from.pass s.items s.outcomes p) (sym same) s.comes;
+        comes = subst (λ (p : Caller). ComesOfAll w from.caller s.items s.outcomes p) (sym same) s.comes;
         wrote = subst (λ (written : Option (List ℕ)). Appends from.written written (replies_to s.items s.outcomes)) (sym ends) s.wrote;
       },
     ),
@@ -89,7 +88,7 @@ at_end w end.Spent None from mid to taken kept unread s has out same ends = absu
 at_end w end.NoMemory None from mid to taken kept unread s has out same ends = absurd ends
 
 pub ends_closed : (w : Origin) (reason : HttpEnd) (left left1 left2 kept : Option (List ℕ)) (from mid to : At) (count : ℕ) → Reached w left from count left1 kept mid → ForSome kept Awaits → count < 2 ^ 40
-    → Keeps left1 left2 → IsAtEnd left2 → to.pass ≡ mid.pass → EndsThere reason (end_of kept) mid.written to.written → Ends w IsSilent reason left left2 from to
+    → Keeps left1 left2 → IsAtEnd left2 → to.caller ≡ mid.caller → EndsThere reason (end_of kept) mid.written to.written → Ends w IsSilent reason left left2 from to
 ends_closed w reason left left1 left2 kept from mid to count r waits few keeps none same ends = record {
   taken = r.taken;
   consumed = Consumes-kept left left1 left2 r.taken r.consumed keeps;
@@ -119,7 +118,7 @@ ends_told w failed reason left left' from to other ends = record {
 }
 
 -- the link is told that memory ran out
-pub ends_short : (w : Origin) (failed : Type 0) (left left' left2 : Option (List ℕ)) (from mid to : At) → Ends w IsSilent end.NoMemory left left' from mid → left2 ≡ left' → to.pass ≡ mid.pass
+pub ends_short : (w : Origin) (failed : Type 0) (left left' left2 : Option (List ℕ)) (from mid to : At) → Ends w IsSilent end.NoMemory left left' from mid → left2 ≡ left' → to.caller ≡ mid.caller
     → TellsShort failed mid.written to.written → Ends w (TellsShort failed) end.NoMemory left left2 from to
 ends_short w failed left left' left2 from mid to ends unread same tells = record {
   taken = ends.taken;
@@ -128,8 +127,8 @@ ends_short w failed left left' left2 from mid to ends unread same tells = record
     items = ends.ends.items;
     mid = ends.ends.mid;
     serves = ends.ends.serves;
-    short = subst (λ (l : Option (List ℕ)). RunsShort w ends.taken l ends.ends.items ends.ends.mid.pass to.pass) (sym unread)
-        (subst (λ (p : PassValue). RunsShort w ends.taken left' ends.ends.items ends.ends.mid.pass p) (sym same) ends.ends.short);
+    short = subst (λ (l : Option (List ℕ)). RunsShort w ends.taken l ends.ends.items ends.ends.mid.caller to.caller) (sym unread)
+        (subst (λ (p : Caller). RunsShort w ends.taken left' ends.ends.items ends.ends.mid.caller p) (sym same) ends.ends.short);
     told = subst (λ (written : Option (List ℕ)). TellsShort failed written to.written) ends.ends.told tells;
   };
 }
@@ -150,7 +149,7 @@ apart beside told faults old new law same =
     (ap (λ (p : Option (List ℕ) × ℕ). p.0) both, ap (λ (p : Option (List ℕ) × ℕ). p.1) both)
 
 -- a read writes nothing
-pub reached_apart : (w : Origin) (left left1 kept : Option (List ℕ)) (from : At) (count : ℕ) (pass : PassValue) (written written' : Option (List ℕ)) → written' ≡ written
-    → Reached w left from count left1 kept (record { pass = pass; written = written }) → Reached w left from count left1 kept (record { pass = pass; written = written' })
-reached_apart w left left1 kept from count pass written written' same r =
-    subst (λ (x : Option (List ℕ)). Reached w left from count left1 kept (record { pass = pass; written = x })) (sym same) r
+pub reached_apart : (w : Origin) (left left1 kept : Option (List ℕ)) (from : At) (count : ℕ) (who : Caller) (written written' : Option (List ℕ)) → written' ≡ written
+    → Reached w left from count left1 kept (record { caller = who; written = written }) → Reached w left from count left1 kept (record { caller = who; written = written' })
+reached_apart w left left1 kept from count who written written' same r =
+    subst (λ (x : Option (List ℕ)). Reached w left from count left1 kept (record { caller = who; written = x })) (sym same) r

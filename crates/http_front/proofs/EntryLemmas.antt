@@ -1,5 +1,5 @@
 -- What a pass makes while it serves a link.
-use Rattle.std.proofs.Common.{◌≡◌, inl, inr, ℕ, zero, suc, List, [], ◌∷◌, ◌++◌, All, Option, Result, Ok, Err, refl, sym, ap, ◌∙◌, subst, append_assoc, append-nil}
+use Rattle.std.proofs.Common.{◌≡◌, ◌⊎◌, inl, inr, ℕ, zero, suc, List, [], ◌∷◌, ◌++◌, All, Option, Result, Ok, Err, refl, sym, ap, ◌∙◌, subst, append_assoc, append-nil}
 use Rattle.std.proofs.lemmas.List.Elements.{All-append, All-cons, All-nil}
 use Rattle.carbon_history.specs.declared.entry.Entry.{Entry}
 use Rattle.carbon_history.specs.declared.entry.Entry.TheVariants as entry
@@ -24,8 +24,8 @@ use Rattle.http_wire.specs.declared.routing.Endpoint.TheVariants.{Render, Find, 
 use Rattle.http_front.specs.Browses.{AsksNames, ComesOfGlobs, GivesUpNames, ShortOfQueries, Tells}
 use Rattle.http_front.specs.Entries.{IsEntryOf, MakesAsks}
 use Rattle.http_front.specs.Links.{ComesOfAll, ComesOfItem, EndsAs, RunsShort, RunsShortAt, Serves, ServesLink, TellsShort}
-use Rattle.http_front.specs.Origin.{At, Origin}
-use Rattle.http_front.specs.Requests.{ComesOfPlan, ComesOfRead, ComesOfRoute, ShortOfQuery, ShortOfRoute, form_of}
+use Rattle.http_front.specs.Origin.{At, Caller, Origin}
+use Rattle.http_front.specs.Requests.{ComesOfPlan, ComesOfRead, ComesOfRoute, GivesUp, ShortOfQuery, ShortOfRoute, form_of}
 use Rattle.http_front.specs.declared.ends.HttpEnd.{HttpEnd}
 use Rattle.http_front.specs.declared.ends.HttpEnd.TheVariants as end
 use Rattle.http_front.specs.declared.outcome.Outcome.{Outcome}
@@ -80,79 +80,90 @@ makes_once w now old new told asks =
     makes_entered w w.start w.passes _ old new asks.enters
     (All-cons (IsEntryOf w old.number) (entry.Ask old.number (new_number old) 1 now) [] (refl, told) (All-nil (IsEntryOf w old.number)))
 
-makes_names : (w : Origin) (names : List (List ℕ)) (old new : PassValue) → AsksNames w names old new → MakesAsks w old new
-makes_names w names old new asks = makes_once w asks.now old new asks.told asks.asks.asks
+pub makes_still : (w : Origin) (pass : PassValue) → MakesAsks w pass pass
+makes_still w pass = makes_none w pass pass refl
+
+-- the same of who asks
+makes_same : (w : Origin) (old new : Caller) → new ≡ old → MakesAsks w old.pass new.pass
+makes_same w old new same = makes_none w old.pass new.pass (ap (λ (c : Caller). c.pass) same)
+
+makes_names : (w : Origin) (names : List (List ℕ)) (old new : Caller) → AsksNames w names old new → MakesAsks w old.pass new.pass
+makes_names w names old new asks = makes_once w asks.now old.pass new.pass asks.reads.moment asks.asks.asks
 
 -- or none, where it is given up
 makes_asked : (w : Origin) (now : ℕ) (old new : PassValue) → w.moments now → NamesPartly w.start w.passes now old new → MakesAsks w old new
 makes_asked w now old new told (inl enters) = makes_entered w w.start w.passes [] old new enters (All-nil (IsEntryOf w old.number))
 makes_asked w now old new told (inr asks) = makes_once w now old new told asks
 
-makes_partly : (w : Origin) (old new : PassValue) → GivesUpNames w old new → MakesAsks w old new
-makes_partly w old new gives = makes_asked w gives.now old new gives.told gives.asks
+makes_partly : (w : Origin) (old new : Caller) → GivesUpNames w old new → MakesAsks w old.pass new.pass
+makes_partly w old new gives = makes_asked w gives.now old.pass new.pass gives.reads.moment gives.asks
 
-makes_globs : (w : Origin) (tells : Tells) (read : Result (List Said) FindFault) (outcome : Outcome) (old new : PassValue) → ComesOfGlobs w tells read outcome old new → MakesAsks w old new
+makes_globs : (w : Origin) (tells : Tells) (read : Result (List Said) FindFault) (outcome : Outcome) (old new : Caller) → ComesOfGlobs w tells read outcome old new → MakesAsks w old.pass new.pass
 makes_globs w tells (Ok globs) outcome old new comes = makes_names w comes.names old new comes.asks
-makes_globs w tells (Err why) outcome old new comes = makes_none w old new comes.1
+makes_globs w tells (Err why) outcome old new comes = makes_same w old new comes.1
 
-makes_short_queries : (w : Origin) (query form : List ℕ) (old new : PassValue) → ShortOfQueries w query form old new → MakesAsks w old new
-makes_short_queries w query form old new (inl same) = makes_none w old new same
+makes_short_queries : (w : Origin) (query form : List ℕ) (old new : Caller) → ShortOfQueries w query form old new → MakesAsks w old.pass new.pass
+makes_short_queries w query form old new (inl same) = makes_same w old new same
 makes_short_queries w query form old new (inr gives) = makes_partly w old new gives.asks
 
-makes_route : (w : Origin) (asked : Asked) (goes : Result Endpoint Refusal) (outcome : Outcome) (old new : PassValue) → ComesOfRoute w asked goes outcome old new → MakesAsks w old new
-makes_route w asked (Ok Render) outcome old new comes = makes_read w comes.now (read_plan (query_of asked.target) (form_of asked) comes.now) outcome old new comes.told comes.comes
+makes_route : (w : Origin) (asked : Asked) (goes : Result Endpoint Refusal) (outcome : Outcome) (old new : Caller) → ComesOfRoute w asked goes outcome old new → MakesAsks w old.pass new.pass
+makes_route w asked (Ok Render) outcome old new comes =
+    makes_read w comes.now (read_plan (query_of asked.target) (form_of asked) comes.now) outcome old.pass new.pass comes.reads.moment comes.comes
 makes_route w asked (Ok Find) outcome old new comes = makes_globs w IsFindText (read_queries (query_of asked.target) (form_of asked)) outcome old new comes
 makes_route w asked (Ok Expand) outcome old new comes = makes_globs w IsExpandText (read_queries (query_of asked.target) (form_of asked)) outcome old new comes
 makes_route w asked (Ok Index) outcome old new comes = makes_names w comes.names old new comes.asks
-makes_route w asked (Err why) outcome old new comes = makes_none w old new comes.1
+makes_route w asked (Err why) outcome old new comes = makes_same w old new comes.1
 
-makes_short_query : (w : Origin) (query form : List ℕ) (old new : PassValue) → ShortOfQuery w query form old new → MakesAsks w old new
-makes_short_query w query form old new (inl same) = makes_none w old new same
-makes_short_query w query form old new (inr gives) = makes_part w gives.now (needs_of gives.plan) old new gives.told gives.asks
+makes_given_up : (w : Origin) (now : ℕ) (query form : List ℕ) (old new : PassValue) → w.moments now → (new ≡ old) ⊎ GivesUp w now query form old new → MakesAsks w old new
+makes_given_up w now query form old new told (inl same) = makes_none w old new same
+makes_given_up w now query form old new told (inr gives) = makes_part w now (needs_of gives.plan) old new told gives.asks
 
-makes_short : (w : Origin) (asked : Asked) (goes : Result Endpoint Refusal) (old new : PassValue) → ShortOfRoute w asked goes old new → MakesAsks w old new
+makes_short_query : (w : Origin) (query form : List ℕ) (old new : Caller) → ShortOfQuery w query form old new → MakesAsks w old.pass new.pass
+makes_short_query w query form old new short = makes_given_up w short.now query form old.pass new.pass short.reads.moment short.short
+
+makes_short : (w : Origin) (asked : Asked) (goes : Result Endpoint Refusal) (old new : Caller) → ShortOfRoute w asked goes old new → MakesAsks w old.pass new.pass
 makes_short w asked (Ok Render) old new short = makes_short_query w (query_of asked.target) (form_of asked) old new short
 makes_short w asked (Ok Find) old new short = makes_short_queries w (query_of asked.target) (form_of asked) old new short
 makes_short w asked (Ok Expand) old new short = makes_short_queries w (query_of asked.target) (form_of asked) old new short
 makes_short w asked (Ok Index) old new short = makes_partly w old new short
-makes_short w asked (Err why) old new short = makes_none w old new short
+makes_short w asked (Err why) old new short = makes_same w old new short
 
-makes_item : (w : Origin) (item : Item) (outcome : Outcome) (old new : PassValue) → ComesOfItem w item outcome old new → MakesAsks w old new
-makes_item w (Refused why) outcome old new comes = makes_none w old new comes.1
+makes_item : (w : Origin) (item : Item) (outcome : Outcome) (old new : Caller) → ComesOfItem w item outcome old new → MakesAsks w old.pass new.pass
+makes_item w (Refused why) outcome old new comes = makes_same w old new comes.1
 makes_item w (Request asked) outcome old new comes = makes_route w asked (route asked.method asked.target) outcome old new comes.1
 
-makes_all : (w : Origin) (old : PassValue) (items : List Item) (outcomes : List Outcome) (new : PassValue) → ComesOfAll w old items outcomes new → MakesAsks w old new
-makes_all w old [] [] new comes = makes_none w old new comes
+makes_all : (w : Origin) (old : Caller) (items : List Item) (outcomes : List Outcome) (new : Caller) → ComesOfAll w old items outcomes new → MakesAsks w old.pass new.pass
+makes_all w old [] [] new comes = makes_same w old new comes
 makes_all w old (item ∷ items) (outcome ∷ outcomes) new comes =
-    makes_both w old comes.0 new (makes_item w item outcome old comes.0 comes.1.0) (makes_all w comes.0 items outcomes new comes.1.1)
+    makes_both w old.pass comes.0.pass new.pass (makes_item w item outcome old comes.0 comes.1.0) (makes_all w comes.0 items outcomes new comes.1.1)
 makes_all w old [] (outcome ∷ outcomes) new comes = absurd comes
 makes_all w old (item ∷ items) [] new comes = absurd comes
 
-makes_serves : (w : Origin) (items : List Item) (from to : At) → Serves w items from to → MakesAsks w from.pass to.pass
-makes_serves w items from to serves = makes_all w from.pass items serves.outcomes to.pass serves.comes
+makes_serves : (w : Origin) (items : List Item) (from to : At) → Serves w items from to → MakesAsks w from.caller.pass to.caller.pass
+makes_serves w items from to serves = makes_all w from.caller items serves.outcomes to.caller serves.comes
 
-makes_short_at : (w : Origin) (item : Item) (old new : PassValue) → RunsShortAt w item old new → MakesAsks w old new
-makes_short_at w (Refused why) old new short = makes_none w old new short
+makes_short_at : (w : Origin) (item : Item) (old new : Caller) → RunsShortAt w item old new → MakesAsks w old.pass new.pass
+makes_short_at w (Refused why) old new short = makes_same w old new short
 makes_short_at w (Request asked) old new (room, inl short) = makes_short w asked (route asked.method asked.target) old new short
 makes_short_at w (Request asked) old new (room, inr some) = makes_route w asked (route asked.method asked.target) some.0 old new some.1
 
-makes_runs_short : (w : Origin) (taken : List ℕ) (left : Option (List ℕ)) (items : List Item) (old new : PassValue) → RunsShort w taken left items old new → MakesAsks w old new
-makes_runs_short w taken left items old new (inl none) = makes_none w old new none.1
+makes_runs_short : (w : Origin) (taken : List ℕ) (left : Option (List ℕ)) (items : List Item) (old new : Caller) → RunsShort w taken left items old new → MakesAsks w old.pass new.pass
+makes_runs_short w taken left items old new (inl none) = makes_same w old new none.1
 makes_runs_short w taken left items old new (inr at) = makes_short_at w at.0 old new at.1.1
 
 makes_ends : (w : Origin) (tells : Option (List ℕ) → Option (List ℕ) → Type 0) (reason : HttpEnd) (taken : List ℕ) (left : Option (List ℕ)) (from to : At) → EndsAs w tells reason taken left from to
-    → MakesAsks w from.pass to.pass
+    → MakesAsks w from.caller.pass to.caller.pass
 makes_ends w tells end.Closed taken left from to ends = makes_serves w ends.0 from to ends.1.1.1
 makes_ends w tells (end.Refused code) taken left from to ends = makes_serves w _ from to ends.2.1.1
 makes_ends w tells end.ReadFault taken left from to ends = makes_serves w ends.0 from to ends.1.1.0
 makes_ends w tells end.LinkLimit taken left from to ends = makes_serves w ends.0 from to ends.1.1.0
 makes_ends w tells end.WriteFault taken left from to ends =
     let part = ends.2.1 in
-    makes_both w from.pass part.mid.pass to.pass (makes_serves w ends.0 from part.mid part.serves) (makes_item w ends.1 part.outcome part.mid.pass to.pass part.comes)
+    makes_both w from.caller.pass part.mid.caller.pass to.caller.pass (makes_serves w ends.0 from part.mid part.serves) (makes_item w ends.1 part.outcome part.mid.caller to.caller part.comes)
 makes_ends w tells end.Spent taken left from to ends = makes_serves w ends.0 from to ends.2.1.0
 makes_ends w tells end.NoMemory taken left from to ends =
-    makes_both w from.pass ends.mid.pass to.pass (makes_serves w ends.items from ends.mid ends.serves) (makes_runs_short w taken left ends.items ends.mid.pass to.pass ends.short)
+    makes_both w from.caller.pass ends.mid.caller.pass to.caller.pass (makes_serves w ends.items from ends.mid ends.serves) (makes_runs_short w taken left ends.items ends.mid.caller to.caller ends.short)
 
-pub link_makes : (w : Origin) (failed : Type 0) (reason : HttpEnd) (left left' : Option (List ℕ)) (from to : At) → ServesLink w failed reason left left' from to → MakesAsks w from.pass to.pass
-link_makes w failed reason left left' from to (inl none) = makes_none w from.pass to.pass (ap (λ (p : At). p.pass) none.same)
+pub link_makes : (w : Origin) (failed : Type 0) (reason : HttpEnd) (left left' : Option (List ℕ)) (from to : At) → ServesLink w failed reason left left' from to → MakesAsks w from.caller.pass to.caller.pass
+link_makes w failed reason left left' from to (inl none) = makes_none w from.caller.pass to.caller.pass (ap (λ (p : At). p.caller.pass) none.same)
 link_makes w failed reason left left' from to (inr ends) = makes_ends w (TellsShort failed) reason ends.taken left' from to ends.ends

@@ -3,21 +3,20 @@ use Rattle.std.proofs.Common.{◌≡◌, ℕ, Bool, false, List, [], ◌∷◌, 
 use Rattle.std.proofs.lemmas.List.{map-append}
 use Rattle.std.specs.Io.KnownBytes.{Appends}
 use Rattle.outside_io.proofs.Known.{Appends-more}
-use Rattle.shared_history.specs.Parts.{PassValue}
 use Rattle.http_wire.specs.Answers.{KeepLink, ends_link_with, responses_of}
 use Rattle.http_wire.specs.Requests.{Asked, Item, Request, Refused}
 use Rattle.http_wire.specs.declared.answer.Answer.{Answer}
 use Rattle.http_wire.proofs.AnswerLemmas.{replies_more}
 use Rattle.http_front.specs.Links.{AreRequests, ComesOfAll, ComesOfItem, Serves}
-use Rattle.http_front.specs.Origin.{At, Origin}
+use Rattle.http_front.specs.Origin.{At, Caller, Origin}
 use Rattle.http_front.specs.Outcomes.{answer_of, replies_to, reply_to}
 use Rattle.http_front.specs.Standing.{ServesItem}
 use Rattle.http_front.specs.declared.outcome.Outcome.{Outcome}
 
 -- one more item comes to something
-pub comes_more : (w : Origin) (a : PassValue) (items : List Item) (outcomes : List Outcome) (b : PassValue) (item : Item) (outcome : Outcome) (c : PassValue)
+pub comes_more : (w : Origin) (a : Caller) (items : List Item) (outcomes : List Outcome) (b : Caller) (item : Item) (outcome : Outcome) (c : Caller)
     → ComesOfAll w a items outcomes b → ComesOfItem w item outcome b c → ComesOfAll w a (items ++ item ∷ []) (outcomes ++ outcome ∷ []) c
-comes_more w a [] [] b item outcome c all comes = (c, (subst (λ (p : PassValue). ComesOfItem w item outcome p c) all comes, refl))
+comes_more w a [] [] b item outcome c all comes = (c, (subst (λ (p : Caller). ComesOfItem w item outcome p c) all comes, refl))
 comes_more w a (first ∷ items) (one ∷ outcomes) b item outcome c all comes =
     (all.0, (all.1.0, comes_more w all.0 items outcomes b item outcome c all.1.1 comes))
 comes_more w a [] (one ∷ outcomes) b item outcome c all comes = absurd all
@@ -55,10 +54,10 @@ wrote_more a b c items outcomes item outcome keeps before more =
     (Appends-more a b c (replies_to items outcomes) (reply_to item outcome) before more)
 
 -- one more item was served, with which the link may end
-pub serves_more : (w : Origin) (from mid to : At) (items : List Item) (outcomes : List Outcome) (item : Item) (ends : Bool) → ComesOfAll w from.pass items outcomes mid.pass
+pub serves_more : (w : Origin) (from mid to : At) (items : List Item) (outcomes : List Outcome) (item : Item) (ends : Bool) → ComesOfAll w from.caller items outcomes mid.caller
     → KeepLink items (map answer_of outcomes) → Appends from.written mid.written (replies_to items outcomes) → ServesItem w item ends mid to → Serves w (items ++ item ∷ []) from to
 serves_more w from mid to items outcomes item ends comes keeps wrote one = record {
   outcomes = outcomes ++ one.outcome ∷ [];
-  comes = comes_more w from.pass items outcomes mid.pass item one.outcome to.pass comes one.comes;
+  comes = comes_more w from.caller items outcomes mid.caller item one.outcome to.caller comes one.comes;
   wrote = wrote_more from.written mid.written to.written items outcomes item one.outcome keeps wrote one.wrote;
 }

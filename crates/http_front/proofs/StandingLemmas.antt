@@ -52,7 +52,7 @@ served_more w from mid to taken old new asked s hands current one = record {
   hands = subst (λ (c : Option Asked). HandsOut (s.items ++ handed_items (Some out.Request) c) taken new.left) current
       (hands_next s.items taken (Some out.Request) old new s.hands hands);
   requests = requests_more s.items asked s.requests;
-  comes = comes_more w from.pass s.items s.outcomes mid.pass (Request asked) one.outcome to.pass s.comes one.comes;
+  comes = comes_more w from.caller s.items s.outcomes mid.caller (Request asked) one.outcome to.caller s.comes one.comes;
   keeps = subst (KeepLink (s.items ++ Request asked ∷ [])) (sym (answers_more s.outcomes one.outcome))
       (keeps_more s.items (map answer_of s.outcomes) (Request asked) (answer_of one.outcome) s.keeps one.ending);
   wrote = wrote_more from.written mid.written to.written s.items s.outcomes (Request asked) one.outcome s.keeps s.wrote one.wrote;
@@ -121,7 +121,7 @@ hands_refused items taken old new why before hands =
     (hands_next items taken (Some (out.Refused why)) old new before hands)
 
 -- a reply to a refusal is that of an item
-refused_item : (w : Origin) (why : Refusal) (mid to : At) → to.pass ≡ mid.pass → Appends mid.written to.written (reply_to (Refused why) (outcome.Refused why)) → ServesItem w (Refused why) true mid to
+refused_item : (w : Origin) (why : Refusal) (mid to : At) → to.caller ≡ mid.caller → Appends mid.written to.written (reply_to (Refused why) (outcome.Refused why)) → ServesItem w (Refused why) true mid to
 refused_item w why mid to same wrote = record { outcome = outcome.Refused why; comes = (refl, same); ending = refl; wrote = wrote }
 
 -- the link ends with a request
@@ -171,9 +171,9 @@ stops_request w end.NoMemory from mid to taken behind unread old new asked s han
 
 -- the link ends with a refusal, of which this is known
 pub stops_refused : (w : Origin) (reason : HttpEnd) (from mid to : At) (items : List Item) (outcomes : List Outcome) (why : Refusal) (taken : List ℕ) (unread : Option (List ℕ))
-    → ComesOfAll w from.pass items outcomes mid.pass → KeepLink items (map answer_of outcomes) → Appends from.written mid.written (replies_to items outcomes)
+    → ComesOfAll w from.caller items outcomes mid.caller → KeepLink items (map answer_of outcomes) → Appends from.written mid.written (replies_to items outcomes)
     → AreAllOf taken unread (items ++ Refused why ∷ []) → BeginWith taken unread (items ++ Refused why ∷ [])
-    → to.pass ≡ mid.pass → StopsRefused reason why mid.written to.written → EndsAs w IsSilent reason taken unread from to
+    → to.caller ≡ mid.caller → StopsRefused reason why mid.written to.written → EndsAs w IsSilent reason taken unread from to
 stops_refused w (end.Refused code) from mid to items outcomes why taken unread comes keeps wrote all begins same stops =
     (items, why, (all, (stops.0, serves_more w from mid to items outcomes (Refused why) true comes keeps wrote (refused_item w why mid to same stops.1))))
 stops_refused w end.WriteFault from mid to items outcomes why taken unread comes keeps wrote all begins same stops =
@@ -329,7 +329,7 @@ waits_fewer w (out.Refused why) old new mid to hands serves = absurd serves
 -- ---- one request
 
 -- its reply was not written whole
-pub fails_request : (w : Origin) (reason : HttpEnd) (asked : Asked) (o : Outcome) (from to : At) → HasRoom from.pass → ComesOf w asked o from.pass to.pass
+pub fails_request : (w : Origin) (reason : HttpEnd) (asked : Asked) (o : Outcome) (from to : At) → HasRoom from.caller.pass → ComesOf w asked o from.caller to.caller
     → FailsToReply reason (reply_to (Request asked) o) from.written to.written → StopsRequest w reason asked from to
 fails_request w end.WriteFault asked o from to room comes fails = record { outcome = o; comes = (room, comes); wrote = fails }
 fails_request w end.NoMemory asked o from to room comes fails = ((room, inr (o, comes)), fails)

@@ -4,5 +4,6 @@ pub mod Found
 pub mod Browses
 pub mod Requests
 pub mod Links
+pub mod Prompt
 pub mod Entries
 pub mod Standing

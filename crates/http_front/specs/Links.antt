@@ -10,7 +10,7 @@ use Rattle.http_wire.specs.Cuts.{Awaits}
 use Rattle.http_wire.specs.Reading.{HandsOut}
 use Rattle.http_wire.specs.Requests.{Asked, HasItems, Item, Request, Refused}
 use Rattle.http_wire.specs.declared.refusal.Refusal.{Refusal}
-use Rattle.http_front.specs.Origin.{At, Origin}
+use Rattle.http_front.specs.Origin.{At, Caller, Origin}
 use Rattle.http_front.specs.Outcomes.{replies_to, reply_to, unavailable_reply}
 use Rattle.http_front.specs.Requests.{ComesOf, IsRefused, ShortOf}
 use Rattle.http_front.specs.declared.ends.HttpEnd.{HttpEnd}
@@ -20,21 +20,21 @@ use Rattle.http_front.specs.declared.outcome.Outcome.{Outcome}
 -- ---- the items of a link
 
 -- What comes of an item: a refusal is its own outcome, and a request comes by a pass that has room for what it may enter.
-abbrev pub ComesOfItem : Origin → Item → Outcome → PassValue → PassValue → Type 0
+abbrev pub ComesOfItem : Origin → Item → Outcome → Caller → Caller → Type 0
 ComesOfItem w (Refused why) outcome old new = IsRefused why outcome old new
-ComesOfItem w (Request asked) outcome old new = HasRoom old × ComesOf w asked outcome old new
+ComesOfItem w (Request asked) outcome old new = HasRoom old.pass × ComesOf w asked outcome old new
 
--- The same of items one after the other. The pass enters nothing between them.
-abbrev pub ComesOfAll : Origin → PassValue → List Item → List Outcome → PassValue → Type 0
+-- The same of items one after the other. Between them nothing is entered, and the clock is not read.
+abbrev pub ComesOfAll : Origin → Caller → List Item → List Outcome → Caller → Type 0
 ComesOfAll w old [] [] new = new ≡ old
 ComesOfAll w old (item ∷ items) (outcome ∷ outcomes) new =
-    (mid : PassValue) × (ComesOfItem w item outcome old mid × ComesOfAll w mid items outcomes new)
+    (mid : Caller) × (ComesOfItem w item outcome old mid × ComesOfAll w mid items outcomes new)
 ComesOfAll w old items outcomes new = ⊥
 
 -- Each of these items had its outcome and its reply; nothing else was entered or written.
 pub record Serves (w : Origin) (items : List Item) (from to : At) : Type 0 where
   pub outcomes : List Outcome
-  pub comes : ComesOfAll w from.pass items outcomes to.pass
+  pub comes : ComesOfAll w from.caller items outcomes to.caller
   pub wrote : Appends from.written to.written (replies_to items outcomes)
 
 -- The same of all but the last item, of whose reply only a front was written.
@@ -42,7 +42,7 @@ pub record ServesPart (w : Origin) (items : List Item) (item : Item) (from to : 
   pub mid : At
   pub serves : Serves w items from mid
   pub outcome : Outcome
-  pub comes : ComesOfItem w item outcome mid.pass to.pass
+  pub comes : ComesOfItem w item outcome mid.caller to.caller
   pub wrote : AppendsFront mid.written to.written (reply_to item outcome)
 
 -- ---- which items they are
@@ -81,13 +81,13 @@ BeginWith taken left items = AreFirstOf taken items ⊎ (HasItems taken items ×
 -- ---- its ends
 
 -- Memory ran out at an item: before anything came of it, or for its reply.
-abbrev pub RunsShortAt : Origin → Item → PassValue → PassValue → Type 0
+abbrev pub RunsShortAt : Origin → Item → Caller → Caller → Type 0
 RunsShortAt w (Refused why) old new = new ≡ old
 RunsShortAt w (Request asked) old new =
-    HasRoom old × (ShortOf w asked old new ⊎ ((outcome : Outcome) × ComesOf w asked outcome old new))
+    HasRoom old.pass × (ShortOf w asked old new ⊎ ((outcome : Outcome) × ComesOf w asked outcome old new))
 
 -- The first items were served, and memory ran out between two items, or at the one that follows.
-abbrev pub RunsShort : Origin → List ℕ → Option (List ℕ) → List Item → PassValue → PassValue → Type 0
+abbrev pub RunsShort : Origin → List ℕ → Option (List ℕ) → List Item → Caller → Caller → Type 0
 RunsShort w taken left items old new =
     (AreFirstOf taken items × (new ≡ old))
     ⊎ ((item : Item) × (BeginWith taken left (items ++ item ∷ []) × RunsShortAt w item old new))
@@ -97,7 +97,7 @@ pub record ServesShort (w : Origin) (tells : Option (List ℕ) → Option (List 
   pub items : List Item
   pub mid : At
   pub serves : Serves w items from mid
-  pub short : RunsShort w taken left items mid.pass to.pass
+  pub short : RunsShort w taken left items mid.caller to.caller
   pub told : tells mid.written to.written
 
 -- The link is told that memory ran out, unless that write fails.
@@ -121,7 +121,7 @@ EndsAs w tells end.WriteFault taken left from to =
     (items : List Item) × (item : Item) × (BeginWith taken left (items ++ item ∷ []) × ServesPart w items item from to)
 EndsAs w tells end.Spent taken left from to =
     (items : List Item) × (asked : Asked) × (BeginWith taken left (items ++ Request asked ∷ [])
-    × (Serves w items from to × IsSpent to.pass))
+    × (Serves w items from to × IsSpent to.caller.pass))
 EndsAs w tells end.NoMemory taken left from to = ServesShort w tells taken left from to
 
 -- What the service of a link came to, of which so much was left before and after.
@@ -140,7 +140,7 @@ CannotBegin reason pass = ⊥
 pub record IsNotBegun (reason : HttpEnd) (left left' : Option (List ℕ)) (from to : At) : Type 0 where
   pub unread : left' ≡ left
   pub same : to ≡ from
-  pub why : CannotBegin reason to.pass
+  pub why : CannotBegin reason to.caller.pass
 
 -- What came of a link; `failed` says that a write failed in the call.
 abbrev pub ServesLink : Origin → Type 0 → HttpEnd → Option (List ℕ) → Option (List ℕ) → At → At → Type 0

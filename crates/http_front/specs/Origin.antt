@@ -1,5 +1,5 @@
 -- What a link is served from, and where its service stands.
-use Rattle.std.specs.Prelude.{◌≡◌, ◌≤◌, ℕ, List, Option}
+use Rattle.std.specs.Prelude.{◌≡◌, ◌≤◌, ℕ, List, [], ◌∷◌, ◌++◌, Option}
 use Rattle.outside_io.specs.Faults.{Rose}
 use Rattle.outside_io.specs.Image.{Image}
 use Rattle.outside_io.specs.declared.clock.Clock.{Ghosts as ClockGhosts}
@@ -25,13 +25,26 @@ origin_of clocks store clock = record {
   passes = store.passes;
 }
 
--- where a service stands: its pass, and what was written to the link, where the link tells it
-pub record At : Type 0 where
+-- who asks the store for a link: a pass, and the moments that its watch told, in order
+pub record Caller : Type 0 where
   pub pass : PassValue
+  pub told : List ℕ
+
+abbrev pub caller_of : PassValue → List ℕ → Caller
+caller_of pass told = record { pass = pass; told = told }
+
+-- where a service stands: who asks for it, and what was written to the link, where the link tells it
+pub record At : Type 0 where
+  pub caller : Caller
   pub written : Option (List ℕ)
 
-abbrev pub standing : {K : Type 0} → SinkGhosts K → PassValue → K → At
-standing sink pass out = record { pass = pass; written = sink.written out }
+abbrev pub standing : {K : Type 0} → SinkGhosts K → PassValue → List ℕ → K → At
+standing sink pass told out = record { caller = caller_of pass told; written = sink.written out }
+
+-- the watch told one moment more, which is one of the clock's
+pub record ReadsOnce (w : Origin) (now : ℕ) (old new : Caller) : Type 0 where
+  pub moment : w.moments now
+  pub told : new.told ≡ old.told ++ now ∷ []
 
 -- it is the same pass, of the same store
 pub record SamePass (old new : PassValue) : Type 0 where

@@ -16,7 +16,7 @@ use Rattle.http_wire.specs.declared.routing.Endpoint.{Endpoint}
 use Rattle.http_wire.specs.declared.routing.Endpoint.TheVariants.{Render, Find, Expand, Index}
 use Rattle.find_api.specs.Texts.{IsExpandText, IsFindText}
 use Rattle.http_front.specs.Browses.{ComesOfQueries, GivesUpNames, HasNames, IsIndexText, ShortOfQueries}
-use Rattle.http_front.specs.Origin.{Origin}
+use Rattle.http_front.specs.Origin.{Caller, Origin, ReadsOnce}
 use Rattle.http_front.specs.Outcomes.{outcome_of}
 use Rattle.http_front.specs.declared.outcome.Outcome.{Outcome}
 use Rattle.http_front.specs.declared.outcome.Outcome.TheVariants.{Refused, DiskFault}
@@ -45,11 +45,11 @@ ComesOfRead w now (Ok plan) outcome old new = ComesOfPlan w now plan outcome old
 ComesOfRead w now (Err fault) outcome old new =
     (outcome ≡ outcome_of (answered.Refused (Query fault))) × (new ≡ old)
 
--- What comes of a query and a form: they are read, and asked, at one moment of the clock.
-pub record ComesOfQuery (w : Origin) (query form : List ℕ) (outcome : Outcome) (old new : PassValue) : Type 0 where
+-- What comes of a query and a form: they are read, and asked, at one moment, for which the clock was read.
+pub record ComesOfQuery (w : Origin) (query form : List ℕ) (outcome : Outcome) (old new : Caller) : Type 0 where
   pub now : ℕ
-  pub told : w.moments now
-  pub comes : ComesOfRead w now (read_plan query form now) outcome old new
+  pub reads : ReadsOnce w now old new
+  pub comes : ComesOfRead w now (read_plan query form now) outcome old.pass new.pass
 
 -- ---- all endpoints
 
@@ -57,12 +57,12 @@ pub record ComesOfQuery (w : Origin) (query form : List ℕ) (outcome : Outcome)
 abbrev pub form_of : Asked → List ℕ
 form_of asked = if is_post asked.method then asked.body else []
 
--- a refusal without words, which enters nothing
-abbrev pub IsRefused : Refusal → Outcome → PassValue → PassValue → Type 0
+-- a refusal without words, which enters nothing, and has no moment
+abbrev pub IsRefused : Refusal → Outcome → Caller → Caller → Type 0
 IsRefused why outcome old new = (outcome ≡ Refused why) × (new ≡ old)
 
 -- what comes of a request that goes there
-abbrev pub ComesOfRoute : Origin → Asked → Result Endpoint Refusal → Outcome → PassValue → PassValue → Type 0
+abbrev pub ComesOfRoute : Origin → Asked → Result Endpoint Refusal → Outcome → Caller → Caller → Type 0
 ComesOfRoute w asked (Ok Render) outcome old new =
     ComesOfQuery w (query_of asked.target) (form_of asked) outcome old new
 ComesOfRoute w asked (Ok Find) outcome old new =
@@ -73,7 +73,7 @@ ComesOfRoute w asked (Ok Index) outcome old new = HasNames w IsIndexText outcome
 ComesOfRoute w asked (Err why) outcome old new = IsRefused why outcome old new
 
 -- what comes of a request
-abbrev pub ComesOf : Origin → Asked → Outcome → PassValue → PassValue → Type 0
+abbrev pub ComesOf : Origin → Asked → Outcome → Caller → Caller → Type 0
 ComesOf w asked outcome old new = ComesOfRoute w asked (route asked.method asked.target) outcome old new
 
 -- ---- want of memory
@@ -82,19 +82,19 @@ ComesOf w asked outcome old new = ComesOfRoute w asked (route asked.method asked
 abbrev pub ShortOfPlan : Origin → ℕ → Plan → PassValue → PassValue → Type 0
 ShortOfPlan w now plan old new = AsksPartly w.start w.passes now (needs_of plan) old new
 
--- the question of a query
-pub record GivesUp (w : Origin) (query form : List ℕ) (old new : PassValue) : Type 0 where
-  pub now : ℕ
-  pub told : w.moments now
+-- the question of a query that can be read
+pub record GivesUp (w : Origin) (now : ℕ) (query form : List ℕ) (old new : PassValue) : Type 0 where
   pub plan : Plan
   pub read : read_plan query form now ≡ Ok plan
   pub asks : ShortOfPlan w now plan old new
 
--- memory ran out before the query was asked, or in its question
-abbrev pub ShortOfQuery : Origin → List ℕ → List ℕ → PassValue → PassValue → Type 0
-ShortOfQuery w query form old new = (new ≡ old) ⊎ GivesUp w query form old new
+-- Memory ran out before the query was asked, or in its question, at a moment for which the clock was read.
+pub record ShortOfQuery (w : Origin) (query form : List ℕ) (old new : Caller) : Type 0 where
+  pub now : ℕ
+  pub reads : ReadsOnce w now old new
+  pub short : (new.pass ≡ old.pass) ⊎ GivesUp w now query form old.pass new.pass
 
-abbrev pub ShortOfRoute : Origin → Asked → Result Endpoint Refusal → PassValue → PassValue → Type 0
+abbrev pub ShortOfRoute : Origin → Asked → Result Endpoint Refusal → Caller → Caller → Type 0
 ShortOfRoute w asked (Ok Render) old new = ShortOfQuery w (query_of asked.target) (form_of asked) old new
 ShortOfRoute w asked (Ok Find) old new = ShortOfQueries w (query_of asked.target) (form_of asked) old new
 ShortOfRoute w asked (Ok Expand) old new = ShortOfQueries w (query_of asked.target) (form_of asked) old new
@@ -102,5 +102,5 @@ ShortOfRoute w asked (Ok Index) old new = GivesUpNames w old new
 ShortOfRoute w asked (Err why) old new = new ≡ old
 
 -- Memory ran out at a request before anything came of it.
-abbrev pub ShortOf : Origin → Asked → PassValue → PassValue → Type 0
+abbrev pub ShortOf : Origin → Asked → Caller → Caller → Type 0
 ShortOf w asked old new = ShortOfRoute w asked (route asked.method asked.target) old new

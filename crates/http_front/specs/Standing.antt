@@ -36,14 +36,14 @@ FailsToReply reason reply before after = ⊥
 -- An item had its outcome and its reply, after which the link ends or not.
 pub record ServesItem (w : Origin) (item : Item) (ends : Bool) (from to : At) : Type 0 where
   pub outcome : Outcome
-  pub comes : ComesOfItem w item outcome from.pass to.pass
+  pub comes : ComesOfItem w item outcome from.caller to.caller
   pub ending : ends_link_with item (answer_of outcome) ≡ ends
   pub wrote : Appends from.written to.written (reply_to item outcome)
 
 -- it had its outcome, and only a front of its reply
 pub record FailsItem (w : Origin) (item : Item) (from to : At) : Type 0 where
   pub outcome : Outcome
-  pub comes : ComesOfItem w item outcome from.pass to.pass
+  pub comes : ComesOfItem w item outcome from.caller to.caller
   pub wrote : AppendsFront from.written to.written (reply_to item outcome)
 
 -- the same of a request
@@ -54,9 +54,9 @@ ServesRequest w asked ends from to = ServesItem w (Request asked) ends from to
 abbrev pub StopsRequest : Origin → HttpEnd → Asked → At → At → Type 0
 StopsRequest w end.Closed asked from to = ServesRequest w asked true from to
 StopsRequest w end.WriteFault asked from to = FailsItem w (Request asked) from to
-StopsRequest w end.Spent asked from to = (to ≡ from) × IsSpent to.pass
+StopsRequest w end.Spent asked from to = (to ≡ from) × IsSpent to.caller.pass
 StopsRequest w end.NoMemory asked from to =
-    RunsShortAt w (Request asked) from.pass to.pass × (to.written ≡ from.written)
+    RunsShortAt w (Request asked) from.caller to.caller × (to.written ≡ from.written)
 StopsRequest w reason asked from to = ⊥
 
 -- the reply to a refusal
@@ -94,7 +94,7 @@ abbrev pub StopsHanded : Origin → HttpEnd → Handed → Option Asked → At �
 StopsHanded w reason handed.Request current from to =
     (asked : Asked) × ((current ≡ Some asked) × StopsRequest w reason asked from to)
 StopsHanded w reason (handed.Refused why) current from to =
-    (to.pass ≡ from.pass) × StopsRefused reason why from.written to.written
+    (to.caller ≡ from.caller) × StopsRefused reason why from.written to.written
 
 -- ---- whole pieces
 
@@ -104,7 +104,7 @@ pub record Served (w : Origin) (from : At) (taken : List ℕ) (left : Option (Li
   pub outcomes : List Outcome
   pub hands : HandsOut items taken left
   pub requests : AreRequests items
-  pub comes : ComesOfAll w from.pass items outcomes to.pass
+  pub comes : ComesOfAll w from.caller items outcomes to.caller
   pub keeps : KeepLink items (map answer_of outcomes)
   pub wrote : Appends from.written to.written (replies_to items outcomes)
 

@@ -1,12 +1,12 @@
 //! What answers requests.
-ghost use Rattle.std.specs.Prelude.{◌≡◌, true};
-ghost use Rattle.fixed_num.specs.Moment.{is_moment};
+ghost use Rattle.std.specs.Prelude.{◌≡◌};
 ghost use Rattle.http_wire.specs.Reading.{seen};
 ghost use Rattle.http_wire.specs.Routes.{is_post};
 ghost use Rattle.http_front.specs.Requests.{form_of};
 
 use crate::listing::Listing;
 use crate::outcome::{Outcome, found, refused};
+use clock_watch::Watch;
 use http_wire::{Endpoint, Request, query_of, route};
 use outside_io::{Clock, Disk};
 use render_plan::{QueryFault, RenderPlan};
@@ -30,29 +30,31 @@ impl<'a, R: Wait, D: Disk, N: Named, C: Clock> Renderer<'a, R, D, N, C> {
     ghost use Rattle.http_wire.specs.Reading.{seen};
     ghost use Rattle.render_plan.specs.Asked.{plan_seen};
     ghost use Rattle.shared_store.specs.Passes.{HasRoom};
-    ghost use Rattle.http_front.specs.Origin.{SamePass, origin_of};
+    ghost use Rattle.http_front.specs.Origin.{SamePass, caller_of, origin_of};
     ghost use Rattle.http_front.specs.Requests.{ComesOf, ComesOfPlan, ComesOfQuery, ShortOf, ShortOfPlan, ShortOfQuery};
 
     /// What comes of a request. Where memory runs out it has no answer.
     pub(crate) fn answer(
         &self,
         pass: &mut StorePass<N>,
+        watch: &mut Watch<C>,
         request: &Request<'_>,
     ) -> Result<Outcome, AllocError>
         requires room { HasRoom pass.old }
         ensures comes { IfOk result (λ outcome. ComesOf (origin_of C.Clock N.Named self.now.clock.now)
-            (seen request.now) outcome pass.old pass.new) }
+            (seen request.now) outcome (caller_of pass.old watch.old)
+            (caller_of pass.new watch.new)) }
         ensures short { OnErr result (ShortOf (origin_of C.Clock N.Named self.now.clock.now)
-            (seen request.now) pass.old pass.new) }
+            (seen request.now) (caller_of pass.old watch.old) (caller_of pass.new watch.new)) }
         ensures pass { SamePass pass.old pass.new }
     {
         let query = query_of(request.target);
         let form = form_of(request);
         match route(request.method, request.target) {
-            Ok(Endpoint::Render) => self.render(pass, query, form),
-            Ok(Endpoint::Find) => self.list(pass, Listing::Nodes, query, form),
-            Ok(Endpoint::Expand) => self.list(pass, Listing::Paths, query, form),
-            Ok(Endpoint::Index) => self.index(pass),
+            Ok(Endpoint::Render) => self.render(pass, watch, query, form),
+            Ok(Endpoint::Find) => self.list(pass, watch, Listing::Nodes, query, form),
+            Ok(Endpoint::Expand) => self.list(pass, watch, Listing::Paths, query, form),
+            Ok(Endpoint::Index) => self.index(pass, watch),
             Err(why) => Ok(Outcome::Refused(why)),
         }
     }
@@ -62,19 +64,21 @@ impl<'a, R: Wait, D: Disk, N: Named, C: Clock> Renderer<'a, R, D, N, C> {
     fn render(
         &self,
         pass: &mut StorePass<N>,
+        watch: &mut Watch<C>,
         query: &[u8],
         form: &[u8],
     ) -> Result<Outcome, AllocError>
         requires room { HasRoom pass.old }
         ensures comes { IfOk result
             (λ outcome. ComesOfQuery (origin_of C.Clock N.Named self.now.clock.now)
-            query.now form.now outcome pass.old pass.new) }
+            query.now form.now outcome (caller_of pass.old watch.old)
+            (caller_of pass.new watch.new)) }
         ensures short { OnErr result
             (ShortOfQuery (origin_of C.Clock N.Named self.now.clock.now)
-            query.now form.now pass.old pass.new) }
+            query.now form.now (caller_of pass.old watch.old) (caller_of pass.new watch.new)) }
         ensures pass { SamePass pass.old pass.new }
     {
-        let now = moment(self.clock);
+        let now = watch.read(self.clock);
         match RenderPlan::read(self.alloc, query, form, u64::from(now)) {
             Ok(plan) => self.ask(pass, &plan, now),
             Err(QueryFault::NoMemory) => Err(AllocError),
@@ -120,13 +124,4 @@ fn is_post(method: &[u8]) -> bool
     ensures { result ≡ is_post method.now }
 {
     method == b"POST".as_slice()
-}
-
-/// The moment that a clock tells.
-#[tactic(auto, using(crate::proofs::AskLemmas::moment_fits))]
-pub(crate) fn moment<C: Clock>(clock: &C) -> u32
-    ensures told { C.moments clock.now result }
-    ensures legal { is_moment result ≡ true }
-{
-    clock.now() as u32
 }

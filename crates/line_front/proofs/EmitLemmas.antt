@@ -25,10 +25,10 @@ use Rattle.shared_store.specs.Steps.{put_entry as entry_told}
 use Rattle.line_front.specs.Batches.{HasNoRules}
 use Rattle.line_front.specs.Emits.{BringsFew, Gathers, GathersFew, PutsFew, PutsPart, StopsBring, StopsPut}
 use Rattle.line_front.specs.Ends.{end_of}
-use Rattle.line_front.specs.Links.{Brings, BringsFront, HasPoint, Idles, IsPointOf, Puts, SessionValue}
+use Rattle.line_front.specs.Links.{Brings, BringsFront, HasPoint, Idles, IsPointOf, Puts, ReadsThen, SessionValue}
 use Rattle.line_front.specs.Points.{PutsEach, PutsPoint, emitted_for, gathered_with, put_entry}
-use Rattle.line_front.specs.Sessions.{LinkValue, StopsBy, StopsLink}
-use Rattle.line_front.proofs.SessionLemmas.{entries_of}
+use Rattle.line_front.specs.Sessions.{LinkValue, StopsBy, StopsLink, with_reading}
+use Rattle.line_front.proofs.SessionLemmas.{entries_of, reads_ahead, reads_then, same_clock}
 
 -- ---- without rules
 
@@ -292,9 +292,17 @@ module _ (start : State) (passes : ℕ) where
 
 -- ---- a line of a link
 
-pub stops_bring : {C T : Type 0} (moments : C → ℕ → Type 0) (start : State) (passes : ℕ) (result : Result T Stop) (old new : LinkValue C) (line : List ℕ) (now : ℕ) (point : Point) (before after : Option (List ℕ))
-    → moments old.clock now → datum_of line now ≡ Ok point → IfErr result (λ reason. StopsBring start passes point reason old.session new.session) → new.clock ≡ old.clock
-    → IfErr result (λ reason. StopsLink moments start passes old (Whole line) before reason new after)
-stops_bring moments start passes (Ok u) old new line now point before after told read stops clock = tt
-stops_bring moments start passes (Err reason) old new line now point before after told read stops clock =
-    record { clock = clock; stops = bring_stops start passes (moments old.clock) (Whole line) point (now, (told, read)) reason old.session new.session stops }
+module _ {C : Type 0} (moments : C → ℕ → Type 0) (start : State) (passes : ℕ) (old mid : LinkValue C) (line : List ℕ) (now : ℕ) (reads : mid ≡ with_reading old now) (told : moments old.watch.clock now) where
+  pub stops_bring : {T : Type 0} (result : Result T Stop) (new : LinkValue C) (point : Point) (before after : Option (List ℕ)) → datum_of line now ≡ Ok point
+      → IfErr result (λ reason. StopsBring start passes point reason mid.session new.session) → new.watch ≡ mid.watch
+      → IfErr result (λ reason. StopsLink moments start passes old (Whole line) before reason new after)
+  stops_bring (Ok u) new point before after read stops watch = tt
+  stops_bring (Err reason) new point before after read stops watch = record {
+    clock = same_clock moments start passes old mid line now reads told new watch;
+    stops = record {
+      ahead = reads_ahead moments start passes old mid line now reads told new watch;
+      stops = bring_stops start passes (ReadsThen (moments old.watch.clock) old.watch.told new.watch.told) (Whole line) point
+          (now, (reads_then moments start passes old mid line now reads told new watch, read)) reason old.session new.session
+          (subst (λ (s : SessionValue). StopsBring start passes point reason s new.session) (ap (λ (v : LinkValue C). v.session) reads) stops);
+    };
+  }

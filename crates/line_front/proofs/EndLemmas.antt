@@ -9,7 +9,7 @@ use Rattle.metric_line.specs.Point.{Point}
 use Rattle.carbon_model.specs.State.{State}
 use Rattle.shared_history.specs.Parts.{PassValue}
 use Rattle.line_front.specs.Emits.{ClosesAs, EndsLines, LinesEndAs, PutsFew}
-use Rattle.line_front.specs.Links.{Ends, EndsAs, SessionValue}
+use Rattle.line_front.specs.Links.{Ends, EndsAs, SessionValue, Timed, timed}
 use Rattle.line_front.specs.Points.{PutsEach, emitted_at_end}
 use Rattle.line_front.specs.Ends.{IsLinkEnd, cause_of}
 use Rattle.line_front.specs.declared.ends.LineCause.{LineCause}
@@ -38,12 +38,13 @@ module _ (moments : ℕ → Type 0) (start : State) (passes : ℕ) where
   left_as session pass = record session { pass = pass }
 
   -- what is open of a link that was read to its end is put, or the first of it
-  closes : (reason : LineCause) (taken : List ℕ) (left : Option (List ℕ)) (old mid : SessionValue) (pass : PassValue) → LinesEndAs moments start passes cause.Closed taken left old mid
-      → ClosesAs start passes reason (emitted_at_end mid.gathered) mid.pass pass → EndsAs moments start passes reason taken left old (left_as mid pass)
-  closes cause.Closed taken left old mid pass read puts = record { mid = mid; read = read; emits = puts; counts = refl }
-  closes cause.ReadFault taken left old mid pass read puts = absurd puts
-  closes cause.LinkLimit taken left old mid pass read puts = absurd puts
-  closes cause.Spent taken left old mid pass read few = (
+  closes : (reason : LineCause) (taken : List ℕ) (left : Option (List ℕ)) (old : Timed) (told : List ℕ) (mid : SessionValue) (pass : PassValue)
+      → LinesEndAs moments start passes cause.Closed taken left old (timed told mid) → ClosesAs start passes reason (emitted_at_end mid.gathered) mid.pass pass
+      → EndsAs moments start passes reason taken left old (timed told (left_as mid pass))
+  closes cause.Closed taken left old told mid pass read puts = record { mid = mid; read = read; emits = puts; counts = refl }
+  closes cause.ReadFault taken left old told mid pass read puts = absurd puts
+  closes cause.LinkLimit taken left old told mid pass read puts = absurd puts
+  closes cause.Spent taken left old told mid pass read few = (
     inr (inr (record {
       mid = mid;
       read = read;
@@ -58,7 +59,7 @@ module _ (moments : ℕ → Type 0) (start : State) (passes : ℕ) where
     })),
     few.stops.1,
   )
-  closes cause.NoMemory taken left old mid pass read few = inr (inr (record {
+  closes cause.NoMemory taken left old told mid pass read few = inr (inr (record {
     mid = mid;
     read = read;
     put = left_as mid few.mid;
@@ -67,7 +68,7 @@ module _ (moments : ℕ → Type 0) (start : State) (passes : ℕ) where
   }))
 
   -- each other end is that of the lines
-  stays : (read : LineCause) (taken : List ℕ) (left : Option (List ℕ)) (old mid : SessionValue) → read ≢ cause.Closed → LinesEndAs moments start passes read taken left old mid
+  stays : (read : LineCause) (taken : List ℕ) (left : Option (List ℕ)) (old mid : Timed) → read ≢ cause.Closed → LinesEndAs moments start passes read taken left old mid
       → EndsAs moments start passes read taken left old mid
   stays cause.Closed taken left old mid other ends = absurd (other refl)
   stays cause.ReadFault taken left old mid other ends = ends
@@ -77,39 +78,40 @@ module _ (moments : ℕ → Type 0) (start : State) (passes : ℕ) where
   stays cause.NoMemory taken left old mid other (inl front) = inl front
   stays cause.NoMemory taken left old mid other (inr short) = inr (inl short)
 
-  module _ (left left' : Option (List ℕ)) (old mid : SessionValue) where
+  module _ (left left' : Option (List ℕ)) (old : Timed) (told : List ℕ) (mid : SessionValue) where
     not_spent : cause.Closed ≢ cause.Spent
     not_spent same = absurd (cc same)
 
-    ends_closed : (reason : LineCause) (pass : PassValue) → EndsLines moments start passes cause.Closed left left' old mid
-        → ClosesAs start passes reason (emitted_at_end mid.gathered) mid.pass pass → Ends moments start passes reason left left' old pass mid.counts
+    ends_closed : (reason : LineCause) (pass : PassValue) → EndsLines moments start passes cause.Closed left left' old (timed told mid)
+        → ClosesAs start passes reason (emitted_at_end mid.gathered) mid.pass pass → Ends moments start passes reason left left' old told pass mid.counts
     ends_closed reason pass lines puts = record {
       taken = lines.taken;
       consumed = lines.consumed;
       room = λ other. lines.room not_spent;
       gathered = mid.gathered;
-      ends = closes reason lines.taken left' old mid pass lines.ends puts;
+      ends = closes reason lines.taken left' old told mid pass lines.ends puts;
     }
 
-    ends_other : (read : LineCause) → read ≢ cause.Closed → EndsLines moments start passes read left left' old mid → Ends moments start passes read left left' old mid.pass mid.counts
+    ends_other : (read : LineCause) → read ≢ cause.Closed → EndsLines moments start passes read left left' old (timed told mid)
+        → Ends moments start passes read left left' old told mid.pass mid.counts
     ends_other read other lines = record {
       taken = lines.taken;
       consumed = lines.consumed;
       room = lines.room;
       gathered = mid.gathered;
-      ends = stays read lines.taken left' old mid other lines.ends;
+      ends = stays read lines.taken left' old (timed told mid) other lines.ends;
     }
 
-    ends_moved : (read reason : LineCause) (pass : PassValue) → read ≢ cause.Closed → EndsLines moments start passes read left left' old mid → (reason ≡ read) × (pass ≡ mid.pass)
-        → Ends moments start passes reason left left' old pass mid.counts
+    ends_moved : (read reason : LineCause) (pass : PassValue) → read ≢ cause.Closed → EndsLines moments start passes read left left' old (timed told mid) → (reason ≡ read) × (pass ≡ mid.pass)
+        → Ends moments start passes reason left left' old told pass mid.counts
     ends_moved read reason pass other lines same =
-        subst (λ (r : LineCause). Ends moments start passes r left left' old pass mid.counts) (sym same.0)
-        (subst (λ (p : PassValue). Ends moments start passes read left left' old p mid.counts) (sym same.1) (ends_other read other lines))
+        subst (λ (r : LineCause). Ends moments start passes r left left' old told pass mid.counts) (sym same.0)
+        (subst (λ (p : PassValue). Ends moments start passes read left left' old told p mid.counts) (sym same.1) (ends_other read other lines))
 
     -- what the service of a link came to
-    pub ends_link : (read reason : LineCause) (pass : PassValue) → EndsLines moments start passes read left left' old mid
+    pub ends_link : (read reason : LineCause) (pass : PassValue) → EndsLines moments start passes read left left' old (timed told mid)
         → (read ≡ cause.Closed → ClosesAs start passes reason (emitted_at_end mid.gathered) mid.pass pass) → (read ≢ cause.Closed → (reason ≡ read) × (pass ≡ mid.pass))
-        → Ends moments start passes reason left left' old pass mid.counts
+        → Ends moments start passes reason left left' old told pass mid.counts
     ends_link cause.Closed reason pass lines closed other = ends_closed reason pass lines (closed refl)
     ends_link cause.ReadFault reason pass lines closed other = ends_moved cause.ReadFault reason pass not_read lines (other not_read)
     ends_link cause.LinkLimit reason pass lines closed other = ends_moved cause.LinkLimit reason pass not_limit lines (other not_limit)

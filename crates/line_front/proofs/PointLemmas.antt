@@ -52,19 +52,24 @@ brings_more (Ok point) points others more brings = ap (λ (l : List Point). l ++
 brings_more (Err fault) points others more brings = ap (λ (l : List Point). l ++ more) brings
 
 module _ (moments : ℕ → Type 0) where
-  pub bring_append : (first second : List Line) (points more : List Point) → LinesBring moments first points → LinesBring moments second more
-      → LinesBring moments (first ++ second) (points ++ more)
-  bring_append [] second points more none brings =
-      subst (λ (l : List Point). LinesBring moments second (l ++ more)) (sym none) brings
-  bring_append (Whole line ∷ others) second points more read brings = (
+  pub bring_append : (first second : List Line) (now later : List ℕ) (points more : List Point) → LinesBring moments now first points → LinesBring moments later second more
+      → LinesBring moments (now ++ later) (first ++ second) (points ++ more)
+  bring_append [] second now later points more none brings =
+      subst (λ (r : List ℕ). LinesBring moments (r ++ later) second (points ++ more)) (sym none.0)
+      (subst (λ (l : List Point). LinesBring moments later second (l ++ more)) (sym none.1) brings)
+  bring_append (Whole line ∷ others) second now later points more read brings = (
     read.0,
-    read.1 ++ more,
+    read.1 ++ later,
+    read.2 ++ more,
     (
-      read.2.0,
-      (brings_more (datum_of line read.0) points read.1 more read.2.1.0, bring_append others second read.1 more read.2.1.1 brings),
+      ap (λ (r : List ℕ). r ++ later) read.3.0,
+      (
+        read.3.1.0,
+        (brings_more (datum_of line read.0) points read.2 more read.3.1.1.0, bring_append others second read.1 later read.2 more read.3.1.1.1 brings),
+      ),
     ),
   )
-  bring_append (TooLong ∷ others) second points more read brings = bring_append others second points more read brings
+  bring_append (TooLong ∷ others) second now later points more read brings = bring_append others second now later points more read brings
 
 -- ---- the entries of puts
 

@@ -8,22 +8,22 @@ use Rattle.line_service.specs.Standing.{ServesTo}
 use Rattle.line_service.proofs.ChainLemmas.{chain_append}
 use Rattle.carbon_model.specs.State.{State}
 use Rattle.line_front.specs.Batches.{BatchServes, BatchStops}
-use Rattle.line_front.specs.Links.{HandlesAll, SessionValue}
-use Rattle.line_front.specs.Sessions.{LinkValue, ServesLink, StopsLink}
+use Rattle.line_front.specs.Links.{HandlesAll, Timed}
+use Rattle.line_front.specs.Sessions.{LinkValue, ServesLink, StopsLink, timed_of}
 
 module _ {C : Type 0} (moments : C → ℕ → Type 0) (start : State) (passes : ℕ) where
   -- where a service stands by this clock
-  abbrev at : C → SessionValue → Option (List ℕ) → At (LinkValue C)
-  at clock session written = record { server = record { clock = clock; session = session }; written = written }
+  abbrev at : C → Timed → Option (List ℕ) → At (LinkValue C)
+  at clock here written = record { server = record { watch = record { clock = clock; told = here.told }; session = here.session }; written = written }
 
-  chain_of : (clock : C) (written : Option (List ℕ)) (handed : List Line) (old new : SessionValue) → HandlesAll (moments clock) start passes old handed new
+  chain_of : (clock : C) (written : Option (List ℕ)) (handed : List Line) (old new : Timed) → HandlesAll (moments clock) start passes old handed new
       → Chain (StepOf (ServesLink moments start passes)) (at clock old written) handed (at clock new written)
-  chain_of clock written [] old new same = ap (λ (s : SessionValue). at clock s written) same
+  chain_of clock written [] old new same = ap (λ (t : Timed). at clock t written) same
   chain_of clock written (line ∷ others) old new handles =
       (at clock handles.0 written, (record { clock = refl; handles = handles.1.0 }, chain_of clock written others handles.0 new handles.1.1))
 
-  same_at : (p q : At (LinkValue C)) → q.server.clock ≡ p.server.clock → q.written ≡ p.written → at p.server.clock q.server.session p.written ≡ q
-  same_at p q clock written = λ i. at (sym clock i) q.server.session (sym written i)
+  same_at : (p q : At (LinkValue C)) → q.server.watch.clock ≡ p.server.watch.clock → q.written ≡ p.written → at p.server.watch.clock (timed_of q.server) p.written ≡ q
+  same_at p q clock written = λ i. at (sym clock i) (timed_of q.server) (sym written i)
 
   -- nothing was served yet
   pub serves_none : (f : Framing) (p : At (LinkValue C)) → ServesTo (StepOf (ServesLink moments start passes)) f p f p
@@ -54,26 +54,26 @@ module _ {C : Type 0} (moments : C → ℕ → Type 0) (start : State) (passes :
 
   -- a batch
   pub serves_batch : (more : Bool) (f f1 f2 : Framing) (p p1 p2 : At (LinkValue C)) → ServesTo (StepOf (ServesLink moments start passes)) f p f1 p1
-      → BatchServes (moments p1.server.clock) start passes more f1 p1.server.session f2 p2.server.session → p2.server.clock ≡ p1.server.clock → p2.written ≡ p1.written
+      → BatchServes (moments p1.server.watch.clock) start passes more f1 (timed_of p1.server) f2 (timed_of p2.server) → p2.server.watch.clock ≡ p1.server.watch.clock → p2.written ≡ p1.written
       → ServesTo (StepOf (ServesLink moments start passes)) f p f2 p2
   serves_batch more f f1 f2 p p1 p2 s batch clock written = serves_both f f1 f2 p p1 p2 s (record {
     handed = batch.handed;
     split = batch.split;
     chain = subst (λ (q : At (LinkValue C)). Chain (StepOf (ServesLink moments start passes)) p1 batch.handed q) (same_at p1 p2 clock written)
-        (chain_of p1.server.clock p1.written batch.handed p1.server.session p2.server.session batch.handles);
+        (chain_of p1.server.watch.clock p1.written batch.handed (timed_of p1.server) (timed_of p2.server) batch.handles);
     open_line = batch.open_line;
   })
 
   pub stops_batch : (reason : Stop) (f f1 : Framing) (p p1 p2 : At (LinkValue C)) → ServesTo (StepOf (ServesLink moments start passes)) f p f1 p1
-      → BatchStops (moments p1.server.clock) start passes reason f1.waiting p1.server.session p2.server.session → p2.server.clock ≡ p1.server.clock
+      → BatchStops (moments p1.server.watch.clock) start passes reason f1.waiting (timed_of p1.server) (timed_of p2.server) → p2.server.watch.clock ≡ p1.server.watch.clock
       → StopsAt (ServesLink moments start passes) (StopsLink moments start passes) reason p f.waiting p2
   stops_batch reason f f1 p p1 p2 s batch clock = stops_both reason f f1 p p1 p2 s (record {
     handed = batch.handed;
     line = batch.line;
     rest = batch.others;
-    mid = at p1.server.clock batch.mid p1.written;
+    mid = at p1.server.watch.clock batch.mid p1.written;
     split = batch.split;
-    chain = chain_of p1.server.clock p1.written batch.handed p1.server.session batch.mid batch.handles;
+    chain = chain_of p1.server.watch.clock p1.written batch.handed (timed_of p1.server) batch.mid batch.handles;
     stopped = record { clock = clock; stops = batch.stops };
   })
 

@@ -12,8 +12,8 @@ use Rattle.carbon_model.specs.State.{State}
 use Rattle.shared_history.specs.Parts.{PassValue, own_entries}
 use Rattle.shared_store.specs.Passes.{HasRoom}
 use Rattle.line_front.specs.Counts.{overlong}
-use Rattle.line_front.specs.Links.{HandlesAll, IsSpent, Puts, SeesMore, SessionValue}
-use Rattle.line_front.specs.Sessions.{LinkValue, Refuses, StopsBy}
+use Rattle.line_front.specs.Links.{HandlesAll, IsSpent, Puts, ReadsOnce, SeesMore, SessionValue, Timed}
+use Rattle.line_front.specs.Sessions.{LinkValue, Refuses, StopsThen}
 use Rattle.line_front.specs.declared.batch.NoPoint.{NoPoint}
 use Rattle.line_front.specs.declared.batch.NoPoint.TheVariants as none
 
@@ -24,12 +24,13 @@ abbrev pub IsReadAs : (ℕ → Type 0) → Line → Datum → Type 0
 IsReadAs moments (Whole line) datum = (now : ℕ) × (moments now × (datum_of line now ≡ Ok (seen datum)))
 IsReadAs moments TooLong datum = ⊥
 
--- these lines were read as these points, each at some moment of the clock
-abbrev pub AreRead : (ℕ → Type 0) → List Line → List Datum → Type 0
-AreRead moments [] [] = Unit {0}
-AreRead moments [] (datum ∷ points) = ⊥
-AreRead moments (line ∷ others) [] = ⊥
-AreRead moments (line ∷ others) (datum ∷ points) = IsReadAs moments line datum × AreRead moments others points
+-- these lines were read as these points, each at a reading of its own of the clock, and no other reading was made
+abbrev pub AreRead : (ℕ → Type 0) → List ℕ → List Line → List Datum → List ℕ → Type 0
+AreRead moments told [] [] told' = told' ≡ told
+AreRead moments told [] (datum ∷ points) told' = ⊥
+AreRead moments told (line ∷ others) [] told' = ⊥
+AreRead moments told (line ∷ others) (datum ∷ points) told' =
+    (mid : List ℕ) × (IsReadAs (ReadsOnce moments told mid) line datum × AreRead moments mid others points told')
 
 -- a line is refused for this reason, or there was no memory for it, which has a point
 pub record IsRefusedAs (moments : ℕ → Type 0) (line : List ℕ) (fault : LineFault) : Type 0 where
@@ -50,38 +51,49 @@ ReadsPoint moments line (Err none.NoLine) old new = ⊥
 ReadsPoint moments line (Err (none.Refused fault)) old new = IsRefusedAs moments line fault × (new ≡ old)
 ReadsPoint moments line (Err none.Long) old new = ⊥
 
--- of the lines `waiting` the others wait, behind one that has no point, if there is one
-abbrev pub IsWithoutPoint : (ℕ → Type 0) → NoPoint → List Line → List Line → Type 0
-IsWithoutPoint moments none.NoLine waiting others = (waiting ≡ []) × (others ≡ [])
-IsWithoutPoint moments (none.Refused fault) waiting others = (line : List ℕ) × (IsRefusedAs moments line fault × (waiting ≡ Whole line ∷ others))
-IsWithoutPoint moments none.Long waiting others = waiting ≡ TooLong ∷ others
+-- of the lines `waiting` the others wait, behind one that has no point, if there is one; for that the clock was read, unless it is too long
+abbrev pub IsWithoutPoint : (ℕ → Type 0) → List ℕ → NoPoint → List Line → List Line → List ℕ → Type 0
+IsWithoutPoint moments told none.NoLine waiting others told' = (told' ≡ told) × ((waiting ≡ []) × (others ≡ []))
+IsWithoutPoint moments told (none.Refused fault) waiting others told' =
+    (line : List ℕ) × (IsRefusedAs (ReadsOnce moments told told') line fault × (waiting ≡ Whole line ∷ others))
+IsWithoutPoint moments told none.Long waiting others told' = (told' ≡ told) × (waiting ≡ TooLong ∷ others)
+
+-- the lines that wait at a framer, and all moments for which the clock was read
+pub record Reading : Type 0 where
+  pub told : List ℕ
+  pub framing : Framing
+
+abbrev pub reading : List ℕ → Framing → Reading
+reading told framing = record { told = told; framing = framing }
 
 -- what the read of the next line makes of the points
-abbrev pub ReadsNext : {T : Type 0} → (ℕ → Type 0) → Result T NoPoint → Framing → Framing → List Datum → List Datum → Type 0
-ReadsNext moments (Ok u) framing framing' old new =
-    (line : Line) × (datum : Datum) × (IsReadAs moments line datum × ((framing.waiting ≡ line ∷ framing'.waiting) × (new ≡ old ++ datum ∷ [])))
-ReadsNext moments (Err reason) framing framing' old new = IsWithoutPoint moments reason framing.waiting framing'.waiting × (new ≡ old)
+abbrev pub ReadsNext : {T : Type 0} → (ℕ → Type 0) → Result T NoPoint → Reading → Reading → List Datum → List Datum → Type 0
+ReadsNext moments (Ok u) r r' old new =
+    (line : Line) × (datum : Datum)
+    × (IsReadAs (ReadsOnce moments r.told r'.told) line datum × ((r.framing.waiting ≡ line ∷ r'.framing.waiting) × (new ≡ old ++ datum ∷ [])))
+ReadsNext moments (Err reason) r r' old new = IsWithoutPoint moments r.told reason r.framing.waiting r'.framing.waiting r'.told × (new ≡ old)
 
 -- what the read of a batch leaves of the lines that wait behind its points
-abbrev pub LeavesWaiting : {T : Type 0} → (ℕ → Type 0) → Result T NoPoint → List Datum → List Line → List Line → Type 0
-LeavesWaiting moments (Ok u) points waiting others = (0 < length points) × (waiting ≡ others)
-LeavesWaiting moments (Err reason) points waiting others = IsWithoutPoint moments reason waiting others
+abbrev pub LeavesWaiting : {T : Type 0} → (ℕ → Type 0) → List ℕ → Result T NoPoint → List Datum → List Line → List Line → List ℕ → Type 0
+LeavesWaiting moments told (Ok u) points waiting others told' = (told' ≡ told) × ((0 < length points) × (waiting ≡ others))
+LeavesWaiting moments told (Err reason) points waiting others told' = IsWithoutPoint moments told reason waiting others told'
 
 -- the first lines that waited were read as these points
-pub record ReadsFirst (moments : ℕ → Type 0) (framing framing' : Framing) (points : List Datum) : Type 0 where
+pub record ReadsFirst (moments : ℕ → Type 0) (old new : Reading) (points : List Datum) : Type 0 where
   pub handed : List Line
-  pub read : AreRead moments handed points
-  pub split : framing.waiting ≡ handed ++ framing'.waiting
-  pub open_line : framing'.open_line ≡ framing.open_line
+  pub read : AreRead moments old.told handed points new.told
+  pub split : old.framing.waiting ≡ handed ++ new.framing.waiting
+  pub open_line : new.framing.open_line ≡ old.framing.open_line
 
 -- a batch was read: these points, and the line behind them that has none
-pub record ReadsPoints {T : Type 0} (moments : ℕ → Type 0) (result : Result T NoPoint) (framing framing' : Framing) (points : List Datum) : Type 0 where
+pub record ReadsPoints {T : Type 0} (moments : ℕ → Type 0) (result : Result T NoPoint) (old new : Reading) (points : List Datum) : Type 0 where
   pub handed : List Line
   pub behind : List Line
-  pub read : AreRead moments handed points
-  pub split : framing.waiting ≡ handed ++ behind
-  pub leaves : LeavesWaiting moments result points behind framing'.waiting
-  pub open_line : framing'.open_line ≡ framing.open_line
+  pub mid : List ℕ
+  pub read : AreRead moments old.told handed points mid
+  pub split : old.framing.waiting ≡ handed ++ behind
+  pub leaves : LeavesWaiting moments mid result points behind new.framing.waiting new.told
+  pub open_line : new.framing.open_line ≡ old.framing.open_line
 
 -- ---- putting
 
@@ -146,7 +158,7 @@ LeavesFewer true old new = length new < length old
 LeavesFewer false old new = new ≡ []
 
 -- of the lines that waited the first were handled, and the others still wait
-pub record BatchServes (moments : ℕ → Type 0) (start : State) (passes : ℕ) (more : Bool) (framing : Framing) (old : SessionValue) (framing' : Framing) (new : SessionValue) : Type 0 where
+pub record BatchServes (moments : ℕ → Type 0) (start : State) (passes : ℕ) (more : Bool) (framing : Framing) (old : Timed) (framing' : Framing) (new : Timed) : Type 0 where
   pub handed : List Line
   pub split : framing.waiting ≡ handed ++ framing'.waiting
   pub handles : HandlesAll moments start passes old handed new
@@ -154,11 +166,11 @@ pub record BatchServes (moments : ℕ → Type 0) (start : State) (passes : ℕ)
   pub fewer : LeavesFewer more framing.waiting framing'.waiting
 
 -- of the lines that waited the first were handled, and the one that follows was not
-pub record BatchStops (moments : ℕ → Type 0) (start : State) (passes : ℕ) (reason : Stop) (waiting : List Line) (old new : SessionValue) : Type 0 where
+pub record BatchStops (moments : ℕ → Type 0) (start : State) (passes : ℕ) (reason : Stop) (waiting : List Line) (old new : Timed) : Type 0 where
   pub handed : List Line
   pub line : Line
   pub others : List Line
   pub split : waiting ≡ handed ++ line ∷ others
-  pub mid : SessionValue
+  pub mid : Timed
   pub handles : HandlesAll moments start passes old handed mid
-  pub stops : StopsBy moments start passes line reason mid new
+  pub stops : StopsThen moments start passes line reason mid new

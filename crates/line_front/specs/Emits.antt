@@ -11,7 +11,7 @@ use Rattle.carbon_model.specs.State.{State}
 use Rattle.shared_history.specs.Parts.{PassValue, own_entries}
 use Rattle.shared_store.specs.Passes.{Enters, HasRoom}
 use Rattle.line_front.specs.Points.{PutsEach, emitted_for, gathered_with}
-use Rattle.line_front.specs.Links.{HandlesWhole, IsRead, IsSpent, Puts, RunsFull, RunsShort, SessionValue, TakesNone}
+use Rattle.line_front.specs.Links.{HandlesWhole, IsRead, IsSpent, Puts, RunsFull, RunsShort, SessionValue, TakesNone, Timed}
 use Rattle.line_front.specs.Sessions.{PutsNone}
 use Rattle.line_front.specs.declared.ends.LineCause.{LineCause}
 use Rattle.line_front.specs.declared.ends.LineCause.TheVariants as cause
@@ -71,20 +71,20 @@ StopsBring start passes point reason old new = PutsNone start passes reason old 
 -- ---- at the end of a link
 
 -- what stands at each end of a link, before what its rules have open is put
-abbrev pub LinesEndAs : (ℕ → Type 0) → State → ℕ → LineCause → List ℕ → Option (List ℕ) → SessionValue → SessionValue → Type 0
+abbrev pub LinesEndAs : (ℕ → Type 0) → State → ℕ → LineCause → List ℕ → Option (List ℕ) → Timed → Timed → Type 0
 LinesEndAs moments start passes cause.Closed taken left old new = IsRead moments start passes taken left old new
 LinesEndAs moments start passes cause.ReadFault taken left old new = HandlesWhole moments start passes taken old new × (length taken < 2 ^ 40)
 LinesEndAs moments start passes cause.LinkLimit taken left old new = HandlesWhole moments start passes taken old new × (length taken ≡ 2 ^ 40)
 LinesEndAs moments start passes cause.Spent taken left old new =
-    (TakesNone taken old new ⊎ RunsFull moments start passes taken old new) × IsSpent new.pass
+    (TakesNone taken old new ⊎ RunsFull moments start passes taken old new) × IsSpent new.session.pass
 LinesEndAs moments start passes cause.NoMemory taken left old new =
     ((front : List ℕ) × (RunsOut front taken × HandlesWhole moments start passes front old new)) ⊎ RunsShort moments start passes taken old new
 
 -- what the lines of a link came to
-pub record EndsLines (moments : ℕ → Type 0) (start : State) (passes : ℕ) (reason : LineCause) (left left' : Option (List ℕ)) (old new : SessionValue) : Type 0 where
+pub record EndsLines (moments : ℕ → Type 0) (start : State) (passes : ℕ) (reason : LineCause) (left left' : Option (List ℕ)) (old new : Timed) : Type 0 where
   pub taken : List ℕ
   pub consumed : Consumes left left' taken
-  pub room : reason ≢ cause.Spent → HasRoom old.pass
+  pub room : reason ≢ cause.Spent → HasRoom old.session.pass
   pub ends : LinesEndAs moments start passes reason taken left' old new
 
 -- how a link ends that was read to its end, and at that end has these points to put

@@ -53,12 +53,14 @@ abbrev pub ReadBrings : Result Point LineFault → List Point → List Point →
 ReadBrings (Ok point) points others = points ≡ point ∷ others
 ReadBrings (Err fault) points others = points ≡ others
 
--- These lines were read as these points, in order, each at some moment of the clock; what is refused or too long brings none.
-abbrev pub LinesBring : (ℕ → Type 0) → List Line → List Point → Type 0
-LinesBring moments [] points = points ≡ []
-LinesBring moments (Whole line ∷ more) points =
-    (now : ℕ) × (others : List Point) × (moments now × (ReadBrings (datum_of line now) points others × LinesBring moments more others))
-LinesBring moments (TooLong ∷ more) points = LinesBring moments more points
+-- These lines were read as these points, in order, at these readings of the clock: each whole line has a reading of its own, in order too, and there is no other.
+-- What is refused or too long brings no point.
+abbrev pub LinesBring : (ℕ → Type 0) → List ℕ → List Line → List Point → Type 0
+LinesBring moments readings [] points = (readings ≡ []) × (points ≡ [])
+LinesBring moments readings (Whole line ∷ more) points =
+    (now : ℕ) × (later : List ℕ) × (others : List Point)
+    × ((readings ≡ now ∷ later) × (moments now × (ReadBrings (datum_of line now) points others × LinesBring moments later more others)))
+LinesBring moments readings (TooLong ∷ more) points = LinesBring moments readings more points
 
 -- ---- puts
 

@@ -1,8 +1,9 @@
 //! The points of lines that wait, read as one batch.
 ghost use Rattle.std.specs.Prelude.{◌≡◌, ◌≤◌, [], length};
-ghost use Rattle.line_front.specs.Batches.{AddsPoint, ReadsNext, ReadsPoint, ReadsPoints};
+ghost use Rattle.line_front.specs.Batches.{AddsPoint, ReadsNext, ReadsPoint, ReadsPoints, reading};
+ghost use Rattle.line_front.specs.Links.{ReadsOnce};
 
-use crate::session::moment;
+use clock_watch::Watch;
 use line_frame::{Framed, Framer};
 use metric_line::{Datum, LineFault, read_line_over};
 use metric_path::MetricPath;
@@ -34,20 +35,23 @@ pub(crate) fn empty(points: &mut Vec<Datum>, spares: &mut Vec<MetricPath>)
 }
 
 /// Reads the first lines that wait as points, up to one that has none, or as many as a batch has.
-/// It takes that one too. Their paths take the memory of those that are spare.
+/// It takes that one too. The clock is read once for each line that is not too long. The points'
+/// paths take the memory of those that are spare.
 pub(crate) fn read_points<C: Clock>(
     alloc: Global,
     clock: &C,
+    watch: &mut Watch<C>,
     spares: &mut Vec<MetricPath>,
     framer: &mut Framer,
     points: &mut Vec<Datum>,
 ) -> Result<(), NoPoint>
     requires none { points.old.items ≡ [] }
-    ensures reads { ReadsPoints (C.moments clock.now) result framer.old framer.new points.new.items }
+    ensures reads { ReadsPoints (C.moments clock.now) result (reading watch.old framer.old)
+        (reading watch.new framer.new) points.new.items }
     ensures few { length points.new.items ≤ 256 }
 {
     while points.len() < MOST_BATCH_POINTS {
-        match read_next(alloc, clock, spares, framer, points) {
+        match read_next(alloc, clock, watch, spares, framer, points) {
             Ok(()) => {}
             Err(none) => return Err(none),
         }
@@ -55,20 +59,21 @@ pub(crate) fn read_points<C: Clock>(
     Ok(())
 }
 
-// Reads the next line that waits as a point, at the moment that the clock tells.
+// Reads the next line that waits as a point, at the moment that the clock tells then.
 fn read_next<C: Clock>(
     alloc: Global,
     clock: &C,
+    watch: &mut Watch<C>,
     spares: &mut Vec<MetricPath>,
     framer: &mut Framer,
     points: &mut Vec<Datum>,
 ) -> Result<(), NoPoint>
-    ensures reads { ReadsNext (C.moments clock.now) result framer.old framer.new points.old.items
-        points.new.items }
+    ensures reads { ReadsNext (C.moments clock.now) result (reading watch.old framer.old)
+        (reading watch.new framer.new) points.old.items points.new.items }
     ensures open_line { framer.new.open_line ≡ framer.old.open_line }
 {
     match framer.next_line() {
-        Some(Framed::Line) => read_point(alloc, clock, spares, framer.line(), points),
+        Some(Framed::Line) => read_point(alloc, clock, watch, spares, framer.line(), points),
         Some(Framed::TooLong) => Err(NoPoint::Long),
         None => Err(NoPoint::NoLine),
     }
@@ -79,13 +84,16 @@ fn read_next<C: Clock>(
 fn read_point<C: Clock>(
     alloc: Global,
     clock: &C,
+    watch: &mut Watch<C>,
     spares: &mut Vec<MetricPath>,
     line: &[u8],
     points: &mut Vec<Datum>,
 ) -> Result<(), NoPoint>
-    ensures { ReadsPoint (C.moments clock.now) line.now result points.old.items points.new.items }
+    ensures { ReadsPoint (ReadsOnce (C.moments clock.now) watch.old watch.new) line.now result
+        points.old.items points.new.items }
 {
-    match read_line_over(alloc, &mut spares.pop(), line, moment(clock)) {
+    let now = watch.read(clock);
+    match read_line_over(alloc, &mut spares.pop(), line, now) {
         Ok(datum) => add_point(points, datum),
         Err(fault) => Err(NoPoint::Refused(fault)),
     }

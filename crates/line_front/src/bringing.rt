@@ -35,7 +35,7 @@ impl<'a, R: Wait, D: Disk, N: Named, C: Clock> LineSession<'a, R, D, N, C> {
             (BringsAll N.start N.passes points.now self.old.session self.new.session) }
         ensures stops { IfErr result (λ stop. BringsFewer N.start N.passes stop points.now
             self.old.session self.new.session) }
-        ensures clock { self.new.clock ≡ self.old.clock }
+        ensures watch { self.new.watch ≡ self.old.watch }
     {
         if self.lacks_rules() {
             return self.put_points(points);
@@ -49,7 +49,7 @@ impl<'a, R: Wait, D: Disk, N: Named, C: Clock> LineSession<'a, R, D, N, C> {
             (BringsAll N.start N.passes points.now self.old.session self.new.session) }
         ensures stops { IfErr result (λ stop. BringsFewer N.start N.passes stop points.now
             self.old.session self.new.session) }
-        ensures clock { self.new.clock ≡ self.old.clock }
+        ensures watch { self.new.watch ≡ self.old.watch }
     {
         let mut at = 0;
         while at < points.len() {
@@ -68,7 +68,7 @@ impl<'a, R: Wait, D: Disk, N: Named, C: Clock> LineSession<'a, R, D, N, C> {
             self.old.session self.new.session) }
         ensures stops { IfErr result (λ stop. BringsFewer N.start N.passes stop points.now
             self.old.session self.new.session) }
-        ensures clock { self.new.clock ≡ self.old.clock }
+        ensures watch { self.new.watch ≡ self.old.watch }
     {
         if self.has_room_for(points) {
             return self.bring_front(points);
@@ -91,7 +91,7 @@ impl<'a, R: Wait, D: Disk, N: Named, C: Clock> LineSession<'a, R, D, N, C> {
             self.old.session self.new.session) }
         ensures stops { IfErr result (λ stop. BringsFewer N.start N.passes stop points.now
             self.old.session self.new.session) }
-        ensures clock { self.new.clock ≡ self.old.clock }
+        ensures watch { self.new.watch ≡ self.old.watch }
     {
         match self.room() {
             Ok(()) => {}
@@ -111,7 +111,7 @@ impl<'a, R: Wait, D: Disk, N: Named, C: Clock> LineSession<'a, R, D, N, C> {
             self.old.session self.new.session) }
         ensures stops { IfErr result (λ stop. BringsFewer N.start N.passes stop points.now
             self.old.session self.new.session) }
-        ensures clock { self.new.clock ≡ self.old.clock }
+        ensures watch { self.new.watch ≡ self.old.watch }
     {
         let Ok(fed) = self.feed_front(points) else {
             return Err(Stop::NoMemory);
@@ -133,7 +133,7 @@ impl<'a, R: Wait, D: Disk, N: Named, C: Clock> LineSession<'a, R, D, N, C> {
             self.old.session self.new.session) }
         ensures stops { IfErr result (λ stop. FewBehind N.start N.passes (map seen points.now) stop
             self.old.session self.new.session) }
-        ensures clock { self.new.clock ≡ self.old.clock }
+        ensures watch { self.new.watch ≡ self.old.watch }
     {
         put_emitted(self.rt, self.alloc, self.store, &mut self.pass, points)
     }
@@ -144,7 +144,7 @@ impl<'a, R: Wait, D: Disk, N: Named, C: Clock> LineSession<'a, R, D, N, C> {
         ensures feeds { IfOk result (λ fed. FeedsBatch points.now fed.count fed.emitted.items
             self.old.session self.new.session) }
         ensures none { OnErr result (self.new ≡ self.old) }
-        ensures clock { self.new.clock ≡ self.old.clock }
+        ensures watch { self.new.watch ≡ self.old.watch }
     {
         feed_quiet(&mut self.aggregator, self.alloc, points)
     }

@@ -3,7 +3,8 @@ ghost use Rattle.std.specs.Prelude.{◌≡◌};
 ghost use Rattle.outside_io.specs.Frames.{CountsReads};
 ghost use Rattle.line_front.specs.Ends.{IsLinkEnd, cause_of};
 ghost use Rattle.line_front.specs.Emits.{EndsLines};
-ghost use Rattle.line_front.specs.Links.{Ends, WritesNone, new_session};
+ghost use Rattle.line_front.specs.Links.{Ends, WritesNone, new_session, timed};
+ghost use Rattle.line_front.specs.Sessions.{timed_of};
 
 use crate::counts::Counts;
 use crate::emitting::end_link;
@@ -12,10 +13,12 @@ use crate::session::LineSession;
 use crate::sink::NoSink;
 use aggregate_front::{Aggregator, LINK_LIMITS};
 use aggregate_rules::AggRules;
+use clock_watch::Watch;
 use line_service::{ServiceEnd, Stop};
 use outside_io::{Clock, Disk, Link};
 use shared_store::{Named, Store, StorePass};
 use std::alloc::Global;
+use std::mem;
 use std::sync::Wait;
 
 /// What the service of a link came to.
@@ -29,10 +32,10 @@ pub struct Served<N: Named> {
     pub pass: StorePass<N>,
 }
 
-/// Serves a link that brings metric lines, until it ends: each line that is read as a point, at the
-/// moment that the clock tells then, makes one put, in order; each other line is counted by the
-/// reason, and the link goes on. What follows the last line feed is no line. Nothing is written to
-/// the link.
+/// Serves a link that brings metric lines, until it ends: each line that is read as a point, at a
+/// moment for which the clock is read then, once, by the watch, makes one put, in order; each other
+/// line is counted by the reason, and the link goes on. For a line that is too long the clock is not
+/// read. What follows the last line feed is no line. Nothing is written to the link.
 ///
 /// A point that was put is given to the rules, and what they emit for it is put right behind it.
 /// Where the link is read to its end, what they have open then is put; it is dropped at each other
@@ -45,12 +48,14 @@ pub fn serve_lines<R: Wait, D: Disk, N: Named, L: Link, C: Clock>(
     alloc: Global,
     store: &Store<D, N>,
     pass: StorePass<N>,
+    watch: &mut Watch<C>,
     link: &mut L,
     clock: &C,
     rules: &AggRules,
 ) -> Served<N>
     ensures ends { Ends (C.moments clock.now) N.start N.passes result.cause (L.left link.old)
-        (L.left link.new) (new_session rules.now pass) result.pass result.counts }
+        (L.left link.new) (timed watch.old (new_session rules.now pass)) watch.new result.pass
+        result.counts }
     ensures reads { CountsReads L.Source link.old link.new (result.cause ≡ LineCause.ReadFault) }
     ensures written { WritesNone L.Sink link.old link.new }
 {
@@ -58,6 +63,7 @@ pub fn serve_lines<R: Wait, D: Disk, N: Named, L: Link, C: Clock>(
         rt,
         store,
         clock,
+        watch: mem::replace(watch, Watch::new()),
         pass,
         counts: Counts::none(),
         rules,
@@ -68,11 +74,13 @@ pub fn serve_lines<R: Wait, D: Disk, N: Named, L: Link, C: Clock>(
     };
     let read = serve_link(&mut session, alloc, link);
     let LineSession {
+        watch: told,
         pass,
         counts,
         aggregator,
         ..
     } = session;
+    *watch = told;
     let mut pass = pass;
     let cause = end_link(rt, alloc, store, read, aggregator, &mut pass);
     Served {
@@ -89,8 +97,8 @@ fn serve_link<R: Wait, D: Disk, N: Named, L: Link, C: Clock>(
     alloc: Global,
     link: &mut L,
 ) -> LineCause
-    ensures ends { EndsLines (C.moments session.old.clock) N.start N.passes result
-        (L.left link.old) (L.left link.new) session.old.session session.new.session }
+    ensures ends { EndsLines (C.moments session.old.watch.clock) N.start N.passes result
+        (L.left link.old) (L.left link.new) (timed_of session.old) (timed_of session.new) }
     ensures reads { CountsReads L.Source link.old link.new (result ≡ LineCause.ReadFault) }
     ensures written { WritesNone L.Sink link.old link.new }
 {

@@ -1,6 +1,5 @@
 //! What serves the lines of one link.
 ghost use Rattle.std.specs.Prelude.{◌≡◌, true};
-ghost use Rattle.fixed_num.specs.Moment.{is_moment};
 ghost use Rattle.line_front.specs.Ends.{end_of};
 
 use crate::counts::Counts;
@@ -8,6 +7,7 @@ use crate::emitting::put_emitted;
 use aggregate_front::Aggregator;
 use aggregate_rules::AggRules;
 use carbon_history::PutEnd;
+use clock_watch::Watch;
 use line_service::{LineServer, Stop};
 use metric_line::{Datum, LineFault, read_line};
 use metric_path::MetricPath;
@@ -25,6 +25,8 @@ pub(crate) struct LineSession<'a, R: Wait, D: Disk, N: Named, C: Clock> {
     pub(crate) rt: &'a R,
     pub(crate) store: &'a Store<D, N>,
     pub(crate) clock: &'a C,
+    // What the clock is read by, once for each line that is not too long.
+    pub(crate) watch: Watch<C>,
     pub(crate) pass: StorePass<N>,
     pub(crate) counts: Counts,
     pub(crate) rules: &'a AggRules,
@@ -44,7 +46,7 @@ impl<'a, R: Wait, D: Disk, N: Named, C: Clock> Model for LineSession<'a, R, D, N
     ghost Value = { LinkValue C };
 
     ghost view = { λ s. record {
-      clock = s.clock.now;
+      watch = record { clock = s.clock.now; told = s.watch };
       session = record { pass = s.pass; counts = s.counts; gathered = s.aggregator };
     } };
 
@@ -52,13 +54,14 @@ impl<'a, R: Wait, D: Disk, N: Named, C: Clock> Model for LineSession<'a, R, D, N
 }
 
 impl<'a, R: Wait, D: Disk, N: Named, C: Clock> LineSession<'a, R, D, N, C> {
-    ghost use Rattle.std.specs.Prelude.{◌≡◌, OnOk, IfErr};
+    ghost use Rattle.std.specs.Prelude.{◌≡◌, OnOk, IfErr, true};
     ghost use Rattle.metric_line.specs.Seen.{seen};
     ghost use Rattle.shared_store.specs.Passes.{HasRoom};
     ghost use Rattle.line_front.specs.Links.{Brings, Puts};
     ghost use Rattle.line_front.specs.Batches.{HasNoRules};
     ghost use Rattle.line_front.specs.Emits.{Gathers, GathersFew, StopsBring};
-    ghost use Rattle.line_front.specs.Sessions.{PutsNone, Refuses, TellsRoom};
+    ghost use Rattle.fixed_num.specs.Moment.{is_moment};
+    ghost use Rattle.line_front.specs.Sessions.{PutsNone, Refuses, TellsRoom, with_reading};
 
     // Whether the pass has room for what a call of the store may enter.
     #[tactic(auto, using(crate::proofs::SessionLemmas::has_room, crate::proofs::SessionLemmas::has_none))]
@@ -72,6 +75,15 @@ impl<'a, R: Wait, D: Disk, N: Named, C: Clock> LineSession<'a, R, D, N, C> {
         }
     }
 
+    // The moment of a line. The clock is read once.
+    fn moment(&mut self) -> u32
+        ensures told { C.moments self.old.watch.clock result }
+        ensures legal { is_moment result ≡ true }
+        ensures new { self.new ≡ with_reading self.old result }
+    {
+        self.watch.read(self.clock)
+    }
+
     // Puts the point of a line, and counts how that ended.
     #[tactic(auto, using(crate::proofs::SessionLemmas::puts_point, crate::proofs::SessionLemmas::puts_none))]
     pub(crate) fn put(&mut self, datum: &Datum) -> Result<(), Stop>
@@ -80,7 +92,7 @@ impl<'a, R: Wait, D: Disk, N: Named, C: Clock> LineSession<'a, R, D, N, C> {
             (Puts N.start N.passes (seen datum.now) self.old.session self.new.session) }
         ensures stops { IfErr result
             (λ reason. PutsNone N.start N.passes reason self.old.session self.new.session) }
-        ensures clock { self.new.clock ≡ self.old.clock }
+        ensures watch { self.new.watch ≡ self.old.watch }
     {
         let put = self.store.put(self.rt, &mut self.pass, datum);
         let Some(end) = end_of(put) else {
@@ -98,7 +110,7 @@ impl<'a, R: Wait, D: Disk, N: Named, C: Clock> LineSession<'a, R, D, N, C> {
             (Brings N.start N.passes (seen datum.now) self.old.session self.new.session) }
         ensures stops { IfErr result (λ reason. StopsBring N.start N.passes (seen datum.now) reason
             self.old.session self.new.session) }
-        ensures clock { self.new.clock ≡ self.old.clock }
+        ensures watch { self.new.watch ≡ self.old.watch }
     {
         match self.put(datum) {
             Ok(()) => self.gather(datum),
@@ -113,7 +125,7 @@ impl<'a, R: Wait, D: Disk, N: Named, C: Clock> LineSession<'a, R, D, N, C> {
             (Gathers N.start N.passes (seen datum.now) self.old.session self.new.session) }
         ensures stops { IfErr result (λ reason. GathersFew N.start N.passes (seen datum.now) reason
             self.old.session self.new.session) }
-        ensures clock { self.new.clock ≡ self.old.clock }
+        ensures watch { self.new.watch ≡ self.old.watch }
     {
         if self.lacks_rules() {
             return Ok(());
@@ -164,7 +176,8 @@ impl<'a, R: Wait, D: Disk, N: Named, C: Clock> LineServer for LineSession<'a, R,
         // A link that brings lines is never written to.
         let _ = out;
         self.room()?;
-        match read_line(self.alloc, line, moment(self.clock)) {
+        let now = self.moment();
+        match read_line(self.alloc, line, now) {
             Ok(datum) => self.bring(&datum),
             Err(fault) => self.refuse(fault),
         }
@@ -177,15 +190,6 @@ impl<'a, R: Wait, D: Disk, N: Named, C: Clock> LineServer for LineSession<'a, R,
         self.counts.count_long();
         Ok(())
     }
-}
-
-// The moment that a clock tells.
-#[tactic(auto, using(crate::proofs::SessionLemmas::moment_fits))]
-pub(crate) fn moment<C: Clock>(clock: &C) -> u32
-    ensures told { C.moments clock.now result }
-    ensures legal { is_moment result ≡ true }
-{
-    clock.now() as u32
 }
 
 // How a put ended, unless there was no memory for it.

@@ -26,8 +26,8 @@ impl<'a, R: Wait, D: Disk, N: Named, C: Clock> LineSession<'a, R, D, N, C> {
     ghost use Rattle.line_service.specs.Standing.{ServesTo};
     ghost use Rattle.shared_store.specs.Passes.{HasRoom};
     ghost use Rattle.shared_store.specs.Pieces.{HasRoomFor};
-    ghost use Rattle.line_front.specs.Batches.{BatchServes, BatchStops, EndsBatch, EndsLong, EndsRefused, HasBatchRoom, PutsAll, PutsFewer, ReadsPoints};
-    ghost use Rattle.line_front.specs.Sessions.{ServesLink, StopsLink};
+    ghost use Rattle.line_front.specs.Batches.{BatchServes, BatchStops, EndsBatch, EndsLong, EndsRefused, HasBatchRoom, PutsAll, PutsFewer, ReadsPoints, reading};
+    ghost use Rattle.line_front.specs.Sessions.{ServesLink, StopsLink, timed_of};
 
     // Hands out the buffer for the points of a batch.
     fn take_buffer(&mut self) -> Vec<Datum>
@@ -85,12 +85,12 @@ impl<'a, R: Wait, D: Disk, N: Named, C: Clock> LineSession<'a, R, D, N, C> {
     fn serve_batch(&mut self, framer: &mut Framer, points: &mut Vec<Datum>) -> Result<bool, Stop>
         requires room { HasBatchRoom self.old.session.pass }
         ensures serves { IfOk result
-            (λ more. BatchServes (C.moments self.old.clock) N.start N.passes more framer.old
-            self.old.session framer.new self.new.session) }
+            (λ more. BatchServes (C.moments self.old.watch.clock) N.start N.passes more framer.old
+            (timed_of self.old) framer.new (timed_of self.new)) }
         ensures stops { IfErr result
-            (λ stop. BatchStops (C.moments self.old.clock) N.start N.passes stop
-            framer.old.waiting self.old.session self.new.session) }
-        ensures clock { self.new.clock ≡ self.old.clock }
+            (λ stop. BatchStops (C.moments self.old.watch.clock) N.start N.passes stop
+            framer.old.waiting (timed_of self.old) (timed_of self.new)) }
+        ensures clock { self.new.watch.clock ≡ self.old.watch.clock }
     {
         let read = self.read_batch(framer, points);
         match self.bring_points(points.as_slice()) {
@@ -101,13 +101,22 @@ impl<'a, R: Wait, D: Disk, N: Named, C: Clock> LineSession<'a, R, D, N, C> {
 
     // Reads the next batch of the lines that wait, in place of the points before.
     fn read_batch(&mut self, framer: &mut Framer, points: &mut Vec<Datum>) -> Result<(), NoPoint>
-        ensures reads { ReadsPoints (C.moments self.old.clock) result framer.old framer.new
+        ensures reads { ReadsPoints (C.moments self.old.watch.clock) result
+            (reading self.old.watch.told framer.old) (reading self.new.watch.told framer.new)
             points.new.items }
         ensures few { length points.new.items ≤ 256 }
-        ensures same { self.new ≡ self.old }
+        ensures clock { self.new.watch.clock ≡ self.old.watch.clock }
+        ensures session { self.new.session ≡ self.old.session }
     {
         empty(points, &mut self.spares);
-        read_points(self.alloc, self.clock, &mut self.spares, framer, points)
+        read_points(
+            self.alloc,
+            self.clock,
+            &mut self.watch,
+            &mut self.spares,
+            framer,
+            points,
+        )
     }
 
     // Counts the line that has no point, if there is one.
@@ -155,7 +164,7 @@ impl<'a, R: Wait, D: Disk, N: Named, C: Clock> LineSession<'a, R, D, N, C> {
             (PutsAll N.start N.passes points.now self.old.session self.new.session) }
         ensures stops { IfErr result
             (λ stop. PutsFewer N.start N.passes stop points.now self.old.session self.new.session) }
-        ensures clock { self.new.clock ≡ self.old.clock }
+        ensures watch { self.new.watch ≡ self.old.watch }
     {
         if points.len() < FEWEST_TOGETHER {
             self.put_each(points)
@@ -171,7 +180,7 @@ impl<'a, R: Wait, D: Disk, N: Named, C: Clock> LineSession<'a, R, D, N, C> {
             (PutsAll N.start N.passes points.now self.old.session self.new.session) }
         ensures stops { IfErr result
             (λ stop. PutsFewer N.start N.passes stop points.now self.old.session self.new.session) }
-        ensures clock { self.new.clock ≡ self.old.clock }
+        ensures watch { self.new.watch ≡ self.old.watch }
     {
         for datum in points {
             match self.put(datum) {
@@ -190,7 +199,7 @@ impl<'a, R: Wait, D: Disk, N: Named, C: Clock> LineSession<'a, R, D, N, C> {
             (PutsAll N.start N.passes points.now self.old.session self.new.session) }
         ensures stops { IfErr result
             (λ stop. PutsFewer N.start N.passes stop points.now self.old.session self.new.session) }
-        ensures clock { self.new.clock ≡ self.old.clock }
+        ensures watch { self.new.watch ≡ self.old.watch }
     {
         let puts = self
             .store

@@ -11,6 +11,10 @@ Follows step old new = (left : Image) → new left → (before : Image) × old b
 abbrev pub MayAll : (Image → Image → Type 0) → (Image → Type 0) → (Image → Type 0) → Type 0
 MayAll step old new = (before left : Image) → old before → step before left → new left
 
+-- the same, where the disk tells its image
+abbrev pub MayAllKnown : Option Image → (Image → Image → Type 0) → (Image → Type 0) → (Image → Type 0) → Type 0
+MayAllKnown known step old new = IfSome known (λ image. MayAll step old new)
+
 -- a crash leaves this image and nothing else
 abbrev pub Only : Image → (Image → Type 0) → Type 0
 Only image outcomes = (left : Image) → outcomes left → SameImage image left

@@ -52,6 +52,17 @@ pub record LogsFile (image : Image) (name : List ℕ) (old new : List DiskChange
   pub named : string_bytes made.name ≡ name
   pub file : option_map (λ file. file.items) made.file ≡ image name
 
+-- what is read is one of the images that a crash may leave
+pub as_read : (image : Image) (log : List DiskChange) (left : Image) → SameImage image left → Outcomes image log left
+as_read image [] left same = same
+as_read image (Synced ∷ older) left same = same
+as_read image (Wrote range ∷ older) left same = inl same
+as_read image (Created old ∷ older) left same = inl same
+
+pub left_as_read : (image now : Image) (log : List DiskChange) (left : Image) → Some image ≡ Some now → SameImage now left → Outcomes image log left
+left_as_read image now log left known same =
+    as_read image log left (subst (λ (told : Option Image). IfSome told (λ files. SameImage files left)) (sym known) same)
+
 -- this moment is one of those since an earlier one
 pub counted_now : (image : Image) (log : List DiskChange) (t : ℕ) (left : Image) → Outcomes image log left → LeftSince image log t left
 counted_now image [] t left now = now

@@ -1,5 +1,5 @@
 // A network that gives no link.
-ghost use Rattle.std.specs.Prelude.{IsNone, IsOk};
+ghost use Rattle.std.specs.Prelude.{IsNone, IsOk, ⊤};
 
 use crate::mem_link::MemLink;
 use crate::net::{Net, NetFailed};
@@ -12,6 +12,8 @@ impl Net for ClosedNet {
     type L = MemLink;
 
     ghost faults = { λ _. 0 };
+
+    ghost closes = { λ _. ⊤ };
 
     fn faults(&self) -> u64 {
         0

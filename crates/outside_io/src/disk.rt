@@ -1,6 +1,6 @@
 // Named files.
-ghost use Rattle.std.specs.Prelude.{◌≡◌, ℕ, ◌≤◌, length, map, Option, IfOk, OnOk, OnErr, IfSome, string_bytes, IsErrOf};
-ghost use Rattle.outside_io.specs.Crash.{Crashes, OnlyKnown, SameCrashes};
+ghost use Rattle.std.specs.Prelude.{◌≡◌, ℕ, ◌≤◌, length, map, Option, Some, IfOk, OnOk, OnErr, IfSome, string_bytes, IsErrOf};
+ghost use Rattle.outside_io.specs.Crash.{Crashes, MayAllKnown, OnlyKnown, SameCrashes};
 ghost use Rattle.outside_io.specs.Faults.{Rose};
 ghost use Rattle.outside_io.specs.Image.{Image, SameImage, WhereKnown, ListsNames, LengthIs, IsWithinFile, ReadsFile, ChangesOnly, Creates, Writes, Tears};
 
@@ -50,7 +50,7 @@ impl<T: Drop> From<AllocFailed<T>> for NamesFault {
 ///
 /// What a call changed is on the device once a `sync` behind it succeeded. Until then a crash leaves any bytes
 /// in each range that was written, and under each name that was created nothing or any bytes; all else is as it
-/// reads.
+/// reads. Each of these images it may leave, and that which is read.
 pub trait Disk {
     // The bytes under each name, where the disk tells them.
     ghost image: { Self → Option Image };
@@ -73,6 +73,10 @@ pub trait Disk {
     // Since this moment there is no other.
     ghost only_now: { (disk : Self) (left : Image) → left_since disk (moment disk) left
         → may_leave disk left };
+
+    // What is read is one of the images that a crash may leave, as where a process is killed.
+    ghost as_it_reads: { (disk : Self) (now left : Image) → image disk ≡ Some now
+        → SameImage now left → may_leave disk left };
 
     // What was changed so far, as far as a crash may undo it.
     ghost Past: { Type 0 };
@@ -119,7 +123,10 @@ pub trait Disk {
         ensures later { Self.faults self.old ≤ Self.faults self.new }
         ensures cause { OnErr result (Rose (Self.faults self.old) (Self.faults self.new)) }
         ensures crash { Crashes may_leave moment left_since
-            (λ before after. ChangesOnly before after name.now) self.old self.new };
+            (λ before after. ChangesOnly before after name.now) self.old self.new }
+        ensures may { OnOk result (MayAllKnown (image self.old)
+            (λ before after. ChangesOnly before after name.now)
+            (may_leave self.old) (may_leave self.new)) };
 
     /// Fills the buffer with the bytes of the file from a place on. Where the disk tells its image, the range
     /// has to lie in the file. After an error what the buffer holds is open.
@@ -145,7 +152,10 @@ pub trait Disk {
         ensures cause { OnErr result (Rose (Self.faults self.old) (Self.faults self.new)) }
         ensures crash { Crashes may_leave moment left_since
             (λ before after. Tears before after name.now at (length piece.now))
-            self.old self.new };
+            self.old self.new }
+        ensures may { OnOk result (MayAllKnown (image self.old)
+            (λ before after. Tears before after name.now at (length piece.now))
+            (may_leave self.old) (may_leave self.new)) };
 
     /// Brings to the device all that was created and written. After it a crash leaves what a read gives. A call
     /// that fails may have brought a part of it.

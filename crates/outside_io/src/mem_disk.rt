@@ -1,9 +1,9 @@
 // A disk in memory.
-ghost use Rattle.std.specs.Prelude.{◌≡◌, ◌↔◌, ℕ, ◌+◌, ◌-◌, ◌^◌, ◌<◌, ◌≤◌, true, [], length, map, min, replicate, Some, None, OnOk, OnErr, IfOk, IsErr, IsErrOf, IsTrue, IsSomeAnd, is_err, option_map, if◌then◌else◌, nat_le, string_bytes, string_cmp};
+ghost use Rattle.std.specs.Prelude.{◌≡◌, ◌↔◌, ℕ, ◌+◌, ◌-◌, ◌^◌, ◌<◌, ◌≤◌, false, true, [], length, map, min, replicate, Some, None, OnOk, OnErr, IfOk, IsErr, IsErrOf, IsTrue, IsSomeAnd, is_err, option_map, if◌then◌else◌, nat_le, string_bytes, string_cmp};
 ghost use Rattle.std.specs.BTreeMap.{IsOrdered, keys};
 ghost use Rattle.outside_io.specs.Calls.{fails_next, listed_calls};
 ghost use Rattle.outside_io.specs.Crash.{MayAll, Only, OnlyKnown};
-ghost use Rattle.outside_io.specs.DiskLog.{LogsFile, LogsRange, counted_now, now_alone, same_log};
+ghost use Rattle.outside_io.specs.DiskLog.{LogsFile, LogsRange, counted_now, left_as_read, now_alone, same_log};
 ghost use Rattle.outside_io.specs.Frames.{ReadsOnly, CountsFaults};
 ghost use Rattle.outside_io.specs.Image.{ListsNames, LengthIs, IsWithinFile, ReadsFile, SameImage, PutsFile, ChangesOnly, Creates, Writes, Tears, IsEmptyImage, put_over};
 ghost use Rattle.outside_io.specs.MemDisk.{image_of, disk_image, held_bytes, state_of, new_state, after_names, after_length, after_create, after_read, after_write, after_sync, room_left, IsBeyondRoom, LeavesTorn, disk_may_leave, disk_moment, disk_left_since, DiskCrashes};
@@ -183,6 +183,7 @@ impl MemDisk {
         ensures may { OnOk result
             (MayAll (λ before after. Tears before after name.now at (length piece.now))
             (disk_may_leave self.old) (disk_may_leave self.new)) }
+        ensures log { OnErr result (self.new.log ≡ self.old.log) }
     {
         log_range(
             self.alloc,
@@ -203,6 +204,7 @@ impl MemDisk {
         ensures state { state_of self.new ≡ state_of self.old }
         ensures crash { DiskCrashes (λ before after. Tears before after name.now at count)
             self.old self.new }
+        ensures log { (state_of self.old).tears ≡ false → self.new.log ≡ self.old.log }
     {
         if self.state.tears {
             match log_range(self.alloc, &self.files, &mut self.log, name, at, count) {
@@ -417,6 +419,9 @@ impl Disk for MemDisk {
 
     ghost only_now = { λ disk left since. now_alone (disk_image disk) disk.log left since };
 
+    ghost as_it_reads = { λ disk now left known same. left_as_read (disk_image disk) now disk.log
+        left known same };
+
     ghost Past = { List DiskChange };
 
     ghost changes = { λ disk. disk.log };
@@ -521,6 +526,8 @@ impl Disk for MemDisk {
         ensures may { OnOk result
             (MayAll (λ before after. Tears before after name.now at (length piece.now))
             (disk_may_leave self.old) (disk_may_leave self.new)) }
+        ensures log { OnErr result ((state_of self.old).tears ≡ false
+            → self.new.log ≡ self.old.log) }
     {
         if self.state.start_write() {
             self.tear(name, at, piece.len());
@@ -540,6 +547,7 @@ impl Disk for MemDisk {
         ensures listed { IsTrue (fails_next (state_of self.old).writes) → IsErr result }
         ensures state { state_of self.new ≡ after_sync (state_of self.old) (is_err result) }
         ensures crash { DiskCrashes SameImage self.old self.new }
+        ensures log { OnErr result (self.new.log ≡ self.old.log) }
     {
         if self.state.start_sync() {
             return self.state.failed();

@@ -1,5 +1,5 @@
 // Where links come from.
-ghost use Rattle.std.specs.Prelude.{◌≡◌, ℕ, ◌≤◌, OnErr};
+ghost use Rattle.std.specs.Prelude.{◌≡◌, ℕ, ◌≤◌, None, OnErr};
 ghost use Rattle.outside_io.specs.Faults.{Rose};
 
 use crate::link::Link;
@@ -16,6 +16,9 @@ pub trait Net {
 
     ghost faults: { Self → ℕ };
 
+    /// It closes while it is used: one of its calls for a link was answered by none.
+    ghost closes: { Self → Type 0 };
+
     /// How many calls have failed. The count never falls, and stays at 2^64 - 1.
     fn faults(&self) -> u64
         ensures { result ≡ Self.faults self.now };
@@ -26,8 +29,10 @@ pub trait Net {
         ensures cause { OnErr result (Rose (Self.faults self.old) (Self.faults self.new)) };
 
     /// The next link of the port for metric lines, or `None` where the net is closed, and then always.
-    fn next_lines(&self) -> Option<Self::L>;
+    fn next_lines(&self) -> Option<Self::L>
+        ensures closed { result ≡ None → Self.closes self.now };
 
     /// The next link of the port for HTTP, or `None` where the net is closed, and then always.
-    fn next_http(&self) -> Option<Self::L>;
+    fn next_http(&self) -> Option<Self::L>
+        ensures closed { result ≡ None → Self.closes self.now };
 }

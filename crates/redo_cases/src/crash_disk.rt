@@ -139,7 +139,8 @@ fn raised(count: u64) -> u64
 }
 
 impl Disk for CrashDisk {
-    ghost use Rattle.std.specs.Prelude.{ℕ, refl};
+    ghost use Rattle.std.specs.Prelude.{ℕ, IfSome, refl};
+    ghost use Rattle.std.proofs.Common.{subst};
 
     ghost image = { λ _. None };
 
@@ -154,6 +155,9 @@ impl Disk for CrashDisk {
     ghost counts_now = { λ _ _ _ _ now. now };
 
     ghost only_now = { λ _ _ since. since };
+
+    ghost as_it_reads = { λ disk now left known same.
+        absurd (subst (λ told. IfSome told (λ _. ⊥)) known tt) };
 
     ghost Past = { ℕ };
 

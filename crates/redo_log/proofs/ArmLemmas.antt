@@ -81,3 +81,26 @@ both_durable (Some y) (Some z) may_leave made only = λ left may. record {
   gate = subst IsClosed (sym (only left may gate_name ∙ made.0)) (λ e. absurd (omega (arith, e)));
   rings = λ name no_log no_gate. only left may name;
 }
+
+-- ---- what a call that fails leaves
+
+nothing_itself : (a : Option Image) → IfSome a (λ image. IsShut (image gate_name)) → WhereKnown a a LeavesNothing
+nothing_itself None shut = tt
+nothing_itself (Some image) shut = record { nothing = inl shut; rings = λ name no_log no_gate. refl }
+
+pub left_itself : (a b : Option Image) → b ≡ a → IfSome a (λ image. IsShut (image gate_name)) → WhereKnown a b LeavesNothing
+left_itself a b same shut = subst (λ (o : Option Image). WhereKnown a o LeavesNothing) (sym same) (nothing_itself a shut)
+
+pub log_left : (a b : Option Image) → IfSome a (λ image. IsShut (image gate_name)) → WhereKnown a b (λ x y. ChangesOnly x y log_name) → WhereKnown a b LeavesNothing
+log_left None None shut changes = tt
+log_left None (Some y) shut changes = changes
+log_left (Some x) None shut changes = changes
+log_left (Some x) (Some y) shut changes = log_within x x y shut (λ name. refl) changes
+
+pub gate_left : (a b c : Option Image) → WhereKnown a b (λ x y. Creates x y log_name 16) → WhereKnown b c (λ x y. ChangesOnly x y gate_name) → WhereKnown a c LeavesNothing
+gate_left None None None made changes = tt
+gate_left None None (Some z) made changes = changes
+gate_left None (Some y) c made changes = absurd made
+gate_left (Some x) None c made changes = absurd made
+gate_left (Some x) (Some y) None made changes = changes
+gate_left (Some x) (Some y) (Some z) made changes = gate_within x y y z made (λ name. refl) changes

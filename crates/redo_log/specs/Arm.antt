@@ -56,7 +56,7 @@ MayChange may_leave name left = (before : Image) × may_leave before × ChangesO
 -- the images before and after
 abbrev pub ArmImage : {T E : Type 0} → Result T E → Option Image → Option Image → Type 0
 ArmImage (Ok x) a b = WhereKnown a b Arms
-ArmImage (Err e) a b = WhereKnown a b KeepsRings
+ArmImage (Err e) a b = WhereKnown a b LeavesNothing
 
 -- what a crash then may leave
 abbrev pub ArmLeaves : {T E : Type 0} → Result T E → Option Image → Option Image → (Image → Type 0) → Type 0

@@ -6,7 +6,8 @@ use thiserror::Error;
 /// Why a start could not lay what the log holds.
 #[derive(Clone, Copy, Debug, PartialEq, Eq, Error)]
 pub enum RedoFault {
-    /// The gate is open, and the log has no body, or the body is one of a file that is not there.
+    /// The gate is open, and the log has no body, or that of a file which is not to be created and is not there
+    /// with its head and its length.
     #[error("the log is damaged")]
     Damaged,
     /// The disk failed.

@@ -284,7 +284,7 @@ pub log_begun : (class : ℕ) (table : Table) (log log' : Option (Option RedoVal
 log_begun class table log log' shelf patch name known was is named put on held = subst (λ (o : Option (Option RedoValue)). HoldsLog o known) (sym is) (by log known was held (subst (λ (s : Option DrainValue). HoldsShelf class table s known) put on))
   where
     by : (o : Option (Option RedoValue)) (k : Option Image) → IfSome o (λ redo. redo ≡ None) → HoldsLog o k → HoldsShelf class table (drain_with patch (runs_of patch)) k → HoldsLog (option_map (λ (redo : Option RedoValue). redo_with patch name (runs_of patch)) o) k
-    by None k none held on = tt
+    by None k none held on = held
     by (Some redo) None none held on = tt
     by (Some redo) (Some image) none held on =
         let closed : IsClosed (image gate_name) = subst (λ (r : Option RedoValue). HoldsRedo r image) none held in

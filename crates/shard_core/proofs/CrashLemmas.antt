@@ -1,5 +1,5 @@
 -- What a crash leaves of a start.
-use Rattle.std.proofs.Common.{◌≡◌, ◌∙◌, inl, inr, ⊎_elim, ℕ, Bool, true, false, List, Option, None, Some, IfSome, refl, sym, ap, subst, arith}
+use Rattle.std.proofs.Common.{◌≡◌, ◌⊎◌, ◌∙◌, inl, inr, ⊎_elim, ℕ, Bool, true, false, List, Option, None, Some, IfSome, refl, sym, ap, subst, arith}
 use Rattle.std.proofs.lemmas.Bool.{true≢false}
 use Rattle.outside_io.specs.Crash.{LeavesOnly}
 use Rattle.outside_io.specs.Frames.{ReadsOnly}
@@ -11,8 +11,8 @@ use Rattle.redo_log.specs.Recovery.{RecoverCrashes, RecoverLeaves, Recovers}
 use Rattle.redo_log.specs.Rows.{InRow, LeavesClosed}
 use Rattle.redo_log.specs.Steps.{gate_name}
 use Rattle.redo_log.proofs.MomentLemmas.{leaves_both, leaves_more}
-use Rattle.shard_core.specs.StartCrashes.{StartMayLeave}
-use Rattle.shard_core.proofs.OpenLemmas.{bare_before, bare_opens, bare_same, closed_is_shut}
+use Rattle.shard_core.specs.StartCrashes.{HadGate, StartMayLeave}
+use Rattle.shard_core.proofs.OpenLemmas.{bare_before, bare_opens, bare_same, closed_is_shut, still_has}
 
 -- ---- behind the recovery
 
@@ -129,7 +129,23 @@ all_starts d a m t b crash reads recovers ended makes bare =
     (λ left. log_starts (d.image a) (d.image t) (d.may_leave a) left (subst (λ (known : Option Image). WhereKnown (d.image a) known Recovers) (sym reads.kept) recovers))
     (makes (may_arm_read d m t reads (may_arm d a m bare recovers ended crash))))
 
--- behind it, where drains go through the log
+-- a gate is there behind the recovery and the read of the heads
+gate_there : (a m t : Option Image) → WhereKnown a m Recovers → t ≡ m → HadGate a → HadGate t
+gate_there None None t recovers same had = subst HadGate (sym same) tt
+gate_there None (Some m) t recovers same had = absurd recovers
+gate_there (Some a) None t recovers same had = absurd recovers
+gate_there (Some a) (Some m) t recovers same had = subst HadGate (sym same) (still_has a m recovers had)
+
+pub given_there : {P : Type 0} (a m t : Option Image) → WhereKnown a m Recovers → t ≡ m → P ⊎ HadGate a → P ⊎ HadGate t
+given_there a m t recovers same (inl is) = inl is
+given_there a m t recovers same (inr had) = inr (gate_there a m t recovers same had)
+
+-- where nothing is made
+pub gate_row : (known : Option Image) (may_leave : Image → Type 0) → HadGate known → LeavesGate known may_leave → InRow None known may_leave
+gate_row None may_leave had gate = tt
+gate_row (Some image) may_leave had gate = gate had
+
+-- behind it, where drains go through the log or there was a gate
 pub start_behind : {D : Type 0} (d : Ghosts D) (a m t : D) (b : Option Image) (may_leave : Image → Type 0) {ended failed : Type 0} → RecoverCrashes d a m ended → ReadsOnly d m t failed → WhereKnown (d.image a) (d.image m) Recovers → ended
     → (LeavesGate (d.image t) (d.may_leave t) → InRow None b may_leave) → InRow None b may_leave
 start_behind d a m t b may_leave crash reads recovers ended makes = makes (gate_read d m t reads (leaves_gate d a m recovers ended crash))

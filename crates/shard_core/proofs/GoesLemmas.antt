@@ -2,12 +2,16 @@
 use Rattle.std.proofs.Common.{◌≡◌, ◌≢◌, ◌∙◌, ⊎_elim, ℕ, ◌<◌, ◌≤◌, Bool, true, false, cond, List, [], ◌∷◌, length, drop, Option, None, Some, IfSome, refl, sym, ap, subst, arith}
 use Rattle.std.specs.Prelude.{◌&&◌, IsSome}
 use Rattle.std.specs.Option.{option_map_or}
-use Rattle.outside_io.specs.Image.{Image}
+use Rattle.outside_io.specs.Image.{ChangesOnly, Image, WhereKnown}
+use Rattle.metric_path.specs.FileName.{file_name_of}
 use Rattle.ring_format.specs.Patch.{PatchValue}
 use Rattle.write_shelf.specs.Shelf.{DrainValue, IsBegun, drain_with, marked}
 use Rattle.write_shelf.specs.declared.run.Run.{Run as ShelfRun}
-use Rattle.redo_log.specs.Steps.{IsGoing, RedoValue, is_run, with_next}
+use Rattle.redo_log.specs.Recovery.{is_open}
+use Rattle.redo_log.specs.Steps.{IsGoing, RedoValue, gate_name, is_run, with_next}
 use Rattle.redo_log.specs.declared.next_step.NextStep.{NextStep}
+use Rattle.redo_log.proofs.StepLemmas.{file_is_no_gate}
+use Rattle.ring_writer.specs.PartWritten.{RunTorn, RunWritten}
 use Rattle.shard_core.specs.Halves.{DeskInside, both}
 use Rattle.shard_core.specs.Shard.{HoldsShelf, Inside, patch_on}
 use Rattle.shard_core.specs.Table.{Table}
@@ -40,8 +44,35 @@ straight_kept class table Nothing old new a b goes on =
     subst (λ (o : Option DrainValue). Written class table old o a b) (sym goes.1) (subst (λ (k : Option Image). Written class table old old a k) (sym goes.2) (same_written class table old a on))
 straight_kept class table DiskFault old new a b goes on = failed_straight class table old new a b goes on
 
-without_kept : (class : ℕ) (table : Table) (end : Wrote) (old new : WorkValue) (a b : Option Image) → GoesWithout end old new a b → HoldsShelf class table old.shelf a → Keeps class table old new a b
-without_kept class table end old new a b goes on = (straight_kept class table end old.shelf new.shelf a b goes.goes on, subst (λ (w : WorkValue). HoldsLog w.log b) (sym goes.is) tt)
+-- a run that goes straight to its file leaves the gate
+gate_stays : (patch : PatchValue) (x y : Image) → ChangesOnly x y (file_name_of patch.path) → is_open (x gate_name) ≡ false → is_open (y gate_name) ≡ false
+gate_stays patch x y only shut = ap is_open (only gate_name (λ is. file_is_no_gate patch.path (sym is))) ∙ shut
+
+run_shut : (old : Option DrainValue) (a b : Option Image) → IsSome old → WhereKnown a b (λ x y. IfSome old (λ drain. RunWritten drain (file_name_of drain.patch.path) x y)) → HoldsLog None a → HoldsLog None b
+run_shut None a b some written shut = absurd cc
+run_shut (Some drain) None None some written shut = tt
+run_shut (Some drain) None (Some y) some written shut = absurd written
+run_shut (Some drain) (Some x) None some written shut = tt
+run_shut (Some drain) (Some x) (Some y) some written shut = gate_stays drain.patch x y written.comes.others shut
+
+torn_shut : (old : Option DrainValue) (a b : Option Image) → IsSome old → WhereKnown a b (λ x y. IfSome old (λ drain. RunTorn drain (file_name_of drain.patch.path) x y)) → HoldsLog None a → HoldsLog None b
+torn_shut None a b some torn shut = absurd cc
+torn_shut (Some drain) None None some torn shut = tt
+torn_shut (Some drain) None (Some y) some torn shut = absurd torn
+torn_shut (Some drain) (Some x) None some torn shut = tt
+torn_shut (Some drain) (Some x) (Some y) some torn shut = gate_stays drain.patch x y torn.comes.others shut
+
+straight_shut : (end : Wrote) (old new : Option DrainValue) (a b : Option Image) → GoesStraight end old new a b → HoldsLog None a → HoldsLog None b
+straight_shut Run old new a b goes shut = run_shut old a b goes.0.some goes.0.written shut
+straight_shut Finished old new a b goes shut = run_shut old a b goes.0.some goes.0.written shut
+straight_shut Nothing old new a b goes shut = subst (λ (k : Option Image). HoldsLog None k) (sym goes.2) shut
+straight_shut DiskFault old new a b goes shut = torn_shut old a b goes.some goes.torn shut
+
+without_kept : (class : ℕ) (table : Table) (end : Wrote) (old new : WorkValue) (a b : Option Image) → GoesWithout end old new a b → HoldsLog old.log a → HoldsShelf class table old.shelf a → Keeps class table old new a b
+without_kept class table end old new a b goes log on = (
+  straight_kept class table end old.shelf new.shelf a b goes.goes on,
+  subst (λ (w : WorkValue). HoldsLog w.log b) (sym goes.is) (straight_shut end old.shelf new.shelf a b goes.goes (subst (λ (w : WorkValue). HoldsLog w.log a) goes.was log)),
+)
 
 logged_kept : (class : ℕ) (table : Table) (end : Wrote) (old new : WorkValue) (a b : Option Image) → GoesLogged end old new a b → HoldsLog old.log a → HoldsShelf class table old.shelf a → Keeps class table old new a b
 logged_kept class table end old new a b goes log on =
@@ -49,7 +80,7 @@ logged_kept class table end old new a b goes log on =
     subst (λ (w : WorkValue). Keeps class table w new a b) (sym goes.was) (subst (λ (w : WorkValue). Keeps class table (logged_work goes.before) w a b) (sym goes.is) there)
 
 pub work_kept : (class : ℕ) (table : Table) (end : Wrote) (old new : WorkValue) (a b : Option Image) → WorkGoes end old new a b → HoldsLog old.log a → HoldsShelf class table old.shelf a → Keeps class table old new a b
-work_kept class table end old new a b goes log on = ⊎_elim (λ w. without_kept class table end old new a b w on) (λ g. logged_kept class table end old new a b g log on) goes
+work_kept class table end old new a b goes log on = ⊎_elim (λ w. without_kept class table end old new a b w log on) (λ g. logged_kept class table end old new a b g log on) goes
 
 -- ---- what it tells
 

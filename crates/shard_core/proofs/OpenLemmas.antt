@@ -1,15 +1,15 @@
 -- What a start finds on a disk, and what it makes of it.
-use Rattle.std.proofs.Common.{◌≡◌, ◌∙◌, inl, inr, ⊎_elim, ℕ, Bool, true, false, List, [], ◌∷◌, length, Option, None, Some, IfSome, refl, sym, ap, subst, arith, lt-ltb}
+use Rattle.std.proofs.Common.{◌≡◌, ◌==◌, ◌∙◌, inl, inr, ⊎_elim, ℕ, Bool, true, false, List, [], ◌∷◌, length, Option, None, Some, IfSome, refl, sym, ap, subst, arith, lt-ltb}
 use Rattle.std.specs.Prelude.{option_and_then}
-use Rattle.std.proofs.lemmas.Bool.{true≢false}
+use Rattle.std.proofs.lemmas.Bool.{true≢false, eqb-true}
 use Rattle.outside_io.specs.Image.{Image, SameImage, WhereKnown}
 use Rattle.outside_io.specs.declared.disk.Disk.{Ghosts}
 use Rattle.ring_format.specs.Patch.{PatchValue}
-use Rattle.redo_log.specs.Arm.{Arms, IsShut, MakesNothing, has_byte}
+use Rattle.redo_log.specs.Arm.{Arms, IsShut, LeavesNothing, MakesNothing, has_byte}
 use Rattle.redo_log.specs.Frame.{LooksOnly}
 use Rattle.redo_log.specs.Recovery.{IsDamaged as IsDamagedLog, Lays, OpensAs, Recovers, StandsWithin, is_open}
 use Rattle.redo_log.specs.Rows.{KeepsRings}
-use Rattle.redo_log.specs.Steps.{IsClosed, IsOpen, gate_name, log_name}
+use Rattle.redo_log.specs.Steps.{IsClosed, IsOpen, RedoValue, gate_name, log_name}
 use Rattle.carbon_model.specs.RingFiles.{StandsUnder, kept_in}
 use Rattle.shard_core.specs.Opened.{IsOpening, MakesLog, Opens, StillOpens}
 use Rattle.shard_core.specs.Opening.{IsLogRefused, OpensDisk, RefusesDisk}
@@ -17,7 +17,7 @@ use Rattle.shard_core.specs.Shard.{HasFiles}
 use Rattle.shard_core.specs.StartFaults.{IsDamagedFile, IsDamagedRing}
 use Rattle.shard_core.specs.Starting.{OnDamaged}
 use Rattle.shard_core.specs.Table.{Table}
-use Rattle.shard_core.specs.Work.{HoldsLog, no_work}
+use Rattle.shard_core.specs.Work.{HoldsLog, HoldsRedo, no_work}
 use Rattle.shard_core.specs.declared.fault.StartFault.{StartFault}
 use Rattle.shard_core.specs.declared.fault.StartFault.TheVariants.{Damaged, DiskFault, NoMemory}
 use Rattle.shard_core.proofs.LogLemmas.{files_keep, ring_same, rings_stand}
@@ -28,6 +28,19 @@ pub closed_is_shut : (held : Option (List ℕ)) → IsClosed held → IsShut hel
 closed_is_shut None closed = tt
 closed_is_shut (Some []) closed = tt
 closed_is_shut (Some (byte ∷ file)) closed = closed
+
+pub shut_unopened : (held : Option (List ℕ)) → IsShut held → is_open held ≡ false
+shut_unopened None shut = refl
+shut_unopened (Some []) shut = refl
+shut_unopened (Some (byte ∷ file)) shut = by (byte == 1) refl
+  where
+    by : (b : Bool) → (byte == 1) ≡ b → (byte == 1) ≡ false
+    by true is = absurd (shut (eqb-true byte 1 is))
+    by false is = is
+
+pub shut_known : (known : Option Image) → IfSome known (λ image. IsShut (image gate_name)) → IfSome known (λ image. is_open (image gate_name) ≡ false)
+shut_known None shut = tt
+shut_known (Some image) shut = shut_unopened (image gate_name) shut
 
 unopened_is_shut : (held : Option (List ℕ)) → is_open held ≡ false → IsShut held
 unopened_is_shut None other = tt
@@ -85,33 +98,36 @@ opens_laid before after recovers = ⊎_elim
     (λ none. inl none.1)
     (λ laid. inr (record { gate = laid.gate; patch = laid.patch; holds = laid.holds; stands = stands_laid laid.patch before after laid.rings laid.closed })) recovers
 
-pub opening_opens : (image opening : Image) → IsOpening image opening → StillOpens image opening
-opening_opens image opening is = record { held = is.laid; opens = opens_laid image is.laid is.recovers; rings = is.rings }
+made_opens : (redo has : Bool) (image opening : Image) → has_byte (image gate_name) ≡ has → IsOpening image opening → MakesLog redo image opening → StillOpens image opening
+made_opens false has image opening is whole makes = inl (opens_laid image opening (makes.bare refl))
+made_opens true true image opening is whole makes = inl (opens_laid image opening (makes.kept is))
+made_opens true false image opening is whole makes = inr (whole.laid, (whole.recovers, record { nothing = inr (makes.made refl is).0; rings = whole.rings }))
 
-itself : (image : Image) → KeepsRings image image
-itself image = λ name no_log no_gate. refl
+-- what a shard was started over
+pub started_opens : (redo : Bool) (image opening : Image) → IsOpening image opening → MakesLog redo image opening → StillOpens image opening
+started_opens redo image opening whole makes = made_opens redo (has_byte (image gate_name)) image opening refl whole makes
 
--- a step behind it that keeps the rings
-pub still_known : (a m b : Option Image) → WhereKnown a m Recovers → WhereKnown m b KeepsRings → WhereKnown a b StillOpens
-still_known None None None recovers keeps = tt
-still_known None None (Some b) recovers keeps = keeps
-still_known None (Some m) b recovers keeps = absurd recovers
-still_known (Some a) None b recovers keeps = absurd recovers
-still_known (Some a) (Some m) None recovers keeps = keeps
-still_known (Some a) (Some m) (Some b) recovers keeps = record { held = m; opens = opens_laid a m recovers; rings = keeps }
+-- behind the recovery
+laid_known : (a m : Option Image) → WhereKnown a m Recovers → WhereKnown a m StillOpens
+laid_known None None recovers = tt
+laid_known None (Some m) recovers = recovers
+laid_known (Some a) None recovers = recovers
+laid_known (Some a) (Some m) recovers = inl (opens_laid a m recovers)
+
+-- and where the log could not be made
+nothing_known : (a m b : Option Image) → WhereKnown a m Recovers → WhereKnown m b LeavesNothing → WhereKnown a b StillOpens
+nothing_known None None None recovers left = tt
+nothing_known None None (Some b) recovers left = left
+nothing_known None (Some m) b recovers left = absurd recovers
+nothing_known (Some a) None b recovers left = absurd recovers
+nothing_known (Some a) (Some m) None recovers left = left
+nothing_known (Some a) (Some m) (Some b) recovers left = inr (m, (recovers, left))
 
 pub as_known : (a b : Option Image) → WhereKnown a b OpensAs → WhereKnown a b StillOpens
 as_known None None opens = tt
 as_known None (Some b) opens = opens
 as_known (Some a) None opens = opens
-as_known (Some a) (Some b) opens = record { held = b; opens = opens; rings = itself b }
-
-keeps_known : (a : Option Image) → WhereKnown a a KeepsRings
-keeps_known None = tt
-keeps_known (Some image) = itself image
-
-pub same_known : (a b : Option Image) → b ≡ a → WhereKnown a b KeepsRings
-same_known a b same = subst (λ (o : Option Image). WhereKnown a o KeepsRings) (sym same) (keeps_known a)
+as_known (Some a) (Some b) opens = inl opens
 
 pub opening_known : (a m b : Option Image) → WhereKnown a m Recovers → WhereKnown m b KeepsRings → WhereKnown a b IsOpening
 opening_known None None None recovers keeps = tt
@@ -176,7 +192,7 @@ log_refuses fault a b class refused = record { opens = as_known a b refused.open
 
 -- ---- what is made besides
 
-still_has : (x y : Image) → Recovers x y → has_byte (x gate_name) ≡ true → has_byte (y gate_name) ≡ true
+pub still_has : (x y : Image) → Recovers x y → has_byte (x gate_name) ≡ true → has_byte (y gate_name) ≡ true
 still_has x y recovers is = ⊎_elim (λ same. ap has_byte (same.1 gate_name) ∙ is) (λ laid. closed_has (y gate_name) laid.closed) recovers
 
 still_none : (x y : Image) → Recovers x y → has_byte (x gate_name) ≡ false → has_byte (y gate_name) ≡ false
@@ -237,9 +253,18 @@ all_opened class is_logged table a m t b recovers same keeps opens files log mak
 
 pub heads_refused : (fault : StartFault) (class : ℕ) (a m t : Option Image) → WhereKnown a m Recovers → t ≡ m → IsDamagedRing fault m class → RefusesDisk fault class a t
 heads_refused fault class a m t recovers same damaged = record {
-  opens = still_known a m t recovers (same_known m t same);
+  opens = subst (λ (o : Option Image). WhereKnown a o StillOpens) (sym same) (laid_known a m recovers);
   damaged = ring_damaged fault a m class recovers damaged;
 }
 
-pub log_refused : (class : ℕ) (a m t b : Option Image) → WhereKnown a m Recovers → t ≡ m → WhereKnown t b KeepsRings → RefusesDisk DiskFault class a b
-log_refused class a m t b recovers same keeps = record { opens = still_known a m b recovers (keeps_behind m t b same keeps); damaged = tt }
+pub log_refused : (class : ℕ) (a m t b : Option Image) → WhereKnown a m Recovers → t ≡ m → WhereKnown t b LeavesNothing → RefusesDisk DiskFault class a b
+log_refused class a m t b recovers same left =
+    record { opens = nothing_known a m b recovers (subst (λ (o : Option Image). WhereKnown o b LeavesNothing) same left); damaged = tt }
+
+-- ---- where nothing is being written
+
+pub gate_shut : (log : Option (Option RedoValue)) (known : Option Image) → IfSome log (λ redo. redo ≡ None) → HoldsLog log known → IfSome known (λ image. is_open (image gate_name) ≡ false)
+gate_shut None known empty holds = holds
+gate_shut (Some redo) None empty holds = tt
+gate_shut (Some redo) (Some image) empty holds =
+    let closed : IsClosed (image gate_name) = subst (λ (r : Option RedoValue). HoldsRedo r image) empty holds in shut_unopened (image gate_name) (closed_is_shut (image gate_name) closed)

@@ -1,9 +1,11 @@
 -- The steps of a plan.
-use Rattle.std.proofs.Common.{◌≡◌, ◌∙◌, ◌==◌, ◌&&◌, arith, length, ℕ, ℤ, Bool, true, false, [], Some, None, refl, sym, ap, subst, true≢false}
+use Rattle.std.proofs.Common.{◌≡◌, ◌∙◌, ◌==◌, ◌&&◌, arith, length, ℕ, ℤ, List, Bool, true, false, [], Some, None, refl, sym, ap, subst, true≢false}
+use Rattle.std.specs.Prelude.{slice_get}
 use Rattle.std.specs.Bool.{Decides}
 use Rattle.std.specs.Ordering.{int_eq}
 use Rattle.std.proofs.lemmas.Bool.Decides.{Decides-eqb, Decides-int_eq}
 use Rattle.ring_format.specs.Layout.{LayoutValue}
+use Rattle.metric_index.specs.Index.{entry_of}
 use Rattle.metric_table.specs.declared.known.Known.{Known}
 use Rattle.point_cache.specs.Pending.{points_of}
 use Rattle.drain_order.specs.Picking.{Picks}
@@ -11,7 +13,7 @@ use Rattle.drain_order.proofs.PickLemmas.{none_then_empty}
 use Rattle.carbon_model.specs.RingFiles.{IsOfClass}
 use Rattle.carbon_model.specs.State.{Metrics}
 use Rattle.shard_core.specs.Halves.{DeskInside}
-use Rattle.shard_core.specs.Plans.{OnlyPicks}
+use Rattle.shard_core.specs.Plans.{IsDrainable, OnlyPicks}
 use Rattle.shard_core.specs.Shard.{AreOfClass}
 use Rattle.shard_core.specs.Stepping.{GoesNext, IsMetricAt, IsSoundNext}
 use Rattle.shard_core.specs.declared.next_metric.NextMetric.{NextMetric}
@@ -42,6 +44,25 @@ same_known one other layout kept old drains = λ i. record { layout = layout i; 
 
 pub same_parts : (one other : LayoutValue) → one.archives ≡ other.archives → one.method ≡ other.method → one.factor ≡ other.factor → one ≡ other
 same_parts one other archives method factor = λ i. record { archives = archives i; method = method i; factor = factor i }
+
+pub parts_of_known : (one other : Known) → one ≡ other → (one.layout ≡ other.layout) × (one.is_kept ≡ other.is_kept) × (one.is_old ≡ other.is_old) × (one.drains ≡ other.drains)
+parts_of_known one other same = (ap (λ (k : Known). k.layout) same, ap (λ (k : Known). k.is_kept) same, ap (λ (k : Known). k.is_old) same, ap (λ (k : Known). k.drains) same)
+
+pub parts_of_layout : (one other : LayoutValue) → one ≡ other → (one.archives ≡ other.archives) × (one.method ≡ other.method) × (one.factor ≡ other.factor)
+parts_of_layout one other same = (ap (λ (l : LayoutValue). l.archives) same, ap (λ (l : LayoutValue). l.method) same, ap (λ (l : LayoutValue). l.factor) same)
+
+some_same : {A : Type 0} (x y : A) → Some x ≡ Some y → x ≡ y
+some_same x y same = cc same
+
+-- what a desk has at a place is a metric, and so are its path, its points and what is known of it
+pub same_at : (desk : DeskInside) (place : ℕ) (metric : NextMetric) (path : List ℕ) (known : Known) → slice_get desk.cache.places place ≡ Some path → IsDrainable desk.table path known → IsMetricAt desk place metric
+    → (path ≡ metric.path) × (points_of desk.cache.metrics path ≡ metric.points) × (known ≡ metric.known)
+same_at desk place metric path known there drainable at =
+    let one : path ≡ metric.path = some_same path metric.path (sym there ∙ at.there) in (
+      one,
+      ap (λ (p : List ℕ). points_of desk.cache.metrics p) one ∙ sym at.points,
+      some_same known metric.known (sym drainable.there ∙ ap (λ (p : List ℕ). entry_of desk.table p) one ∙ at.drainable.there),
+    )
 
 -- ---- what is compared
 

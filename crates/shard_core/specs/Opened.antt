@@ -7,7 +7,7 @@ use Rattle.metric_path.specs.Class.{class_of}
 use Rattle.metric_path.specs.FileName.{file_name_of}
 use Rattle.carbon_model.specs.State.{Kept}
 use Rattle.carbon_model.specs.RingFiles.{IsOfClass, is_sound, kept_on}
-use Rattle.redo_log.specs.Arm.{MakesNothing, has_byte}
+use Rattle.redo_log.specs.Arm.{LeavesNothing, MakesNothing, has_byte}
 use Rattle.redo_log.specs.Recovery.{IsDamaged as IsDamagedLog, OpensAs, Recovers}
 use Rattle.redo_log.specs.Rows.{KeepsRings}
 use Rattle.redo_log.specs.Steps.{gate_name, log_name}
@@ -29,11 +29,9 @@ pub record MakesLog (is_logged : Bool) (image opening : Image) : Type 0 where
   pub kept : has_byte (image gate_name) ≡ true → Recovers image opening
   pub made : is_logged ≡ true → MakesNothing image opening
 
--- an image that opens as another does: it is the same, or its patch is laid or can still be laid
-pub record StillOpens (image now : Image) : Type 0 where
-  pub held : Image
-  pub opens : OpensAs image held
-  pub rings : KeepsRings held now
+-- an image that opens as another does: it is the same, or its patch is laid or can still be laid; or, behind that, the log was being made
+abbrev pub StillOpens : Image → Image → Type 0
+StillOpens image now = OpensAs image now ⊎ ((laid : Image) × (Recovers image laid × LeavesNothing laid now))
 
 -- the file of a path of the class is damaged
 abbrev pub IsDamaged : Image → List ℕ → Type 0

@@ -64,7 +64,7 @@ HoldsRedo-prop (Some redo) image = hlevel step_props
 ruleset redo_props = (props, HoldsRedo-prop)
 
 pub HoldsLog-prop : (log : Option (Option RedoValue)) (known : Option Image) → IsProp (HoldsLog log known)
-HoldsLog-prop None known = Unit-prop
+HoldsLog-prop None known = hlevel props
 HoldsLog-prop (Some redo) known = hlevel redo_props
 
 pub ruleset shelf_props = (props, Awaits-prop, HoldsLog-prop)

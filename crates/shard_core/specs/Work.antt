@@ -10,6 +10,7 @@ use Rattle.write_shelf.specs.declared.run.Run.{Run as ShelfRun}
 use Rattle.redo_log.specs.Count.{StepsFall, steps_left}
 use Rattle.redo_log.specs.Ends.{RedoEnds}
 use Rattle.redo_log.specs.Frame.{StaysInRows}
+use Rattle.redo_log.specs.Recovery.{is_open}
 use Rattle.redo_log.specs.Rows.{InRow}
 use Rattle.redo_log.specs.Steps.{IsClosed, IsGoing, IsReady, RedoValue, gate_name, on_way}
 use Rattle.redo_log.specs.declared.next_step.NextStep.{NextStep}
@@ -73,8 +74,9 @@ abbrev pub HoldsRedo : Option RedoValue → Image → Type 0
 HoldsRedo None image = IsClosed (image gate_name)
 HoldsRedo (Some r) image = IsReady r image
 
+-- and where drains go straight to their files the gate is not open
 abbrev pub HoldsLog : Option (Option RedoValue) → Option Image → Type 0
-HoldsLog None known = ⊤
+HoldsLog None known = IfSome known (λ image. is_open (image gate_name) ≡ false)
 HoldsLog (Some r) known = IfSome known (HoldsRedo r)
 
 -- the file is as far written as the runs need that are left

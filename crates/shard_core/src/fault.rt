@@ -4,7 +4,8 @@ use thiserror::Error;
 /// Why a shard did not start.
 #[derive(Debug, Drop, Error)]
 pub enum StartFault {
-    /// A ring file of the class is damaged: the first by its name, in byte order.
+    /// The log is damaged behind its open gate, or else a ring file of the class is: the first by its
+    /// name, in byte order.
     #[error("the file {0} is damaged")]
     Damaged(String),
     /// The disk failed.

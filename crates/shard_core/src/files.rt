@@ -17,7 +17,7 @@ pub struct Files<D: Disk> {
 }
 
 impl<D: Disk> Files<D> {
-    ghost use Rattle.std.specs.Prelude.{◌≡◌, is_some};
+    ghost use Rattle.std.specs.Prelude.{◌≡◌, IfSome, None, is_some};
 
     /// The class whose files they are.
     pub fn class(&self) -> u32
@@ -35,8 +35,11 @@ impl<D: Disk> Files<D> {
 
     /// The disk.
     pub fn finish(self) -> D
-        ensures { result ≡ self.disk }
+        ensures disk { result ≡ self.disk }
+        ensures empty { self.work.shelf ≡ None → IfSome self.work.log (λ redo. redo ≡ None) }
     {
+        // A redo that is not empty has the drain of its patch.
+        let _ = self.work.patch();
         self.disk
     }
 }

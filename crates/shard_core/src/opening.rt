@@ -1,15 +1,15 @@
 //! Opening the disk of a class.
-ghost use Rattle.std.specs.Prelude.{◌≡◌, IfErr, IfOk, IfSome, IsErr, IsErrAnd, IsOk, None, OnOk, false, is_ok, true};
+ghost use Rattle.std.specs.Prelude.{◌≡◌, ◌⊎◌, IfErr, IfOk, IfSome, IsErr, IsErrAnd, IsOk, None, OnErr, OnOk, false, is_ok, true};
 ghost use Rattle.outside_io.specs.Crash.{LeavesOnly};
 ghost use Rattle.outside_io.specs.Frames.{CountsFaults};
 ghost use Rattle.outside_io.specs.Image.{WhereKnown};
-ghost use Rattle.redo_log.specs.Arm.{IsShut, LeavesGate, LeavesWithin, MakesNothing, MayArm, has_byte};
+ghost use Rattle.redo_log.specs.Arm.{IsShut, LeavesGate, LeavesNothing, LeavesWithin, MakesNothing, MayArm, has_byte};
 ghost use Rattle.redo_log.specs.Recovery.{RecoverCrashes, Recovers};
 ghost use Rattle.redo_log.specs.Rows.{InRow, KeepsRings};
 ghost use Rattle.redo_log.specs.Steps.{gate_name, log_name};
 ghost use Rattle.shard_core.specs.Opened.{IsOpened};
 ghost use Rattle.shard_core.specs.Opening.{IsLogRefused, OpensDisk, RefusesDisk};
-ghost use Rattle.shard_core.specs.StartCrashes.{StartCrashes};
+ghost use Rattle.shard_core.specs.StartCrashes.{HadGate, StartCrashes};
 ghost use Rattle.shard_core.specs.StartFaults.{IsDiskFault};
 ghost use Rattle.shard_core.specs.Starting.{OnDamaged};
 ghost use Rattle.shard_core.specs.Work.{HoldsLog, no_work};
@@ -82,14 +82,15 @@ fn damaged_log(alloc: Global) -> StartFault
 // Makes the log, where drains are to go through it.
 fn make_log<D: Disk>(disk: &mut D, is_logged: bool) -> Result<(), DiskFailed>
     requires shut { IfSome (D.image disk.old) (λ image. IsShut (image gate_name)) }
-    ensures rings { WhereKnown (D.image disk.old) (D.image disk.new) KeepsRings }
+    ensures rings { OnOk result (WhereKnown (D.image disk.old) (D.image disk.new) KeepsRings) }
+    ensures left { OnErr result (WhereKnown (D.image disk.old) (D.image disk.new) LeavesNothing) }
     ensures log { OnOk result (HoldsLog (no_work is_logged).log (D.image disk.new)) }
     ensures bare { is_logged ≡ false → D.image disk.new ≡ D.image disk.old }
     ensures kept { IfSome (D.image disk.old) (λ image. has_byte (image gate_name) ≡ true
         → D.image disk.new ≡ D.image disk.old) }
     ensures made { OnOk result (is_logged ≡ true
         → WhereKnown (D.image disk.old) (D.image disk.new) MakesNothing) }
-    ensures behind { OnOk result (is_logged ≡ true
+    ensures behind { OnOk result ((is_logged ≡ true) ⊎ HadGate (D.image disk.old)
         → LeavesGate (D.image disk.old) (D.may_leave disk.old)
         → InRow None (D.image disk.new) (D.may_leave disk.new)) }
     ensures moments { MayArm (D.image disk.old) (D.may_leave disk.old)

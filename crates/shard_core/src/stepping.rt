@@ -1,7 +1,7 @@
 //! Plans in steps, each of which needs one half of a shard alone or both for a moment: which metric
 //! goes next is asked of the desk, its patch is made by the files, and then its drain begins, if it
 //! still goes next and is as it was.
-ghost use Rattle.std.specs.Prelude.{◌≡◌, IsTrue};
+ghost use Rattle.std.specs.Prelude.{◌≡◌, ◌↔◌, IsTrue};
 
 use crate::desk::Desk;
 use crate::files::Files;
@@ -18,7 +18,7 @@ use ring_format::{Archive, Layout};
 use std::alloc::AllocError;
 
 impl Desk {
-    ghost use Rattle.std.specs.Prelude.{◌≡◌, ◌<◌, true, IfOk, IfSome, length};
+    ghost use Rattle.std.specs.Prelude.{◌≡◌, ◌<◌, ◌↔◌, true, IfOk, IfSome, length};
     ghost use Rattle.shard_core.specs.Halves.{desk_of};
     ghost use Rattle.shard_core.specs.Plans.{OnlyPicks};
     ghost use Rattle.shard_core.specs.Stepping.{GoesNextAt, IsMetricAt, IsNext, IsSoundNext};
@@ -70,10 +70,11 @@ impl Desk {
     }
 
     // Whether a metric stands at a place as it was.
+    #[tactic(auto, using(crate::proofs::SteppingLemmas::same_at))]
     fn has_at(&self, place: usize, metric: &NextMetric) -> Result<bool, AllocError>
         requires { place < length self.now.cache.places }
         ensures { IfOk result
-            (λ is. is ≡ true → IsMetricAt (desk_of self.now) place metric.now) }
+            (λ is. is ≡ true ↔ IsMetricAt (desk_of self.now) place metric.now) }
     {
         let path = self.cache.path(place);
         let points = self.cache.points(place);
@@ -169,22 +170,22 @@ impl<D: Disk> Files<D> {
 
 // Whether two paths are one.
 fn is_same_path(one: &MetricPath, other: &MetricPath) -> bool
-    ensures { IsTrue result → one.now ≡ other.now }
+    ensures { IsTrue result ↔ one.now ≡ other.now }
 {
     one == other
 }
 
 // Whether two lists of points are one.
 fn has_same_points(one: &[(u32, Milli)], other: &[(u32, Milli)]) -> bool
-    ensures { IsTrue result → one.now ≡ other.now }
+    ensures { IsTrue result ↔ one.now ≡ other.now }
 {
     one == other
 }
 
 // Whether the same is known.
-#[tactic(auto, using(crate::proofs::SteppingLemmas::same_known))]
+#[tactic(auto, using(crate::proofs::SteppingLemmas::same_known, crate::proofs::SteppingLemmas::parts_of_known))]
 fn is_same(one: &Known, other: &Known) -> bool
-    ensures { IsTrue result → one.now ≡ other.now }
+    ensures { IsTrue result ↔ one.now ≡ other.now }
 {
     one.drains == other.drains
         && one.is_kept == other.is_kept
@@ -194,9 +195,9 @@ fn is_same(one: &Known, other: &Known) -> bool
 
 // Whether two layouts have the same parts. Contracts know of the derived comparison that it also
 // compares what stands behind the last archive.
-#[tactic(auto, using(crate::proofs::SteppingLemmas::same_parts))]
+#[tactic(auto, using(crate::proofs::SteppingLemmas::same_parts, crate::proofs::SteppingLemmas::parts_of_layout))]
 fn is_same_layout(one: &Layout, other: &Layout) -> bool
-    ensures { IsTrue result → one.now ≡ other.now }
+    ensures { IsTrue result ↔ one.now ≡ other.now }
 {
     one.factor() == other.factor()
         && one.method() == other.method()
@@ -205,7 +206,7 @@ fn is_same_layout(one: &Layout, other: &Layout) -> bool
 
 // Whether two lists of archives are one.
 fn has_same_archives(one: &[Archive], other: &[Archive]) -> bool
-    ensures { IsTrue result → one.now ≡ other.now }
+    ensures { IsTrue result ↔ one.now ≡ other.now }
 {
     one == other
 }

@@ -66,9 +66,10 @@ impl Work {
     }
 
     /// The patch that is being written, or `None` where none is.
-    #[tactic(auto, using(crate::proofs::WorkLemmas::patch_of))]
+    #[tactic(auto, using(crate::proofs::WorkLemmas::patch_of, crate::proofs::WorkLemmas::none_going))]
     pub(crate) fn patch(&self) -> Option<&Patch>
-        ensures { option_map (λ patch. patch.now) result ≡ patch_on self.now.shelf }
+        ensures value { option_map (λ patch. patch.now) result ≡ patch_on self.now.shelf }
+        ensures empty { self.now.shelf ≡ None → IfSome self.now.log (λ redo. redo ≡ None) }
     {
         match &self.redo {
             Some(redo) => return redo.patch(),

@@ -7,7 +7,7 @@ use Rattle.std.proofs.lemmas.Option.{none-some}
 use Rattle.outside_io.specs.Image.{Image, WhereKnown}
 use Rattle.outside_io.specs.declared.disk.Disk.{Ghosts}
 use Rattle.carbon_model.specs.RingFiles.{Settings}
-use Rattle.shard_core.specs.Opened.{IsOpening, IsSoundDisk, Opens, StillOpens}
+use Rattle.shard_core.specs.Opened.{IsOpening, IsSoundDisk, MakesLog, Opens, StillOpens}
 use Rattle.shard_core.specs.StartFaults.{IsDamagedFile, NotStarted}
 use Rattle.shard_core.specs.Started.{StartedFrom}
 use Rattle.shard_core.specs.Table.{Table}
@@ -15,7 +15,7 @@ use Rattle.shard_core.specs.declared.fault.StartFault.{StartFault}
 use Rattle.shard_core.specs.declared.fault.StartFault.TheVariants.{NoMemory}
 use Rattle.shard_core.specs.declared.shard.Shard.{Shard}
 use Rattle.shard_core.proofs.CrashLemmas.{none_starts}
-use Rattle.shard_core.proofs.OpenLemmas.{opening_opens}
+use Rattle.shard_core.proofs.OpenLemmas.{started_opens}
 use Rattle.shard_set.specs.Disks.{told_at, told_of}
 use Rattle.shard_set.specs.Opening.{AreStarted, HandsBack, RefusesAll, RefusesNext, StartsAll, StartsNext}
 use Rattle.shard_set.specs.declared.refused.Refusal.{Refusal}
@@ -48,17 +48,17 @@ next_counts settings redo left left' shards shards' next = (
 -- ---- what a start leaves
 
 still_itself : (image : Image) → StillOpens image image
-still_itself image = record { held = image; opens = inl (λ name. refl); rings = λ name no_log no_gate. refl }
+still_itself image = inl (inl (λ name. refl))
 
 pub itself_known : (known : Option Image) → WhereKnown known known StillOpens
 itself_known None = tt
 itself_known (Some image) = still_itself image
 
-pub opens_known : (a b : Option Image) → WhereKnown a b IsOpening → WhereKnown a b StillOpens
-opens_known None None opening = tt
-opens_known None (Some b) opening = opening
-opens_known (Some a) None opening = opening
-opens_known (Some a) (Some b) opening = opening_opens a b opening
+opens_known : (redo : Bool) (a b : Option Image) → WhereKnown a b IsOpening → WhereKnown a b (MakesLog redo) → WhereKnown a b StillOpens
+opens_known redo None None opening makes = tt
+opens_known redo None (Some b) opening makes = opening
+opens_known redo (Some a) None opening makes = opening
+opens_known redo (Some a) (Some b) opening makes = started_opens redo a b opening makes
 
 -- a disk over which a shard started is sound
 sound_image : (class : ℕ) (told : Option Image) (table : Table) → Opens class told table → IfSome told (IsSoundDisk class)
@@ -78,7 +78,7 @@ opens_there : {D : Type 0} {d : Ghosts D} (settings : Settings) (redo : Bool) (k
     → IfSome o (λ s. IsSomeAnd p (λ disk. WhereKnown (d.image disk) (d.image s.files.disk) StillOpens))
 opens_there settings redo k None p started = tt
 opens_there settings redo k (Some s) None started = absurd started
-opens_there {d = d} settings redo k (Some s) (Some disk) started = opens_known (d.image disk) (d.image s.files.disk) started.opening
+opens_there {d = d} settings redo k (Some s) (Some disk) started = opens_known redo (d.image disk) (d.image s.files.disk) started.opening started.makes
 
 opens_back : {D : Type 0} {d : Ghosts D} (disks given : List D) (shards : List (Shard D d)) → ((k : ℕ) → IfSome (slice_get shards k) (λ s. IsSomeAnd (slice_get disks k) (λ disk. WhereKnown (d.image disk) (d.image s.files.disk) StillOpens)))
     → ((k : ℕ) → WhereKnown (told_of d.image (drop (length shards) disks) k) (told_of d.image given k) StillOpens) → (k : ℕ) → WhereKnown (told_of d.image disks k) (told_of d.image (map (λ s. s.files.disk) shards ++ given) k) StillOpens
@@ -171,6 +171,22 @@ opening_at settings redo k None None none started = tt
 opening_at settings redo k None (Some disk) none started = absurd (none-some disk (sym (none refl)))
 opening_at settings redo k (Some s) None none started = absurd started
 opening_at settings redo k (Some s) (Some disk) none started = started.opening
+
+none_opens : (a : Option Image) → WhereKnown a None IsOpening → WhereKnown a None StillOpens
+none_opens None opening = tt
+none_opens (Some image) opening = opening
+
+still_at : {D : Type 0} {d : Ghosts D} (settings : Settings) (redo : Bool) (k : ℕ) (o : Option (Shard D d)) (p : Option D) → IfSome o (λ s. IsSomeAnd p (λ disk. StartedFrom k settings redo disk s))
+    → WhereKnown (option_and_then d.image p) (option_and_then (λ s. d.image s.files.disk) o) IsOpening
+    → WhereKnown (option_and_then d.image p) (option_and_then (λ s. d.image s.files.disk) o) StillOpens
+still_at settings redo k None None started opening = tt
+still_at {d = d} settings redo k None (Some disk) started opening = none_opens (d.image disk) opening
+still_at settings redo k (Some s) None started opening = absurd started
+still_at {d = d} settings redo k (Some s) (Some disk) started opening = opens_known redo (d.image disk) (d.image s.files.disk) started.opening started.makes
+
+-- what shards were started over opens as it did
+pub still_all : {D : Type 0} {d : Ghosts D} (settings : Settings) (redo : Bool) (disks : List D) (shards : List (Shard D d)) → StartsAll settings redo disks shards → (k : ℕ) → WhereKnown (told_of d.image disks k) (told_at shards k) StillOpens
+still_all settings redo disks shards starts k = still_at settings redo k (slice_get shards k) (slice_get disks k) (starts.each k) (starts.opening k)
 
 pub starts_all : {D : Type 0} {d : Ghosts D} (settings : Settings) (redo : Bool) (disks : List D) (shards : List (Shard D d)) → length disks ≡ 16 → length shards ≡ 16 → AreStarted settings redo disks shards → StartsAll settings redo disks shards
 starts_all {d = d} settings redo disks shards sixteen all started = record {

@@ -1,5 +1,5 @@
 -- What the end of a store tells.
-use Rattle.std.proofs.Common.{◌≡◌, ◌∙◌, ℕ, ◌<◌, ◌≤◌, ◌+◌, List, [], ◌∷◌, ◌++◌, length, take, drop, get_or, set, Option, Some, None, IfSome, refl, sym, ap, subst, arith, length-append, below_more}
+use Rattle.std.proofs.Common.{◌≡◌, ◌∙◌, ℕ, ◌<◌, ◌≤◌, ◌+◌, List, [], ◌∷◌, ◌++◌, length, take, drop, get_or, set, false, Option, Some, None, IfSome, refl, sym, ap, subst, arith, length-append, below_more}
 use Rattle.std.specs.Prelude.{count_by, slice_get}
 use Rattle.std.proofs.lemmas.List.{length-set, get_or-set_other, get_or-set_same, get_or_append_left}
 use Rattle.std.proofs.Math.Seq.{get_or-append_seam}
@@ -16,6 +16,8 @@ use Rattle.carbon_model.specs.RingFiles.{IsOfClass, SameKept, StandsUnder, kept_
 use Rattle.carbon_model.specs.State.{Kept, SamePart, State}
 use Rattle.carbon_model.specs.Replay.{IsLegalHistory, replay}
 use Rattle.carbon_model.proofs.PartLemmas.{replay_alike, same_part}
+use Rattle.redo_log.specs.Recovery.{is_open}
+use Rattle.redo_log.specs.Steps.{gate_name}
 use Rattle.shard_core.specs.Shard.{patch_on}
 use Rattle.shared_history.specs.declared.view.Look.{Look}
 use Rattle.shared_history.specs.Parts.{AllAgree, AllSeen, IsNoMore, OrderValue, PassValue, PassesOfTable, TailValue, TailsOfTable, look_now, pass_looking}
@@ -205,6 +207,7 @@ module _ {D : Type 0} (d : Ghosts D) (table : TableId) (told : ℕ → Option Im
             (behind settled.place (slice_get_within passes settled.place settled.pass settled.there) settled.pass) in
             ap patch_on (end.keeps.settled.1 (even (drains tail.list) (drains (about_class class history)) (settled_in class settled.pass) tail.settled
             (ap drains list) settled.all here end.keeps.owed.low));
+        shut = λ none. subst (λ (known : Option Image). IfSome known (λ now. is_open (now gate_name) ≡ false)) end.known (end.shut (no_patch shard.shelf none));
         faults = subst (λ (l : List Entry). capped (earlier class + count_by is_fault l) ≤ d.faults disk) list
             (subst (λ (k : ℕ). capped (earlier k + count_by is_fault tail.list) ≤ d.faults disk) end.here end.keeps.faults);
       }
@@ -213,6 +216,10 @@ module _ {D : Type 0} (d : Ghosts D) (table : TableId) (told : ℕ → Option Im
           → IfSome (patch_on shelf) (λ p. LastDrains p.path (about_class class history))
       on_patch None last = tt
       on_patch (Some drain) last = last
+
+      no_patch : (shelf : Option DrainValue) → patch_on shelf ≡ None → shelf ≡ None
+      no_patch None none = refl
+      no_patch (Some drain) none = absurd cc
 
       even : (all of_class seen settled : ℕ) → all ≡ of_class → of_class ≤ seen → seen ≤ settled → settled ≤ all → all ≡ settled
       even all of_class seen settled is few less low = omega (arith, is, few, less, low)

@@ -1,5 +1,5 @@
 -- What the end of a store tells.
-use Rattle.std.specs.Prelude.{◌≡◌, ◌≢◌, ◌<◌, ◌≤◌, ◌+◌, ℕ, List, Option, Some, None, IfSome, get_or, length, slice_get, count_by}
+use Rattle.std.specs.Prelude.{◌≡◌, ◌≢◌, ◌<◌, ◌≤◌, ◌+◌, ℕ, false, List, Option, Some, None, IfSome, get_or, length, slice_get, count_by}
 use Rattle.atomic_table.specs.Seated.{TableId}
 use Rattle.outside_io.specs.Image.{Image, WhereKnown}
 use Rattle.outside_io.specs.declared.disk.Disk.{Ghosts}
@@ -9,6 +9,8 @@ use Rattle.carbon_history.specs.Entries.{NamesPasses, about_class, drains}
 use Rattle.carbon_model.specs.RingFiles.{StandsUnder}
 use Rattle.carbon_model.specs.State.{State}
 use Rattle.carbon_model.specs.Replay.{IsLegalHistory, replay}
+use Rattle.redo_log.specs.Recovery.{is_open}
+use Rattle.redo_log.specs.Steps.{gate_name}
 use Rattle.shard_core.specs.Shard.{Inside}
 use Rattle.shared_history.specs.Parts.{AllSeen, PassValue, TailValue}
 use Rattle.shared_history.specs.Views.{look_at}
@@ -25,13 +27,14 @@ pub record HasSettled (class : ℕ) (history : List Entry) (passes : List PassVa
   pub all : drains (about_class class history) ≤ settled_in class pass
 
 -- The disk of a class stands for what the history keeps of the class, where it tells its image: under a patch, perhaps, of a drain that was not
--- written whole, the last of the class, and under none where a pass saw all drains settled. Its count of faults is no less than that of the
--- faults told of it.
+-- written whole, the last of the class, and under none where a pass saw all drains settled; its gate is not open then. Its count of faults is no less
+-- than that of the faults told of it.
 pub record EndsAs {D : Type 0} (d : Ghosts D) (told : ℕ → Option Image) (start : State) (earlier : ℕ → ℕ) (passes : List PassValue) (history : List Entry) (class : ℕ) (disk : D) : Type 0 where
   pub patch : Option PatchValue
   pub stands : WhereKnown (told class) (d.image disk) (λ opening now. StandsUnder opening now patch (replay start history).kept class)
   pub last : IfSome patch (λ p. LastDrains p.path (about_class class history))
   pub whole : HasSettled class history passes → patch ≡ None
+  pub shut : patch ≡ None → IfSome (d.image disk) (λ now. is_open (now gate_name) ≡ false)
   pub faults : capped (earlier class + count_by is_fault (about_class class history)) ≤ d.faults disk
 
 -- The history is legal from the opening state, names the passes that were made alone, and has all that these had seen and done; its entries are
@@ -64,6 +67,7 @@ pub record EndsClass {D : Type 0} (d : Ghosts D) (table : TableId) (told : ℕ �
   pub shard : Inside
   pub here : shard.class ≡ class
   pub known : shard.known ≡ d.image disk
+  pub shut : shard.shelf ≡ None → IfSome shard.known (λ now. is_open (now gate_name) ≡ false)
   pub keeps : KeepsClass table told start earlier shard (d.faults disk) tail
 
 -- a pass that looked at the first classes, so many, and is else what it was

@@ -1,5 +1,5 @@
 // The network of the system.
-ghost use Rattle.std.specs.Prelude.{◌≡◌, IfOk};
+ghost use Rattle.std.specs.Prelude.{◌≡◌, IfOk, ⊤};
 
 use crate::faults::raised;
 use crate::keep_alive::keep_alive;
@@ -94,6 +94,8 @@ impl<R: std::net::Net<Listener = TcpListener, Stream = TcpStream> + Clock + Copy
     type L = TcpLink<R>;
 
     ghost faults = { λ net. net.faults };
+
+    ghost closes = { λ _. ⊤ };
 
     fn faults(&self) -> u64 {
         self.faults

@@ -1,4 +1,4 @@
-use Rattle.std.proofs.Common.{◌≡◌, ◌∙◌, Err, ap, refl, sym, subst}
+use Rattle.std.proofs.Common.{◌∙◌, Err, ap, refl, sym, subst}
 use Rattle.carbon_words.specs.declared.reading.WordsFault.{WordsFault}
 use Rattle.std.specs.Prelude.{map, string_bytes}
 use Rattle.carbon_serve.specs.Deeds.{telling}
@@ -26,7 +26,7 @@ returns-in-Err-clause-outcome g c =
     let answer = c.without_command.ensures in
     no_outcome g.D.Disk (beside g.N.Net.faults (g.C.Clock.moments c.args.clock.now) (telling g.N.L.Source g.N.L.Sink) c.args.net.now c.args.net.now) c.in-Err.fault (command_of (map string_bytes c.args.words.now)) c.args.conf.now c.args.conf.now
     (streams_of g.S.Source g.K.Sink c.args.input.now c.args.input.now c.args.out.now c.tell_words-status.new.out) c.args.disks.items
-    (answer_of c.without_command.result.status c.without_command.result.history c.without_command.result.disks.items) (λ is. c.read_words.ensures.usage (c.in-Err.is ∙ ap (λ (fault : WordsFault). Err fault) is))
+    (answer_of c.without_command.result.status c.without_command.result.history c.without_command.result.disks.items) (λ is. c.read_words.ensures.usage (c.in-Err.is ∙ ap (λ (fault : WordsFault). Err fault) is)) refl
     (subst (λ status. TellsWords c.in-Err.fault status (g.K.Sink.written c.args.out.now) (g.K.Sink.written c.tell_words-status.new.out)) (sym answer.status) tells.told) answer.history (ap (λ disks. disks.items) answer.disks) refl
 
 pub returns-in-Ok-read_conf-clause-outcome : goal.returns-in-Ok-read_conf-clause-outcome

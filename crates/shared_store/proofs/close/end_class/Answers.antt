@@ -1,5 +1,6 @@
 use Rattle.std.proofs.Common.{rules, ◌≡◌, ◌∙◌, ℕ, sym}
 use Rattle.shard_core.specs.Halves.{DeskInside, FilesInside, both, desk_of, files_of}
+use Rattle.shard_core.proofs.OpenLemmas.{gate_shut}
 use Rattle.shared_store.specs.Desks.{KeepsClass}
 use Rattle.shared_store.proofs.BothLemmas.{both_keep}
 use Rattle.shared_store.proofs.close.end_class.Goals as goal
@@ -18,4 +19,10 @@ returns-clause-ends g c =
     let here : f.files.class ≡ d.desk.class = search rules in
     let keeps : KeepsClass n.table n.told n.start n.faults (both desk files) failed d.tail =
     both_keep n.table n.halves n.told n.start n.faults desk files failed d.half f.half d.tail here c.meet.ensures.same c.tail.invariant c.files.invariant in
-    record { shard = both desk files; here = search rules; known = search rules; keeps = search rules }
+    record {
+      shard = both desk files;
+      here = search rules;
+      known = search rules;
+      shut = λ none. gate_shut files.log files.known (c.finish.ensures.empty none) c.files.invariant.halves.logged;
+      keeps = search rules;
+    }

@@ -8,7 +8,7 @@ use Rattle.http_front.proofs.renderer.Renderer.serve_piece.Given as goal
 
 abbrev pub invariant-loop-at : goal.invariant-loop-at
 invariant-loop-at g l = record {
-  takes : TakesPiece (origin_of g.C.Clock g.N.Named l.fn.self.clock.now) l.fn.reader.left (standing g.K.Sink l.fn.pass l.fn.out) (take l.at l.piece) l.reader.left (standing g.K.Sink l.pass l.out);
+  takes : TakesPiece (origin_of g.C.Clock g.N.Named l.fn.self.clock.now) l.fn.reader.left (standing g.K.Sink l.fn.pass l.fn.watch l.fn.out) (take l.at l.piece) l.reader.left (standing g.K.Sink l.pass l.watch l.out);
   within : l.at ≤ length l.piece;
   waits : ForSome l.reader.left Awaits;
   room : HasRoom l.reader.left;

@@ -11,7 +11,7 @@ loop-at-preserved g c =
     let part : BringsPart g.N.Named.start g.N.Named.passes (drop at points) c.in-Ok.count c.loop-at.self.session c.bring_part.new.self.session = simp take_rest at c.in-Ok.ensures.brings in record {
       few = omega (arith, part.few, length-drop at points, c.loop-at.invariant.few);
       brings = parts_more g.N.Named.start g.N.Named.passes points at c.args.self.now.session c.loop-at.self.session c.loop-at.invariant.brings c.in-Ok.count c.bring_part.new.self.session part;
-      clock = c.in-Ok.ensures.clock ∙ c.loop-at.invariant.clock;
+      watch = c.in-Ok.ensures.watch ∙ c.loop-at.invariant.watch;
     }
 
 pub returns-in-Err-clause-stops : goal.returns-in-Err-clause-stops

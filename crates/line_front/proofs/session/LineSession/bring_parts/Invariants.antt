@@ -6,7 +6,7 @@ abbrev pub invariant-loop-at : goal.invariant-loop-at
 invariant-loop-at g l = record {
   few : l.at ≤ length l.points;
   brings : BringsAll g.N.Named.start g.N.Named.passes (take l.at l.points) l.fn.self.session l.self.session;
-  clock : l.self.clock ≡ l.fn.self.clock;
+  watch : l.self.watch ≡ l.fn.self.watch;
 }
 
 abbrev pub decreases-loop-at : goal.decreases-loop-at

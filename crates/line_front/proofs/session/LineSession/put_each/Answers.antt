@@ -21,5 +21,5 @@ loop-datum-preserved g c = record {
             c.loop-datum.invariant.puts c.loop-datum-test.true c.requires.room;
         puts = c.in-Ok.ensures.puts;
       });
-  clock = c.in-Ok.ensures.clock ∙ c.loop-datum.invariant.clock;
+  watch = c.in-Ok.ensures.watch ∙ c.loop-datum.invariant.watch;
 }

@@ -5,5 +5,5 @@ use Rattle.line_front.proofs.session.LineSession.put_each.Given as goal
 abbrev pub invariant-loop-datum : goal.invariant-loop-datum
 invariant-loop-datum g l = record {
   puts : PutsSome g.N.Named.start g.N.Named.passes l.datum-index l.points l.fn.self.session l.self.session;
-  clock : l.self.clock ≡ l.fn.self.clock;
+  watch : l.self.watch ≡ l.fn.self.watch;
 }

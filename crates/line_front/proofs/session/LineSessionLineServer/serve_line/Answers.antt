@@ -1,4 +1,4 @@
-use Rattle.std.proofs.Common.{Err, ap, subst}
+use Rattle.std.proofs.Common.{Err, ap}
 use Rattle.metric_line.specs.Seen.{seen}
 use Rattle.line_front.proofs.EmitLemmas.{stops_bring}
 use Rattle.line_front.proofs.SessionLemmas.{stops_refused}
@@ -6,10 +6,10 @@ use Rattle.line_front.proofs.session.LineSessionLineServer.serve_line.Goals as g
 
 pub returns-in-Ok-clause-stops : goal.returns-in-Ok-clause-stops
 returns-in-Ok-clause-stops g c =
-    stops_bring g.C.Clock.moments g.N.Named.start g.N.Named.passes c.bring.result c.args.self.now c.bring.new.self c.args.line.now c.moment.result (seen c.in-Ok.datum) _ _
-    (subst (λ clock. g.C.Clock.moments clock c.moment.result) (ap (λ link. link.clock) c.self.view_is) c.moment.ensures.told) c.in-Ok.ensures.datum c.bring.ensures.stops c.bring.ensures.clock
+    stops_bring g.C.Clock.moments g.N.Named.start g.N.Named.passes c.args.self.now c.moment-now.new.self c.args.line.now c.moment-now.result c.moment-now.ensures.new
+    c.moment-now.ensures.told c.bring.result c.bring.new.self (seen c.in-Ok.datum) _ _ c.in-Ok.ensures.datum c.bring.ensures.stops c.bring.ensures.watch
 
 pub returns-in-Err-clause-stops : goal.returns-in-Err-clause-stops
 returns-in-Err-clause-stops g c =
-    stops_refused g.C.Clock.moments g.N.Named.start g.N.Named.passes c.refuse.result c.args.self.now c.refuse.new.self c.args.line.now c.moment.result c.in-Err.fault _ _
-    (subst (λ clock. g.C.Clock.moments clock c.moment.result) (ap (λ link. link.clock) c.self.view_is) c.moment.ensures.told) (λ same. c.in-Err.ensures.memory (ap Err same)) c.refuse.ensures
+    stops_refused g.C.Clock.moments g.N.Named.start g.N.Named.passes c.args.self.now c.moment-now.new.self c.args.line.now c.moment-now.result c.moment-now.ensures.new
+    c.moment-now.ensures.told c.refuse.result c.refuse.new.self c.in-Err.fault _ _ (λ same. c.in-Err.ensures.memory (ap Err same)) c.refuse.ensures
