@@ -1,9 +1,10 @@
 //! Servers over networks in memory, whose links and disks wait for one another.
 ghost use Rattle.std.specs.Prelude.{◌≡◌, IfOk, vec_len};
 
+use crate::moving_clock::MovingClock;
 use carbon_run::{Report, run};
 use gate_io::{Bound, Flag, Gate, GateDisk, GateLink, MemNet, Sent};
-use outside_io::{Disk, FixedClock, MemDisk, MemSink, MemSource};
+use outside_io::{Disk, MemDisk, MemSink, MemSource};
 use std::alloc::{AllocError, Global};
 use std::mem;
 use std::process::Abort;
@@ -98,13 +99,14 @@ struct LinkCase {
 
 // Which calls of the disks wait: the first writes of these classes; the first creates of some and the first writes of others; the first writes of all
 // classes, where each puts up the flag of its class, and that of class 12 waits for that of class 15; or, over disks that a server left which drained a
-// point of class 12, the read of that class behind that of its file's head.
+// point of class 12, the read of that class behind that of its file's head, or none. That server's clock moved on by so many seconds whenever it was read.
 #[derive(Clone, Copy)]
 enum DiskWaits {
     Writes(&'static [(u32, Meeting)]),
     CreatesAndWrites(&'static [(u32, Meeting)], &'static [(u32, Meeting)]),
     WritesInTurn,
     Read(Meeting),
+    NeverBehind(u64),
 }
 
 // The words of a server, its links and how it ends.
@@ -362,6 +364,7 @@ fn run_server<R: Threads + Wait + Clock + Send + Sync + Drop>(
     words: &[String],
     disks: Vec<GateDisk<R>>,
     net: &mut MemNet<GateLink<R>, R>,
+    clock: &MovingClock,
     out: &mut MemSink,
 ) -> Report<GateDisk<R>>
     requires { vec_len disks ≡ 16 }
@@ -369,9 +372,8 @@ fn run_server<R: Threads + Wait + Clock + Send + Sync + Drop>(
 {
     let mut input = MemSource::new(alloc, Vec::new(alloc));
     let mut conf: GateDisk<R> = GateDisk::new(MemDisk::new(alloc, 0));
-    let clock = FixedClock::new(NOW);
     run(
-        rt, alloc, words, &mut input, out, &mut conf, disks, &clock, net,
+        rt, alloc, words, &mut input, out, &mut conf, disks, clock, net,
     )
 }
 
@@ -387,18 +389,21 @@ fn line_net<R: Wait + Clock + Copy + Drop>(
     Ok(MemNet::new(rt, lines, Vec::new(alloc)))
 }
 
-// Disks that a server left which drained a point of class 12.
+// Disks that a server left which drained a point of class 12, by a clock that moved on by so many
+// seconds whenever it was read.
 fn drained_disks<R: Threads + Wait + Clock + Copy + Send + Sync + Drop>(
     rt: R,
     alloc: Global,
+    step: u64,
 ) -> Result<Vec<GateDisk<R>>, AllocError>
     ensures { IfOk result (λ disks. vec_len disks ≡ 16) }
 {
     let words = words_of(alloc, "serve")?;
     let mut net = line_net(rt, alloc)?;
     let disks = sixteen_disks(alloc)?;
+    let clock = MovingClock::new(NOW, step);
     let mut out = MemSink::new(alloc);
-    let report = run_server(&rt, alloc, &words, disks, &mut net, &mut out);
+    let report = run_server(&rt, alloc, &words, disks, &mut net, &clock, &mut out);
     Ok(report.disks)
 }
 
@@ -438,7 +443,7 @@ fn write_of(waits: DiskWaits, class: u32) -> Option<Meeting> {
         DiskWaits::Writes(writes) => meeting_of(writes, class),
         DiskWaits::CreatesAndWrites(_, writes) => meeting_of(writes, class),
         DiskWaits::WritesInTurn => Some(in_turn(class)),
-        DiskWaits::Read(_) => None,
+        DiskWaits::Read(_) | DiskWaits::NeverBehind(_) => None,
     }
 }
 
@@ -509,8 +514,9 @@ fn disks_of<R: Threads + Wait + Clock + Copy + Send + Sync + Drop>(
     match waits {
         DiskWaits::Read(meeting) => {
             let gate = flags.gate(rt, meeting)?;
-            Ok(reading_disks(alloc, drained_disks(rt, alloc)?, gate))
+            Ok(reading_disks(alloc, drained_disks(rt, alloc, 0)?, gate))
         }
+        DiskWaits::NeverBehind(step) => drained_disks(rt, alloc, step),
         writes => writing_disks(rt, alloc, flags, writes),
     }
 }
@@ -533,7 +539,8 @@ fn run_case<R: Threads + Wait + Clock + Copy + Send + Sync + Drop>(
     let flags = Flags::new(alloc)?;
     let mut net = replies.net(*rt, alloc, &flags, case)?;
     let disks = disks_of(*rt, alloc, &flags, case.disk)?;
-    let report = run_server(rt, alloc, &words, disks, &mut net, out);
+    let clock = MovingClock::new(NOW, 0);
+    let report = run_server(rt, alloc, &words, disks, &mut net, &clock, out);
     Ok(Left {
         report,
         ports: net.bound(),
@@ -1035,6 +1042,50 @@ static PUT_BESIDE_A_READ: ServerCase = ServerCase {
 #[test]
 fn a_point_is_put_while_a_question_reads_another_class(rt: HostRuntime) -> Result<(), Fail> {
     assert_served(&rt, rt.alloc(), &PUT_BESIDE_A_READ)
+}
+
+// What is read of the file of a point that was drained.
+const READ_BACK: &[u8] =
+    b"GET /render?target=a.b&from=1699999930&until=1700000030 HTTP/1.1\r\nConnection: close\r\n\r\n";
+
+const WRITTEN: LinkCase = LinkCase {
+    brings: READ_BACK,
+    waits: LinkWaits::Never,
+    reply: b"HTTP/1.1 200 OK\r\nContent-Type: application/json\r\nContent-Length: 54\r\nConnection: close\r\n\r\n[{\"target\": \"a.b\", \"datapoints\": [[1.5, 1699999980]]}]",
+};
+
+const DROPPED: LinkCase = LinkCase {
+    brings: READ_BACK,
+    waits: LinkWaits::Never,
+    reply: b"HTTP/1.1 200 OK\r\nContent-Type: application/json\r\nContent-Length: 55\r\nConnection: close\r\n\r\n[{\"target\": \"a.b\", \"datapoints\": [[null, 1699999980]]}]",
+};
+
+// Where the clock moved on by a thousand days whenever it was read, the point is older than all archives when it is drained.
+static DRAINED_LATE: [ServerCase; 2] = [
+    ServerCase {
+        words: "serve",
+        disk: DiskWaits::NeverBehind(0),
+        lines: &[],
+        http: &[WRITTEN],
+        ports: PORTS,
+        text: b"stored 0 replaced 0 full 0 drains 0\n",
+    },
+    ServerCase {
+        words: "serve",
+        disk: DiskWaits::NeverBehind(86_400_000),
+        lines: &[],
+        http: &[DROPPED],
+        ports: PORTS,
+        text: b"stored 0 replaced 0 full 0 drains 0\n",
+    },
+];
+
+#[test]
+fn a_point_is_drained_at_a_moment_of_the_drain(rt: HostRuntime) -> Result<(), Fail> {
+    for case in DRAINED_LATE.iter() {
+        assert_served(&rt, rt.alloc(), case)?;
+    }
+    Ok(())
 }
 
 // What a dashboard browses and then draws, on one link: nodes, paths, all names, a request without a query, the values of a metric in two forms.

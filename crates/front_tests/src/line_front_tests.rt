@@ -473,6 +473,62 @@ fn a_line_without_a_time_has_the_moment_at_which_it_is_read(rt: HostRuntime) -> 
     Ok(())
 }
 
+// So many links of so many lines without a time each, of which at most so many bytes come at once.
+fn bare_links(
+    alloc: Global,
+    links: usize,
+    lines: usize,
+    most: usize,
+) -> Result<Vec<MemLink>, AllocError>
+    requires { 0 < most }
+{
+    let mut all = Vec::new(alloc);
+    for _link in 0..links {
+        let mut text = Vec::new(alloc);
+        for _line in 0..lines {
+            text.extend_from_slice(b"a.b 1 -1\n")?;
+        }
+        all.push(link_of(alloc, MemSource::new(alloc, text).at_most(most)))?;
+    }
+    Ok(all)
+}
+
+// All lines were stored: a point at the moment of another one would have replaced it.
+fn assert_moments<R: Wait + Abort>(
+    rt: &R,
+    alloc: Global,
+    links: Vec<MemLink>,
+    points: u64,
+) -> Result<(), Fail> {
+    let given = Given {
+        step: 1,
+        ..plain(1_000)
+    };
+    let came = run(rt, alloc, &given, links)?;
+    assert!(rt;
+        came.tally.stored == points && came.tally.replaced == 0,
+        "{points}"
+    );
+    Ok(())
+}
+
+#[test]
+fn each_line_without_a_time_has_a_moment_of_its_own(rt: HostRuntime) -> Result<(), Fail> {
+    // one by one, as a batch, as several batches, cut anyhow, and on several links
+    let cases = [
+        (1, 3, 65_536, 3),
+        (1, 40, 65_536, 40),
+        (1, 600, 65_536, 600),
+        (1, 500, 7, 500),
+        (4, 70, 300, 280),
+    ];
+    for (links, lines, most, points) in cases {
+        let links = bare_links(rt.alloc(), links, lines, most)?;
+        assert_moments(&rt, rt.alloc(), links, points)?;
+    }
+    Ok(())
+}
+
 // ---- rules
 
 // The requests of all hosts of an application, by the minute.
